@@ -1,0 +1,4 @@
+pub mod Occupation
+pub mod Flaws
+pub mod Limits
+pub mod Examples
