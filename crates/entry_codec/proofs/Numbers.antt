@@ -1,0 +1,152 @@
+-- Bytes, numbers and names are read where they are spelled.
+use Rattle.std.proofs.Common.{◌≡◌, ℕ, ◌+◌, ◌^◌, ◌<◌, ◌≤◌, Bool, true, false, cond, ltb, ◌&&◌, List, [], ◌∷◌, ◌++◌, length, get_or, take, drop, Ok, Err, refl, sym, ap, subst, arith}
+use Rattle.std.specs.Prelude.{ℤ, FitsSigned, nat_le}
+use Rattle.std.specs.Int.{Width, w32, w64, byte_len, to_be_bytes, from_be_bytes, cast_signed, cast_unsigned}
+use Rattle.std.proofs.Math.Facts.{Fits-lt-pow, Fits-of_z, Fits-of_lt, sfits_to_z}
+use Rattle.std.proofs.lemmas.Bool.{ltb-false, leb-true, le-leb}
+use Rattle.std.proofs.lemmas.Int.{of_z-to_z, to_z-of_z}
+use Rattle.std.proofs.lemmas.List.{take_at, take-append-drop, length-take}
+use Rattle.std.proofs.lemmas.Nat.{be_bytes_4, be_bytes_8, from_be_bytes-to_be_bytes_4, from_be_bytes-to_be_bytes_8}
+use Rattle.byte_fields.specs.Unread.{Unread, end_of, signed_bytes}
+use Rattle.entry_codec.specs.Body.{name_text}
+use Rattle.entry_codec.specs.Reading.{meant, if_so, is_between, bytes_field, byte_field, number_field, signed_field, name_field}
+use Rattle.entry_codec.proofs.Fields.{bytes_give}
+use Rattle.entry_codec.proofs.Readers.{IsBytes, IsBytes-take, IsBytes-drop, Taken, joined, Finds, Reads, then_takes, then_finds, made_takes, under_limits, passing_reads}
+
+guard_ok : {A : Type 0} (b : Bool) (at : ℕ) (p q : A × Unread) → cond b (Err at) (Ok p) ≡ Ok q → (b ≡ false) × (p ≡ q)
+guard_ok true at p q e = absurd cc
+guard_ok false at p q e = (refl, cc)
+
+-- bytes before others are bytes
+front_bytes : (bytes rest : List ℕ) → IsBytes (bytes ++ rest) → IsBytes bytes
+front_bytes bytes rest fits = subst IsBytes (take_at bytes rest (length bytes) refl) (IsBytes-take (length bytes) (bytes ++ rest) fits)
+
+taken_bytes : (old text new : List ℕ) → IsBytes old → Taken old text new → IsBytes text
+taken_bytes old text new fits taken = front_bytes text new (subst IsBytes taken.parts fits)
+
+bytes_take : (count : ℕ) (old new : Unread) (x : List ℕ) → IsBytes old.left → bytes_field count old ≡ Ok (x, new) → Taken old.left x new.left × (length x ≡ count)
+unfolding bytes_field
+bytes_take count old new x fits e =
+    let g = guard_ok (ltb (length old.left) count) (end_of old) (take count old.left, record { at = old.at + count; left = drop count old.left }) (x, new) e in
+    let long : count ≤ length old.left = ltb-false _ _ g.0 in
+    subst (λ (p : List ℕ × Unread). Taken old.left p.0 p.1.left × (length p.0 ≡ count)) g.1
+    (record { parts = sym (take-append-drop count old.left); fits = IsBytes-drop count old.left fits }, omega (arith, length-take count old.left))
+
+pub bytes_read : (count : ℕ) → Reads (bytes_field count) (λ bytes. bytes) (λ bytes. length bytes ≡ count)
+bytes_read count = record {
+  takes = bytes_take count;
+  again = λ old x rest len parts. record { new = record { at = old.at + count; left = rest }; found = bytes_give old (record { at = old.at + count; left = rest }) x count parts len refl; left_is = refl };
+}
+
+one_byte : (bytes : List ℕ) → length bytes ≡ 1 → bytes ≡ get_or bytes 0 0 ∷ []
+one_byte [] len = absurd (omega (arith, len))
+one_byte (b ∷ []) len = refl
+one_byte (b ∷ c ∷ bytes) len = absurd (omega (arith, len))
+
+byte_takes : (old new : Unread) (x : ℕ) → IsBytes old.left → byte_field old ≡ Ok (x, new) → Taken old.left (x ∷ []) new.left × (x < 256)
+unfolding byte_field
+byte_takes old new x fits e =
+    then_takes (bytes_read 1) _ _ old (x, new) fits e (λ bytes mid t len e1.
+    made_takes old mid new (get_or bytes 0 0) x (λ b. b ∷ []) (λ b. b < 256) e1 (subst (λ (w : List ℕ). Taken old.left w mid.left) (one_byte bytes len) t) (taken_bytes old.left bytes mid.left fits t 0))
+
+byte_again : (old : Unread) (x : ℕ) (rest : List ℕ) → x < 256 → old.left ≡ x ∷ rest → Finds (byte_field old) x rest
+unfolding byte_field
+byte_again old x rest lt parts = then_finds (bytes_read 1) _ old (x ∷ []) x rest rest refl parts (λ mid e. record { new = mid; found = refl; left_is = e })
+
+pub byte_reads : Reads byte_field (λ b. b ∷ []) (λ b. b < 256)
+byte_reads = record { takes = byte_takes; again = byte_again }
+
+-- ---- numbers
+
+record IsWide (w : Width) (limit : ℕ) : Type 0 where
+  len : (n : ℕ) → length (to_be_bytes w n) ≡ byte_len w
+  back : (bytes : List ℕ) → length bytes ≡ byte_len w → IsBytes bytes → to_be_bytes w (from_be_bytes w bytes) ≡ bytes
+  again : (n : ℕ) → n < limit → from_be_bytes w (to_be_bytes w n) ≡ n
+  below : (bytes : List ℕ) → IsBytes bytes → from_be_bytes w bytes < limit
+
+wide32 : IsWide w32 (2 ^ 32)
+wide32 = record {
+  len = λ n. refl;
+  back = λ bytes len fits. be_bytes_4 bytes _ len fits refl;
+  again = λ n lt. from_be_bytes-to_be_bytes_4 n lt;
+  below = λ bytes fits. omega (arith, fits 0, fits 1, fits 2, fits 3);
+}
+
+wide64 : IsWide w64 (2 ^ 64)
+wide64 = record {
+  len = λ n. refl;
+  back = λ bytes len fits. be_bytes_8 bytes _ len fits refl;
+  again = λ n lt. from_be_bytes-to_be_bytes_8 n lt;
+  below = λ bytes fits. omega (arith, fits 0, fits 1, fits 2, fits 3, fits 4, fits 5, fits 6, fits 7);
+}
+
+number_takes : (w : Width) (limit : ℕ) → IsWide w limit → (old new : Unread) (x : ℕ) → IsBytes old.left → number_field w old ≡ Ok (x, new) → Taken old.left (to_be_bytes w x) new.left × (x < limit)
+unfolding number_field
+number_takes w limit wide old new x fits e =
+    then_takes (bytes_read (byte_len w)) _ _ old (x, new) fits e (λ bytes mid t len e1.
+    let bytes_fit = taken_bytes old.left bytes mid.left fits t in
+    made_takes old mid new (from_be_bytes w bytes) x (to_be_bytes w) (λ n. n < limit) e1 (subst (λ (front : List ℕ). Taken old.left front mid.left) (sym (wide.back bytes len bytes_fit)) t) (wide.below bytes bytes_fit))
+
+number_again : (w : Width) (limit : ℕ) → IsWide w limit → (old : Unread) (x : ℕ) (rest : List ℕ) → x < limit → old.left ≡ to_be_bytes w x ++ rest → Finds (number_field w old) x rest
+unfolding number_field
+number_again w limit wide old x rest lt parts =
+    then_finds (bytes_read (byte_len w)) _ old (to_be_bytes w x) x rest rest (wide.len x) parts (λ mid e. record { new = mid; found = ap (λ (n : ℕ). Ok (n, mid)) (wide.again x lt); left_is = e })
+
+pub number_reads : Reads (number_field w32) (to_be_bytes w32) (λ n. n < 2 ^ 32)
+number_reads = record { takes = number_takes w32 (2 ^ 32) wide32; again = number_again w32 (2 ^ 32) wide32 }
+
+pub long_number_reads : Reads (number_field w64) (to_be_bytes w64) (λ n. n < 2 ^ 64)
+long_number_reads = record { takes = number_takes w64 (2 ^ 64) wide64; again = number_again w64 (2 ^ 64) wide64 }
+
+signed_takes : (old new : Unread) (x : ℤ) → IsBytes old.left → signed_field old ≡ Ok (x, new) → Taken old.left (signed_bytes x) new.left × FitsSigned w64 x
+unfolding signed_field
+signed_takes old new x fits e =
+    then_takes long_number_reads _ _ old (x, new) fits e (λ n mid t lt e1.
+    made_takes old mid new (cast_signed w64 n) x signed_bytes (λ z. FitsSigned w64 z) e1 (subst (λ (m : ℕ). Taken old.left (to_be_bytes w64 m) mid.left) (sym (of_z-to_z w64 n lt)) t) (sfits_to_z (Fits-of_lt lt)))
+
+signed_again : (old : Unread) (x : ℤ) (rest : List ℕ) → FitsSigned w64 x → old.left ≡ signed_bytes x ++ rest → Finds (signed_field old) x rest
+unfolding signed_field
+signed_again old x rest fits parts =
+    then_finds long_number_reads _ old (cast_unsigned w64 x) x rest rest (Fits-lt-pow (Fits-of_z fits)) parts (λ mid e. record { new = mid; found = ap (λ (z : ℤ). Ok (z, mid)) (to_z-of_z w64 x fits); left_is = e })
+
+pub signed_reads : Reads signed_field signed_bytes (λ z. FitsSigned w64 z)
+signed_reads = record { takes = signed_takes; again = signed_again }
+
+-- ---- names
+
+pub both_true : (a b : Bool) → (a && b) ≡ true → (a ≡ true) × (b ≡ true)
+both_true true true e = (refl, refl)
+both_true true false e = absurd cc
+both_true false b e = absurd cc
+
+pub between : (least most n : ℕ) → is_between least most n ≡ true → (least ≤ n) × (n ≤ most)
+between least most n e = let b = both_true (nat_le least n) (nat_le n most) e in (leb-true least n b.0, leb-true n most b.1)
+
+pub is_between-true : (least most n : ℕ) → (least ≤ n) × (n ≤ most) → is_between least most n ≡ true
+is_between-true least most n h = rw (le-leb least n h.0, le-leb n most h.1) refl
+
+-- a name of one byte to so many that passes the test
+pub record IsNameOf (most : ℕ) (test : List ℕ → Bool) (name : List ℕ) : Type 0 where
+  pub some : 1 ≤ length name
+  pub count : length name ≤ most
+  pub test_is : test name ≡ true
+
+count_reads : (most : ℕ) → most < 256 → Reads (meant (if_so (is_between 1 most)) byte_field) (λ b. b ∷ []) (λ b. (1 ≤ b) × (b ≤ most))
+count_reads most lt = under_limits (passing_reads byte_reads (is_between 1 most)) (λ b. (1 ≤ b) × (b ≤ most)) (λ b l. between 1 most b l.1) (λ b l. (omega (arith, l.1), is_between-true 1 most b l))
+
+name_takes : (most : ℕ) (test : List ℕ → Bool) → most < 256 → (old new : Unread) (x : List ℕ) → IsBytes old.left → name_field most test old ≡ Ok (x, new) → Taken old.left (name_text x) new.left × IsNameOf most test x
+unfolding name_field
+name_takes most test lt old new x fits e =
+    then_takes (count_reads most lt) _ _ old (x, new) fits e (λ count mid t l e1.
+    let second = (passing_reads (bytes_read count) test).takes mid new x t.fits e1 in
+    let counted : Taken old.left (length x ∷ []) mid.left = subst (λ (n : ℕ). Taken old.left (n ∷ []) mid.left) (sym second.1.0) t in
+    (joined counted second.0, record { some = omega (arith, l.0, second.1.0); count = omega (arith, l.1, second.1.0); test_is = second.1.1 }))
+
+name_again : (most : ℕ) (test : List ℕ → Bool) → most < 256 → (old : Unread) (x rest : List ℕ) → IsNameOf most test x → old.left ≡ name_text x ++ rest → Finds (name_field most test old) x rest
+unfolding name_field
+name_again most test lt old x rest limits parts =
+    then_finds (count_reads most lt) _ old (length x) x (x ++ rest) rest (limits.some, limits.count) parts (λ mid e.
+    (passing_reads (bytes_read (length x)) test).again mid x rest (refl, limits.test_is) e)
+
+pub name_reads : (most : ℕ) (test : List ℕ → Bool) → most < 256 → Reads (name_field most test) name_text (IsNameOf most test)
+name_reads most test lt = record { takes = name_takes most test lt; again = name_again most test lt }

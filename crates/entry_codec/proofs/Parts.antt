@@ -1,0 +1,338 @@
+-- Each part of an entry is read where it is spelled.
+use Rattle.std.proofs.Common.{◌≡◌, ℕ, zero, suc, ◌^◌, ◌<◌, ◌≤◌, Bool, true, false, cond, eqb, ◌&&◌, List, [], ◌∷◌, ◌++◌, length, Some, None, Ok, refl, sym, ap, subst, ◌∙◌, append_assoc, arith, ◌⊎◌, inl, inr}
+use Rattle.std.proofs.lemmas.Bool.{eqb-true}
+use Rattle.std.specs.Prelude.{ℤ, FitsSigned, ◌<ℤ◌, int_lt, int_le, neg_ℤ}
+use Rattle.std.specs.Str.{is_utf8}
+use Rattle.std.specs.List.{flat_map, AllByRecursion}
+use Rattle.std.specs.Int.{w32, w64, to_be_bytes}
+use Rattle.std.proofs.lemmas.Int.{ints}
+use Rattle.std.proofs.lemmas.Str.{IsUtf8-from_is_utf8, is_utf8-from_IsUtf8}
+use Rattle.std.proofs.lemmas.List.Concat.{flat_map-cons}
+use Rattle.byte_fields.specs.Unread.{Unread, signed_bytes}
+use Rattle.rail_types.specs.declared.limits.TheConstants.{MAX_TICK, MAX_NUMBER, MAX_TRAIN_LENGTH_M, MAX_SPEED_MM_S, MAX_ACCEL_MM_S2, MAX_ALLOWANCE_PERCENT, MAX_TRAIN_NAME_BYTES, MAX_DWELL}
+use Rattle.rail_types.specs.declared.paths.Claim.{Claim}
+use Rattle.rail_types.specs.declared.paths.Window.{Window}
+use Rattle.rail_types.specs.declared.paths.Run.{Run}
+use Rattle.rail_types.specs.declared.trains.Train.{Train}
+use Rattle.rail_types.specs.declared.trains.Stop.{Stop}
+use Rattle.rail_types.specs.Limits.{IsTick, IsClaimWithinLimits, IsWindowWithinLimits, IsRunWithinLimits, IsTrainWithinLimits}
+use Rattle.entry_codec.specs.Body.{claim_text, window_text, train_text, name_text, stop_text, run_text, flag_byte, list_text}
+use Rattle.entry_codec.specs.Within.{IsFourBytes}
+use Rattle.entry_codec.specs.Reading.{Reading, done, meant, is_between, is_tick, flag_of, byte_field, name_field, limited_field, position_field, tick_field, later_field, flag_field, claim_field, window_field, train_field, stop_field, run_field, items_field, list_field}
+use Rattle.entry_codec.proofs.Readers.{IsBytes, Taken, joined, Finds, Reads, then_takes, then_finds, made_takes, under_limits, meant_reads, passing_reads}
+use Rattle.entry_codec.proofs.Numbers.{byte_reads, number_reads, long_number_reads, signed_reads, name_reads, IsNameOf, between, is_between-true, both_true}
+
+-- ---- numbers within limits
+
+limited_takes : (least most : ℕ) (old new : Unread) (x : ℕ) → IsBytes old.left → limited_field least most old ≡ Ok (x, new) → Taken old.left (to_be_bytes w32 x) new.left × ((x < 2 ^ 32) × (is_between least most x ≡ true))
+unfolding limited_field
+limited_takes least most old new x fits e = (passing_reads number_reads (is_between least most)).takes old new x fits e
+
+limited_again : (least most : ℕ) (old : Unread) (x : ℕ) (rest : List ℕ) → (x < 2 ^ 32) × (is_between least most x ≡ true) → old.left ≡ to_be_bytes w32 x ++ rest → Finds (limited_field least most old) x rest
+unfolding limited_field
+limited_again least most old x rest limits parts = (passing_reads number_reads (is_between least most)).again old x rest limits parts
+
+pub limited_reads : (least most : ℕ) → most < 2 ^ 32 → Reads (limited_field least most) (to_be_bytes w32) (λ n. (least ≤ n) × (n ≤ most))
+limited_reads least most lt =
+    under_limits {Limits = λ n. (n < 2 ^ 32) × (is_between least most n ≡ true)} (record { takes = limited_takes least most; again = limited_again least most }) (λ n. (least ≤ n) × (n ≤ most))
+    (λ n l. between least most n l.1)
+    (λ n l. (omega (arith, l.1), is_between-true least most n l))
+
+position_takes : (old new : Unread) (x : ℕ) → IsBytes old.left → position_field old ≡ Ok (x, new) → Taken old.left (to_be_bytes w64 x) new.left × ((x < 2 ^ 64) × (is_between 0 MAX_NUMBER x ≡ true))
+unfolding position_field
+position_takes old new x fits e = (passing_reads long_number_reads (is_between 0 MAX_NUMBER)).takes old new x fits e
+
+position_again : (old : Unread) (x : ℕ) (rest : List ℕ) → (x < 2 ^ 64) × (is_between 0 MAX_NUMBER x ≡ true) → old.left ≡ to_be_bytes w64 x ++ rest → Finds (position_field old) x rest
+unfolding position_field
+position_again old x rest limits parts = (passing_reads long_number_reads (is_between 0 MAX_NUMBER)).again old x rest limits parts
+
+pub position_reads : Reads position_field (to_be_bytes w64) (λ n. n ≤ MAX_NUMBER)
+position_reads =
+    under_limits {Limits = λ n. (n < 2 ^ 64) × (is_between 0 MAX_NUMBER n ≡ true)} (record { takes = position_takes; again = position_again }) (λ n. n ≤ MAX_NUMBER)
+    (λ n l. (between 0 MAX_NUMBER n l.1).1)
+    (λ n l. (omega (arith, l), is_between-true 0 MAX_NUMBER n (omega arith, l)))
+
+-- ---- ticks
+
+tick_passes : (t : ℤ) → is_tick t ≡ true → IsTick t
+tick_passes t e = let b = both_true (int_le (neg_ℤ MAX_TICK) t) (int_le t MAX_TICK) e in (grind (arith, ints, b.0), grind (arith, ints, b.1))
+
+tick_is : (t : ℤ) → IsTick t → is_tick t ≡ true
+tick_is t h = grind (arith, ints, h.0, h.1)
+
+tick_fits : (t : ℤ) → IsTick t → FitsSigned w64 t
+tick_fits t h = omega (arith, ints, h.0, h.1)
+
+later_passes : (from t : ℤ) → (is_tick t && int_lt from t) ≡ true → IsTick t × (from <ℤ t)
+later_passes from t e = let b = both_true (is_tick t) (int_lt from t) e in (tick_passes t b.0, grind (arith, ints, b.1))
+
+later_is : (from t : ℤ) → IsTick t × (from <ℤ t) → (is_tick t && int_lt from t) ≡ true
+later_is from t h = let low = tick_is t h.0 in let high : int_lt from t ≡ true = grind (arith, ints, h.1) in rw (low, high) refl
+
+tick_takes : (old new : Unread) (x : ℤ) → IsBytes old.left → tick_field old ≡ Ok (x, new) → Taken old.left (signed_bytes x) new.left × (FitsSigned w64 x × (is_tick x ≡ true))
+unfolding tick_field
+tick_takes old new x fits e = (passing_reads signed_reads is_tick).takes old new x fits e
+
+tick_again : (old : Unread) (x : ℤ) (rest : List ℕ) → FitsSigned w64 x × (is_tick x ≡ true) → old.left ≡ signed_bytes x ++ rest → Finds (tick_field old) x rest
+unfolding tick_field
+tick_again old x rest limits parts = (passing_reads signed_reads is_tick).again old x rest limits parts
+
+pub tick_reads : Reads tick_field signed_bytes IsTick
+tick_reads =
+    under_limits {Limits = λ t. FitsSigned w64 t × (is_tick t ≡ true)} (record { takes = tick_takes; again = tick_again }) IsTick
+    (λ t l. tick_passes t l.1)
+    (λ t l. (tick_fits t l, tick_is t l))
+
+later_takes : (from : ℤ) (old new : Unread) (x : ℤ) → IsBytes old.left → later_field from old ≡ Ok (x, new) → Taken old.left (signed_bytes x) new.left × (FitsSigned w64 x × ((is_tick x && int_lt from x) ≡ true))
+unfolding later_field
+later_takes from old new x fits e = (passing_reads signed_reads (λ t. is_tick t && int_lt from t)).takes old new x fits e
+
+later_again : (from : ℤ) (old : Unread) (x : ℤ) (rest : List ℕ) → FitsSigned w64 x × ((is_tick x && int_lt from x) ≡ true) → old.left ≡ signed_bytes x ++ rest → Finds (later_field from old) x rest
+unfolding later_field
+later_again from old x rest limits parts = (passing_reads signed_reads (λ t. is_tick t && int_lt from t)).again old x rest limits parts
+
+pub later_reads : (from : ℤ) → Reads (later_field from) signed_bytes (λ t. IsTick t × (from <ℤ t))
+later_reads from =
+    under_limits {Limits = λ t. FitsSigned w64 t × ((is_tick t && int_lt from t) ≡ true)} (record { takes = later_takes from; again = later_again from }) (λ t. IsTick t × (from <ℤ t))
+    (λ t l. later_passes from t l.1)
+    (λ t l. (tick_fits t l.0, later_is from t l))
+
+-- ---- a flag
+
+pub chosen : {A : Type 0} (test : Bool) (x y z : A) → cond test x y ≡ z → ((test ≡ true) × (x ≡ z)) ⊎ ((test ≡ false) × (y ≡ z))
+chosen true x y z e = inl (refl, e)
+chosen false x y z e = inr (refl, e)
+
+pub same_some : {A : Type 0} (x y : A) → Some x ≡ Some y → x ≡ y
+same_some x y e = cc
+
+pub nothing_is : {A : Type 0} (x : A) → None ≡ Some x → ⊥
+nothing_is x e = absurd cc
+
+flag_meant : (a : ℕ) (b : Bool) → flag_of a ≡ Some b → a ≡ flag_byte b
+flag_meant a b e =
+    elim (chosen (eqb a 0) (Some false) (cond (eqb a 1) (Some true) None) (Some b) e) [
+      | inl zero_is ↦ eqb-true a 0 zero_is.0 ∙ ap flag_byte (same_some false b zero_is.1)
+      | inr other ↦
+          elim (chosen (eqb a 1) (Some true) None (Some b) other.1) [
+            | inl one_is ↦ eqb-true a 1 one_is.0 ∙ ap flag_byte (same_some true b one_is.1)
+            | inr neither ↦ absurd (nothing_is b neither.1)
+          ]
+    ]
+
+flag_spelled : (b : Bool) → (flag_byte b < 256) × (flag_of (flag_byte b) ≡ Some b)
+flag_spelled true = (omega arith, refl)
+flag_spelled false = (omega arith, refl)
+
+flag_meaning_reads : Reads (meant flag_of byte_field) (λ b. flag_byte b ∷ []) (λ b. Unit {0})
+flag_meaning_reads =
+    meant_reads byte_reads flag_of (λ b. flag_byte b ∷ []) (λ b. Unit {0})
+    (λ a b l e. (ap (λ (n : ℕ). n ∷ []) (flag_meant a b e), tt))
+    (λ b l. (flag_byte b, (flag_spelled b).0, refl, (flag_spelled b).1))
+
+flag_takes : (old new : Unread) (x : Bool) → IsBytes old.left → flag_field old ≡ Ok (x, new) → Taken old.left (flag_byte x ∷ []) new.left × Unit {0}
+unfolding flag_field
+flag_takes old new x fits e = flag_meaning_reads.takes old new x fits e
+
+flag_again : (old : Unread) (x : Bool) (rest : List ℕ) → Unit {0} → old.left ≡ (flag_byte x ∷ []) ++ rest → Finds (flag_field old) x rest
+unfolding flag_field
+flag_again old x rest limits parts = flag_meaning_reads.again old x rest limits parts
+
+pub flag_reads : Reads flag_field (λ b. flag_byte b ∷ []) (λ b. Unit {0})
+flag_reads = record { takes = flag_takes; again = flag_again }
+
+-- ---- windows, claims, stops and runs
+
+-- texts one behind the other, and what follows them
+regroup2 : (a b rest : List ℕ) → (a ++ b) ++ rest ≡ a ++ (b ++ rest)
+regroup2 a b rest = append_assoc a b rest
+
+regroup3 : (a b c rest : List ℕ) → ((a ++ b) ++ c) ++ rest ≡ a ++ (b ++ (c ++ rest))
+regroup3 a b c rest = simp append_assoc
+
+regroup4 : (a b c d rest : List ℕ) → (((a ++ b) ++ c) ++ d) ++ rest ≡ a ++ (b ++ (c ++ (d ++ rest)))
+regroup4 a b c d rest = simp append_assoc
+
+regroup6 : (a b c d e f rest : List ℕ) → (((((a ++ b) ++ c) ++ d) ++ e) ++ f) ++ rest ≡ a ++ (b ++ (c ++ (d ++ (e ++ (f ++ rest)))))
+regroup6 a b c d e f rest = simp append_assoc
+
+window_takes : (old new : Unread) (x : Window) → IsBytes old.left → window_field old ≡ Ok (x, new) → Taken old.left (window_text x) new.left × IsWindowWithinLimits x
+unfolding window_field
+window_takes old new x fits e =
+    then_takes tick_reads _ _ old (x, new) fits e (λ from mid1 t1 l1 e1.
+    then_takes tick_reads _ _ mid1 (x, new) t1.fits e1 (λ to mid2 t2 l2 e2.
+    made_takes old mid2 new (record { from = from; to = to }) x window_text IsWindowWithinLimits e2 (joined t1 t2) (record { from = l1; to = l2 })))
+
+window_again : (old : Unread) (x : Window) (rest : List ℕ) → IsWindowWithinLimits x → old.left ≡ window_text x ++ rest → Finds (window_field old) x rest
+unfolding window_field
+window_again old x rest limits parts =
+    then_finds tick_reads _ old x.from x _ rest limits.from (parts ∙ regroup2 (signed_bytes x.from) (signed_bytes x.to) rest) (λ mid1 e1.
+    then_finds tick_reads _ mid1 x.to x rest rest limits.to e1 (λ mid2 e2.
+    record { new = mid2; found = refl; left_is = e2 }))
+
+pub window_reads : Reads window_field window_text IsWindowWithinLimits
+window_reads = record { takes = window_takes; again = window_again }
+
+abbrev pub IsClaim : Claim → Type 0
+IsClaim claim = IsFourBytes claim.zone × IsClaimWithinLimits claim
+
+claim_takes : (old new : Unread) (x : Claim) → IsBytes old.left → claim_field old ≡ Ok (x, new) → Taken old.left (claim_text x) new.left × IsClaim x
+unfolding claim_field
+claim_takes old new x fits e =
+    then_takes number_reads _ _ old (x, new) fits e (λ zone mid1 t1 l1 e1.
+    then_takes tick_reads _ _ mid1 (x, new) t1.fits e1 (λ from mid2 t2 l2 e2.
+    then_takes (later_reads from) _ _ mid2 (x, new) t2.fits e2 (λ to mid3 t3 l3 e3.
+    made_takes old mid3 new (record { zone = zone; span = record { from = from; to = to } }) x claim_text IsClaim e3 (joined (joined t1 t2) t3) (l1, record { from = l2; to = l3.0; ordered = l3.1 }))))
+
+claim_again : (old : Unread) (x : Claim) (rest : List ℕ) → IsClaim x → old.left ≡ claim_text x ++ rest → Finds (claim_field old) x rest
+unfolding claim_field
+claim_again old x rest limits parts =
+    then_finds number_reads _ old x.zone x _ rest limits.0 (parts ∙ regroup3 (to_be_bytes w32 x.zone) (signed_bytes x.span.from) (signed_bytes x.span.to) rest) (λ mid1 e1.
+    then_finds tick_reads _ mid1 x.span.from x _ rest limits.1.from e1 (λ mid2 e2.
+    then_finds (later_reads x.span.from) _ mid2 x.span.to x rest rest (limits.1.to, limits.1.ordered) e2 (λ mid3 e3.
+    record { new = mid3; found = refl; left_is = e3 })))
+
+pub claim_reads : Reads claim_field claim_text IsClaim
+claim_reads = record { takes = claim_takes; again = claim_again }
+
+abbrev pub IsStop : Stop → Type 0
+IsStop stop = IsFourBytes stop.stop × (stop.dwell ≤ MAX_DWELL)
+
+dwell_reads : Reads (limited_field 0 MAX_DWELL) (to_be_bytes w32) (λ n. (0 ≤ n) × (n ≤ MAX_DWELL))
+dwell_reads = limited_reads 0 MAX_DWELL (omega arith)
+
+stop_takes : (old new : Unread) (x : Stop) → IsBytes old.left → stop_field old ≡ Ok (x, new) → Taken old.left (stop_text x) new.left × IsStop x
+unfolding stop_field
+stop_takes old new x fits e =
+    then_takes number_reads _ _ old (x, new) fits e (λ stop mid1 t1 l1 e1.
+    then_takes dwell_reads _ _ mid1 (x, new) t1.fits e1 (λ dwell mid2 t2 l2 e2.
+    made_takes old mid2 new (record { stop = stop; dwell = dwell }) x stop_text IsStop e2 (joined t1 t2) (l1, l2.1)))
+
+stop_again : (old : Unread) (x : Stop) (rest : List ℕ) → IsStop x → old.left ≡ stop_text x ++ rest → Finds (stop_field old) x rest
+unfolding stop_field
+stop_again old x rest limits parts =
+    then_finds number_reads _ old x.stop x _ rest limits.0 (parts ∙ regroup2 (to_be_bytes w32 x.stop) (to_be_bytes w32 x.dwell) rest) (λ mid1 e1.
+    then_finds dwell_reads _ mid1 x.dwell x rest rest (omega arith, limits.1) e1 (λ mid2 e2.
+    record { new = mid2; found = refl; left_is = e2 }))
+
+pub stop_reads : Reads stop_field stop_text IsStop
+stop_reads = record { takes = stop_takes; again = stop_again }
+
+abbrev pub IsRun : Run → Type 0
+IsRun run = IsFourBytes run.block × IsRunWithinLimits run
+
+run_takes : (old new : Unread) (x : Run) → IsBytes old.left → run_field old ≡ Ok (x, new) → Taken old.left (run_text x) new.left × IsRun x
+unfolding run_field
+run_takes old new x fits e =
+    then_takes number_reads _ _ old (x, new) fits e (λ block mid1 t1 l1 e1.
+    then_takes tick_reads _ _ mid1 (x, new) t1.fits e1 (λ enter mid2 t2 l2 e2.
+    then_takes tick_reads _ _ mid2 (x, new) t2.fits e2 (λ leave mid3 t3 l3 e3.
+    then_takes flag_reads _ _ mid3 (x, new) t3.fits e3 (λ stops mid4 t4 l4 e4.
+    made_takes old mid4 new (record { block = block; enter = enter; leave = leave; stops = stops }) x run_text IsRun e4 (joined (joined (joined t1 t2) t3) t4) (l1, record { enter = l2; leave = l3 })))))
+
+run_again : (old : Unread) (x : Run) (rest : List ℕ) → IsRun x → old.left ≡ run_text x ++ rest → Finds (run_field old) x rest
+unfolding run_field
+run_again old x rest limits parts =
+    then_finds number_reads _ old x.block x _ rest limits.0 (parts ∙ regroup4 (to_be_bytes w32 x.block) (signed_bytes x.enter) (signed_bytes x.leave) (flag_byte x.stops ∷ []) rest) (λ mid1 e1.
+    then_finds tick_reads _ mid1 x.enter x _ rest limits.1.enter e1 (λ mid2 e2.
+    then_finds tick_reads _ mid2 x.leave x _ rest limits.1.leave e2 (λ mid3 e3.
+    then_finds flag_reads _ mid3 x.stops x rest rest tt e3 (λ mid4 e4.
+    record { new = mid4; found = refl; left_is = e4 }))))
+
+pub run_reads : Reads run_field run_text IsRun
+run_reads = record { takes = run_takes; again = run_again }
+
+-- ---- trains
+
+train_name_reads : Reads (name_field MAX_TRAIN_NAME_BYTES is_utf8) name_text (IsNameOf MAX_TRAIN_NAME_BYTES is_utf8)
+train_name_reads = name_reads MAX_TRAIN_NAME_BYTES is_utf8 (omega arith)
+
+from_one : (most : ℕ) → most < 2 ^ 32 → Reads (limited_field 1 most) (to_be_bytes w32) (λ n. (1 ≤ n) × (n ≤ most))
+from_one most lt = limited_reads 1 most lt
+
+allowance_reads : Reads (limited_field 0 MAX_ALLOWANCE_PERCENT) (to_be_bytes w32) (λ n. (0 ≤ n) × (n ≤ MAX_ALLOWANCE_PERCENT))
+allowance_reads = limited_reads 0 MAX_ALLOWANCE_PERCENT (omega arith)
+
+train_takes : (old new : Unread) (x : Train) → IsBytes old.left → train_field old ≡ Ok (x, new) → Taken old.left (train_text x) new.left × IsTrainWithinLimits x
+unfolding train_field
+train_takes old new x fits e =
+    then_takes train_name_reads _ _ old (x, new) fits e (λ name mid1 t1 l1 e1.
+    then_takes (from_one MAX_TRAIN_LENGTH_M (omega arith)) _ _ mid1 (x, new) t1.fits e1 (λ length_m mid2 t2 l2 e2.
+    then_takes (from_one MAX_SPEED_MM_S (omega arith)) _ _ mid2 (x, new) t2.fits e2 (λ speed mid3 t3 l3 e3.
+    then_takes (from_one MAX_ACCEL_MM_S2 (omega arith)) _ _ mid3 (x, new) t3.fits e3 (λ accel mid4 t4 l4 e4.
+    then_takes (from_one MAX_ACCEL_MM_S2 (omega arith)) _ _ mid4 (x, new) t4.fits e4 (λ brake mid5 t5 l5 e5.
+    then_takes allowance_reads _ _ mid5 (x, new) t5.fits e5 (λ allowance mid6 t6 l6 e6.
+    made_takes old mid6 new (record { name = name; length_m = length_m; speed = speed; accel = accel; brake = brake; allowance = allowance }) x train_text IsTrainWithinLimits e6 (joined (joined (joined (joined (joined t1 t2) t3) t4) t5) t6)
+    (record { named = (l1.some, l1.count, IsUtf8-from_is_utf8 name l1.test_is); length_m = l2; speed = l3; accel = l4; brake = l5; allowance = l6.1 })))))))
+
+train_again : (old : Unread) (x : Train) (rest : List ℕ) → IsTrainWithinLimits x → old.left ≡ train_text x ++ rest → Finds (train_field old) x rest
+unfolding train_field
+train_again old x rest limits parts =
+    then_finds train_name_reads _ old x.name x _ rest (record { some = limits.named.0; count = limits.named.1; test_is = is_utf8-from_IsUtf8 x.name limits.named.2 })
+    (parts ∙ regroup6 (name_text x.name) (to_be_bytes w32 x.length_m) (to_be_bytes w32 x.speed) (to_be_bytes w32 x.accel) (to_be_bytes w32 x.brake) (to_be_bytes w32 x.allowance) rest) (λ mid1 e1.
+    then_finds (from_one MAX_TRAIN_LENGTH_M (omega arith)) _ mid1 x.length_m x _ rest limits.length_m e1 (λ mid2 e2.
+    then_finds (from_one MAX_SPEED_MM_S (omega arith)) _ mid2 x.speed x _ rest limits.speed e2 (λ mid3 e3.
+    then_finds (from_one MAX_ACCEL_MM_S2 (omega arith)) _ mid3 x.accel x _ rest limits.accel e3 (λ mid4 e4.
+    then_finds (from_one MAX_ACCEL_MM_S2 (omega arith)) _ mid4 x.brake x _ rest limits.brake e4 (λ mid5 e5.
+    then_finds allowance_reads _ mid5 x.allowance x rest rest (omega arith, limits.allowance) e5 (λ mid6 e6.
+    record { new = mid6; found = refl; left_is = e6 }))))))
+
+pub train_reads : Reads train_field train_text IsTrainWithinLimits
+train_reads = record { takes = train_takes; again = train_again }
+
+-- ---- lists
+
+-- so many elements, each within its limits
+abbrev pub AreItems : {A : Type 0} → (A → Type 0) → ℕ → List A → Type 0
+AreItems Limits count items = (length items ≡ count) × AllByRecursion Limits items
+
+none_again : {A : Type 0} (text : A → List ℕ) (Limits : A → Type 0) (old : Unread) (x : List A) (rest : List ℕ) → AreItems Limits 0 x → old.left ≡ flat_map text x ++ rest → Finds (done [] old) x rest
+none_again text Limits old [] rest limits parts = record { new = old; found = refl; left_is = parts }
+none_again text Limits old (y ∷ ys) rest limits parts = absurd (omega (arith, limits.0))
+
+more_again : {A : Type 0} (item : Reading A) (text : A → List ℕ) (Limits : A → Type 0) → Reads item text Limits → (count : ℕ) → Reads (items_field item count) (flat_map text) (AreItems Limits count)
+    → (old : Unread) (x : List A) (rest : List ℕ) → AreItems Limits (suc count) x → old.left ≡ flat_map text x ++ rest → Finds (items_field item (suc count) old) x rest
+unfolding items_field
+more_again item text Limits reads count others old [] rest limits parts = absurd (omega (arith, limits.0))
+more_again item text Limits reads count others old (y ∷ ys) rest limits parts =
+    then_finds reads _ old y (y ∷ ys) (flat_map text ys ++ rest) rest limits.1.0 (parts ∙ ap (λ (w : List ℕ). w ++ rest) (flat_map-cons text y ys) ∙ append_assoc (text y) (flat_map text ys) rest) (λ mid1 e1.
+    then_finds others _ mid1 ys (y ∷ ys) rest rest (omega (arith, limits.0), limits.1.1) e1 (λ mid2 e2.
+    record { new = mid2; found = refl; left_is = e2 }))
+
+pub items_read : {A : Type 0} (item : Reading A) (text : A → List ℕ) (Limits : A → Type 0) → Reads item text Limits → (count : ℕ) → Reads (items_field item count) (flat_map text) (AreItems Limits count)
+unfolding items_field
+items_read item text Limits reads zero = record {
+  takes = λ old new x fits e. made_takes old old new [] x (flat_map text) (AreItems Limits 0) e (record { parts = refl; fits = fits }) (refl, tt);
+  again = λ old x rest limits parts. none_again text Limits old x rest limits parts;
+}
+items_read {A} item text Limits reads (suc count) = record {
+  takes = λ old new x fits e.
+      then_takes reads _ _ old (x, new) fits e (λ first mid1 t1 l1 e1.
+      then_takes (items_read item text Limits reads count) _ _ mid1 (x, new) t1.fits e1 (λ others mid2 t2 l2 e2.
+      made_takes old mid2 new (first ∷ others) x (flat_map text) (AreItems Limits (suc count)) e2 (subst (λ (w : List ℕ). Taken old.left w mid2.left) (sym (flat_map-cons text first others)) (joined t1 t2)) (ap suc l2.0, (l1, l2.1))));
+  again = λ old x rest limits parts. more_again item text Limits reads count (items_read item text Limits reads count) old x rest limits parts;
+}
+
+-- a list of so many elements at least and at most
+pub record IsListOf {A : Type 0} (least most : ℕ) (Limits : A → Type 0) (items : List A) : Type 0 where
+  pub some : least ≤ length items
+  pub count : length items ≤ most
+  pub each : AllByRecursion Limits items
+
+list_takes : {A : Type 0} (least most : ℕ) → most < 2 ^ 32 → (item : Reading A) (text : A → List ℕ) (Limits : A → Type 0) → Reads item text Limits → (old new : Unread) (x : List A) → IsBytes old.left → list_field least most item old ≡ Ok (x, new)
+    → Taken old.left (list_text text x) new.left × IsListOf least most Limits x
+unfolding list_field
+list_takes least most lt item text Limits reads old new x fits e =
+    then_takes (limited_reads least most lt) _ _ old (x, new) fits e (λ count mid t l e1.
+    let second = (items_read item text Limits reads count).takes mid new x t.fits e1 in
+    (subst (λ (n : ℕ). Taken old.left (to_be_bytes w32 n ++ flat_map text x) new.left) (sym second.1.0) (joined t second.0), record { some = omega (arith, l.0, second.1.0); count = omega (arith, l.1, second.1.0); each = second.1.1 }))
+
+list_again : {A : Type 0} (least most : ℕ) → most < 2 ^ 32 → (item : Reading A) (text : A → List ℕ) (Limits : A → Type 0) → Reads item text Limits → (old : Unread) (x : List A) (rest : List ℕ) → IsListOf least most Limits x
+    → old.left ≡ list_text text x ++ rest → Finds (list_field least most item old) x rest
+unfolding list_field
+list_again least most lt item text Limits reads old x rest limits parts =
+    then_finds (limited_reads least most lt) _ old (length x) x (flat_map text x ++ rest) rest (limits.some, limits.count) (parts ∙ regroup2 (to_be_bytes w32 (length x)) (flat_map text x) rest) (λ mid e.
+    (items_read item text Limits reads (length x)).again mid x rest (refl, limits.each) e)
+
+pub list_reads : {A : Type 0} (least most : ℕ) → most < 2 ^ 32 → (item : Reading A) (text : A → List ℕ) (Limits : A → Type 0) → Reads item text Limits → Reads (list_field least most item) (list_text text) (IsListOf least most Limits)
+list_reads least most lt item text Limits reads = record { takes = list_takes least most lt item text Limits reads; again = list_again least most lt item text Limits reads }

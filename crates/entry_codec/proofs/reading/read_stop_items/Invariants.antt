@@ -1,0 +1,7 @@
+use Rattle.std.proofs.Common.{◌≡◌, ◌-◌}
+use Rattle.entry_codec.specs.Reading.{items_field, stop_field}
+use Rattle.entry_codec.proofs.Items.{with_front}
+use Rattle.entry_codec.proofs.reading.read_stop_items.Given as goal
+
+abbrev pub invariant-loop : goal.invariant-loop
+invariant-loop l = with_front l.stops.items (items_field stop_field (l.count - l.counter) l.fields) ≡ items_field stop_field l.count l.fn.fields

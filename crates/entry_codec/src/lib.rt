@@ -1,0 +1,14 @@
+//! Entries of the history as bytes, and back: each entry has one body, and no body has two entries.
+#![tactic(auto)]
+
+mod faults;
+mod kinds;
+mod reading;
+mod writing;
+
+pub use faults::EntryFault;
+pub use reading::{one_entry, read};
+pub use writing::{body_len, write};
+
+#[cfg(test)]
+mod tests;
