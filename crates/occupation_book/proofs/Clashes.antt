@@ -1,0 +1,83 @@
+-- What the claims of a zone, in order, say about the first that ends after a new claim begins.
+use Rattle.std.proofs.Common.{◌≡◌, ℕ, ◌<◌, ◌≤◌, ◌<ℤ◌, ◌≤ℤ◌, ℤ, int_le, true, false, List, length, get_or, sym, subst, inl, inr, arith}
+use borrow.Author.Differences.{le-true, le-false}
+use Rattle.std.specs.List.{AllWithin}
+use Rattle.std.specs.List.Sorted.{IsPartitionedBy}
+use Rattle.std.proofs.lemmas.Bool.{cases_order, cases_Bool}
+use Rattle.std.proofs.lemmas.Int.{by_lt_z, ints}
+use Rattle.rail_types.specs.declared.paths.Claim.{Claim}
+use Rattle.rail_types.specs.Occupation.{Clash}
+use Rattle.occupation_book.specs.Zones.{HeldClaim}
+use Rattle.occupation_book.specs.Held.{AreInOrder, IsFree, IsFirstClash}
+
+-- a test of two ticks, as a fact
+pub ended : (a b : ℤ) → int_le a b ≡ true → a ≤ℤ b
+ended a b test = let fact = le-true a b test in omega (arith, ints)
+
+pub not_ended : (a b : ℤ) → int_le a b ≡ false → b <ℤ a
+not_ended a b test = let fact = le-false a b test in omega (arith, ints)
+
+le_true_below : (a b c : ℤ) → a ≤ℤ b → int_le b c ≡ true → int_le a c ≡ true
+le_true_below a b c le test = elim (cases_Bool (int_le a c)) [
+  | inl passes ↦ passes
+  | inr fails ↦ let above = not_ended a c fails in let below = ended b c test in absurd (omega (arith, ints))
+]
+
+-- claims in order are parted by whether they have ended at a tick
+pub ends_by_tick : (number : ℕ) (claims : List HeldClaim) (tick : ℤ) → AreInOrder number claims → IsPartitionedBy (λ one. int_le one.0.span.to tick) claims
+ends_by_tick number claims tick order i j other le within test = elim (cases_order i j) [
+  | inl same ↦ subst (λ q. int_le (get_or claims q other).0.span.to tick ≡ true) (sym same) test
+  | inr apart ↦ elim apart [
+    | inl before ↦ le_true_below _ _ tick (let ends = order.sorted i j other before within in let lasts = order.ticks j other within in omega (arith, ints)) test
+    | inr behind ↦ absurd (omega arith)
+  ]
+]
+
+module _ (claims : List HeldClaim) (claim : Claim) (at : ℕ) (order : AreInOrder claim.zone claims) (before : AllWithin (λ one. one.0.span.to ≤ℤ claim.span.from) claims 0 at) (after : AllWithin (λ one. claim.span.from <ℤ one.0.span.to) claims at (length claims)) where
+  -- a claim behind the place begins when the one at the place has ended
+  begins_later : (k : ℕ) (other : HeldClaim) → at < k → k < length claims → (get_or claims at other).0.span.from <ℤ (get_or claims k other).0.span.from
+  begins_later k other behind within =
+      let ends = order.sorted at k other behind within in
+      let lasts = order.ticks at other (omega arith) in
+      omega (arith, ints)
+
+  -- a claim before the place does not clash
+  ends_before : (k : ℕ) (other : HeldClaim) → k < at → ¬ Clash (get_or claims k other).0 claim
+  ends_before k other ahead clash =
+      let ends = before k other (omega arith) ahead in
+      let overlaps = clash.1.1 in
+      omega (arith, ints)
+
+  pub free_past_the_end : length claims ≤ at → IsFree claims claim
+  free_past_the_end end k other within = ends_before k other (omega arith)
+
+  -- the claim at the place, if it doesn't clash, begins when the new one has ended
+  next_is_late : (other : HeldClaim) → at < length claims → ¬ Clash (get_or claims at other).0 claim → claim.span.to ≤ℤ (get_or claims at other).0.span.from
+  next_is_late other within apart = by_lt_z (get_or claims at other).0.span.from claim.span.to (λ early. absurd (apart (order.on_zone at other within, (early, after at other (omega arith) within)))) (λ late. late)
+
+  -- so do those behind it
+  pub free_before_the_next : at < length claims → ((other : HeldClaim) → ¬ Clash (get_or claims at other).0 claim) → IsFree claims claim
+  free_before_the_next within apart k other in_range clash = elim (cases_order k at) [
+    | inl same ↦ apart other (subst (λ q. Clash (get_or claims q other).0 claim) same clash)
+    | inr differs ↦ elim differs [
+      | inl ahead ↦ ends_before k other ahead clash
+      | inr behind ↦
+          let later = begins_later k other behind in_range in
+          let begins = next_is_late other within (apart other) in
+          let begun = clash.1.0 in
+          omega (arith, ints)
+    ]
+  ]
+
+  pub first_clash_here : (found : HeldClaim) → at < length claims → ((other : HeldClaim) → get_or claims at other ≡ found) → Clash found.0 claim → IsFirstClash claims claim found
+  first_clash_here found within here clashes = record {
+    is_held = (at, within, here found);
+    clashes = clashes;
+    others_later = λ k other in_range clash. elim (cases_order k at) [
+      | inl same ↦ inl (subst (λ q. get_or claims q other ≡ found) (sym same) (here other))
+      | inr differs ↦ elim differs [
+        | inl ahead ↦ absurd (ends_before k other ahead clash)
+        | inr behind ↦ inr (subst (λ one. one.0.span.from <ℤ (get_or claims k other).0.span.from) (here other) (begins_later k other behind in_range))
+      ]
+    ];
+  }

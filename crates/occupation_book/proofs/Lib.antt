@@ -1,0 +1,5 @@
+mod Pairs
+mod Clashes
+mod Orders
+mod AllZones
+mod Removals

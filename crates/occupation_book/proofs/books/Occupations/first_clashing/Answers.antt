@@ -1,0 +1,27 @@
+use Rattle.std.proofs.Common.{◌<◌, length, sym, subst}
+use Rattle.occupation_book.specs.Held.{IsFree, held}
+use Rattle.occupation_book.proofs.AllZones.{claims_at, free_by_zone, free_of_zone, first_of_all}
+use Rattle.occupation_book.proofs.books.Occupations.first_clashing.Goals as goal
+
+pub first_clashing_of-requires : goal.first_clashing_of-requires
+first_clashing_of-requires c =
+    let within : c.args.claim.now.zone < length c.self.inside.zones.items = rw c.self.view_is c.requires in
+    let read = claims_at c.self.inside.zones.items c.args.claim.now.zone _ _ within c.index-claims.ensures c.as_slice.ensures in
+    record { order = rw read (c.self.invariant.in_order c.args.claim.now.zone within) }
+
+pub returns-clause-found : goal.returns-clause-found
+returns-clause-found c =
+    let within : c.args.claim.now.zone < length c.self.inside.zones.items = rw c.self.view_is c.requires in
+    let read = claims_at c.self.inside.zones.items c.args.claim.now.zone _ _ within c.index-claims.ensures c.as_slice.ensures in
+    let found = rw read at c.first_clashing_of.ensures.found in
+    rw (← c.self.view_is) (first_of_all c.self.inside.zones.items c.self.invariant c.args.claim.now within _ found)
+
+pub returns-clause-free : goal.returns-clause-free
+returns-clause-free c =
+    let all = c.self.inside.zones.items in
+    let within : c.args.claim.now.zone < length all = rw c.self.view_is c.requires in
+    let read = claims_at all c.args.claim.now.zone _ _ within c.index-claims.ensures c.as_slice.ensures in
+    let free = rw read at c.first_clashing_of.ensures.free in (
+      λ none. subst (λ book. IsFree (held book) c.args.claim.now) c.self.view_is (free_by_zone all c.self.invariant c.args.claim.now within (free.0 none)),
+      λ apart. free.1 (free_of_zone all c.self.invariant c.args.claim.now within (subst (λ book. IsFree (held book) c.args.claim.now) (sym c.self.view_is) apart)),
+    )

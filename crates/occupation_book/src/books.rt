@@ -1,0 +1,166 @@
+//! The claims of all zones.
+
+ghost use Rattle.std.specs.Prelude.{◌≡◌, ◌≢◌, ℕ, ◌+◌, ◌-◌, ◌<◌, ◌≤◌, ◌∷◌, ◌^◌, ◌↔◌, [], length, map, min, IfOk, IfSome, IsNone, IsOk, IsTrue, OnOk};
+ghost use Rattle.std.specs.List.Sorted.{IsPermutation};
+ghost use Rattle.std.specs.List.{AllPairs};
+ghost use Rattle.rail_types.specs.declared.paths.Claim.{Claim as claim_type};
+ghost use Rattle.rail_types.specs.Occupation.{HasTicks};
+ghost use Rattle.occupation_book.specs.Held.{AreApart, AreInOrder, ComesBefore, IsBook, IsFirstClash, IsFree, claims_by_zone, claims_of, claims_of_others, held, zone_at};
+
+use crate::zones::{ZoneClaims, first_clashing_of};
+use no_memory::NoMemory;
+use rail_types::{Claim, Owner};
+use std::alloc::Global;
+use std::marker::Model;
+
+/// Claims with their owners, no two of which clash, and for each zone the room for more. Contracts see a list of
+/// zones; those of a zone are sorted by begin.
+#[derive(Debug, Drop)]
+pub struct Occupations {
+    zones: Vec<ZoneClaims>,
+}
+
+impl Model for Occupations {
+    ghost use Rattle.std.specs.Prelude.{List};
+    ghost use Rattle.occupation_book.specs.Zones.{Zone};
+    ghost use Rattle.occupation_book.specs.Held.{IsBook};
+
+    ghost Value = { List Zone };
+
+    ghost view = { λ a. a.zones.items };
+
+    ghost invariant = { λ a. IsBook a.zones.items };
+}
+
+impl Occupations {
+    /// So many zones, on none of which a claim stands.
+    pub fn new(alloc: Global, zones: u32) -> Result<Occupations, NoMemory>
+        ensures zones { IfOk result (λ book. length book ≡ zones) }
+        ensures empty { IfOk result (λ book. held book ≡ []) }
+    {
+        let mut all = Vec::new(alloc);
+        for _ in 0..zones {
+            all.push(ZoneClaims::new(alloc))?;
+        }
+        Ok(Occupations { zones: all })
+    }
+
+    /// How many zones there are; they are numbered from 0.
+    pub fn zones(&self) -> u32
+        ensures count { result ≡ length self.now }
+        ensures book { IsBook self.now }
+        ensures apart { AreApart (held self.now) }
+    {
+        self.zones.len() as u32
+    }
+
+    /// Whether no held claim clashes with this one. One that ends where the other begins does not clash.
+    pub fn free(&self, claim: &Claim) -> bool
+        requires { claim.now.zone < length self.now }
+        ensures { IsTrue result ↔ IsFree (held self.now) claim.now }
+    {
+        self.first_clashing(claim).is_none()
+    }
+
+    /// Who holds the claim that clashes with this one and begins first.
+    pub fn first_clash(&self, claim: &Claim) -> Option<Owner>
+        requires { claim.now.zone < length self.now }
+        ensures found { IfSome result (λ owner. (first : claim_type) × IsFirstClash (held self.now) claim.now (first, owner)) }
+        ensures free { IsNone result ↔ IsFree (held self.now) claim.now }
+    {
+        self.first_clashing(claim).map(|(_, owner)| owner)
+    }
+
+    /// The held claim that clashes with this one and begins first, with its owner.
+    pub fn first_clashing(&self, claim: &Claim) -> Option<(Claim, Owner)>
+        requires { claim.now.zone < length self.now }
+        ensures found { IfSome result (IsFirstClash (held self.now) claim.now) }
+        ensures free { IsNone result ↔ IsFree (held self.now) claim.now }
+    {
+        let claims = &self.zones[claim.zone as usize];
+        first_clashing_of(claims.as_slice(), claim)
+    }
+
+    /// The claims on a zone with their owners, sorted by begin.
+    pub fn of_zone(&self, zone: u32) -> &[(Claim, Owner)]
+        requires { zone < length self.now }
+        ensures claims { result.now ≡ (zone_at self.now zone).claims }
+        ensures order { AreInOrder zone result.now }
+    {
+        let claims = &self.zones[zone as usize];
+        claims.as_slice()
+    }
+
+    /// Makes room for `n` more claims on a zone. The claims stay, also where memory is wanting.
+    pub fn reserve(&mut self, zone: u32, n: u32) -> Result<(), NoMemory>
+        requires { zone < length self.old }
+        ensures claims { claims_by_zone self.new ≡ claims_by_zone self.old }
+        ensures held { held self.new ≡ held self.old }
+        ensures zones { length self.new ≡ length self.old }
+        ensures room { OnOk result (n ≤ (zone_at self.new zone).spare) }
+        ensures kept { (zone_at self.old zone).spare ≤ (zone_at self.new zone).spare }
+        ensures had { n ≤ (zone_at self.old zone).spare → IsOk result }
+        ensures others { (number : ℕ) → number ≢ zone → zone_at self.new number ≡ zone_at self.old number }
+    {
+        let claims = &mut self.zones[zone as usize];
+        claims.reserve(n as usize)
+    }
+
+    /// Holds one claim more. It takes no memory.
+    pub fn insert(&mut self, claim: Claim, owner: Owner)
+        requires zone { claim.zone < length self.old }
+        requires ticks { HasTicks claim.span }
+        requires free { IsFree (held self.old) claim }
+        requires room { 0 < (zone_at self.old claim.zone).spare }
+        ensures gained { IsPermutation ((claim, owner) ∷ held self.old) (held self.new) }
+        ensures zones { length self.new ≡ length self.old }
+        ensures room { (zone_at self.new claim.zone).spare + 1 ≡ (zone_at self.old claim.zone).spare }
+        ensures others { (number : ℕ) → number ≢ claim.zone → zone_at self.new number ≡ zone_at self.old number }
+    {
+        let claims = &mut self.zones[claim.zone as usize];
+        claims.insert(claim, owner);
+    }
+
+    /// Takes out all claims of an owner and counts them, up to the greatest number of its kind. It takes no memory.
+    pub fn remove(&mut self, owner: Owner) -> u32
+        ensures claims { claims_by_zone self.new ≡ map (claims_of_others owner) (claims_by_zone self.old) }
+        ensures held { held self.new ≡ claims_of_others owner (held self.old) }
+        ensures count { result ≡ min (length (claims_of owner (held self.old))) u32.MAX }
+        ensures zones { length self.new ≡ length self.old }
+        ensures kept { (number : ℕ) → (zone_at self.old number).spare ≤ (zone_at self.new number).spare }
+    {
+        // All zones are looked at, since nothing is freed yet. An index from an owner to the zones of its claims
+        // takes the place of this loop before entries are freed.
+        let mut count = 0u32;
+        for number in 0..self.zones.len() {
+            let zone = &mut self.zones[number];
+            count = count.saturating_add(zone.remove(owner));
+        }
+        count
+    }
+
+    /// All held claims with their owners, by zone, then by begin.
+    pub fn claims(&self, alloc: Global) -> Result<Vec<(Claim, Owner)>, NoMemory>
+        ensures claims { IfOk result (λ all. all.items ≡ held self.now) }
+        ensures sorted { IfOk result (λ all. AllPairs ComesBefore all.items) }
+    {
+        let mut all = Vec::new(alloc);
+        for zone in &self.zones {
+            all.extend_from_slice(zone.as_slice())?;
+        }
+        Ok(all)
+    }
+
+    /// The same claims, held by an own book.
+    pub fn copy(&self, alloc: Global) -> Result<Occupations, NoMemory>
+        ensures claims { IfOk result (λ other. claims_by_zone other ≡ claims_by_zone self.now) }
+        ensures held { IfOk result (λ other. held other ≡ held self.now) }
+        ensures zones { IfOk result (λ other. length other ≡ length self.now) }
+    {
+        let mut all = Vec::new(alloc);
+        for zone in &self.zones {
+            all.push(zone.copy(alloc)?)?;
+        }
+        Ok(Occupations { zones: all })
+    }
+}
