@@ -1,0 +1,12 @@
+mod ClaimTests
+mod Firsts
+mod Positions
+mod Lives
+mod Clashings
+mod Fresh
+mod Slices
+mod Legals
+mod Clashless
+mod Indexed
+mod Judged
+mod Following

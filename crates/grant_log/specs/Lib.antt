@@ -1,0 +1,5 @@
+pub mod Live
+pub mod Verdict
+pub mod Legal
+pub mod Index
+pub mod Firsts
