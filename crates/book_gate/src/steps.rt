@@ -1,0 +1,78 @@
+//! The five kinds of step that a turn is made of.
+ghost use Rattle.std.specs.Prelude.{◌≡◌, ◌≢◌, ◌≤◌, [], ◌∷◌, true, None};
+
+use crate::gates::{Gate, Pass};
+use crate::held::Held;
+use crate::plays::{Advance, Look, Take};
+use crate::stands::Stands;
+
+// The two words of the table: how many tickets were taken, and which of them is served.
+const TICKET: usize = 0;
+
+pub(crate) const SERVING: usize = 1;
+
+impl<S: Stands> Gate<S> {
+    ghost use Rattle.book_gate.specs.Passes.{view, opened, turns_left, IsOf, IsIdle, IsInTurn, IsWaiting, IsCalledWith, HasBook};
+    ghost use Rattle.book_gate.specs.Steps.{with_ticket, served};
+    ghost use Rattle.book_gate.specs.Views.{StartsWith, standing};
+
+    pub(crate) fn take_ticket(&self, pass: &mut Pass<S>) -> u64
+        requires own { IsOf S.footing self.now pass.old }
+        requires idle { IsIdle pass.old }
+        requires budget { 1 ≤ turns_left pass.old }
+        ensures own { IsOf S.footing self.now pass.new }
+        ensures waits { IsWaiting pass.new }
+        ensures ticket { view pass.new ≡ with_ticket (view pass.old) result }
+    {
+        let shared = &self.table.shared;
+        shared.fetch_add::<Take>(&mut pass.seat, TICKET, 1)
+    }
+
+    // Where the ticket is served, the pass then holds the slot with the book.
+    pub(crate) fn look(&self, pass: &mut Pass<S>) -> u64
+        requires own { IsOf S.footing self.now pass.old }
+        requires waits { IsWaiting pass.old }
+        ensures own { IsOf S.footing self.now pass.new }
+        ensures called { result ≡ (view pass.old).ticket → IsCalledWith (standing S.list S.settled S.count) S.footing pass.old pass.new }
+        ensures not_yet { result ≢ (view pass.old).ticket → pass.new.seat.me ≡ pass.old.seat.me }
+    {
+        self.table.shared.load::<Look<S>>(&mut pass.seat, SERVING)
+    }
+
+    pub(crate) fn take_out(&self, pass: &mut Pass<S>) -> Held<S>
+        requires own { IsOf S.footing self.now pass.old }
+        requires called { (b : S) × HasBook b pass.old }
+        ensures own { IsOf S.footing self.now pass.new }
+        ensures view { view pass.new ≡ view pass.old }
+        ensures book { HasBook result pass.old }
+        ensures empty { pass.new.seat.me.1 ≡ (0, None) ∷ [] }
+    {
+        let before = self.table.shared.exchange(&mut pass.seat, 0, None);
+        let Some(book) = before else { unreachable!() };
+        Held { book }
+    }
+
+    pub(crate) fn put_back(&self, pass: &mut Pass<S>, book: S)
+        requires own { IsOf S.footing self.now pass.old }
+        requires turn { IsInTurn pass.old }
+        ensures own { IsOf S.footing self.now pass.new }
+        ensures view { view pass.new ≡ view pass.old }
+        ensures book { HasBook book pass.new }
+    {
+        let before = self.table.shared.exchange(&mut pass.seat, 0, Some(book));
+        let None = before else { unreachable!() };
+    }
+
+    // The slot goes home, with a book that goes on from the one that was found.
+    pub(crate) fn advance(&self, pass: &mut Pass<S>)
+        requires own { IsOf S.footing self.now pass.old }
+        requires turn { ((view pass.old).has_ticket ≡ true) × ((view pass.old).has_book ≡ true) }
+        requires back { (b : S) × HasBook b pass.old × (S.footing b ≡ S.footing (opened self.now)) × StartsWith (S.list b) (view pass.old).found.list × ((view pass.old).found.count ≤ S.count b) }
+        ensures own { IsOf S.footing self.now pass.new }
+        ensures idle { IsIdle pass.new }
+        ensures served { (b : S) → HasBook b pass.old → view pass.new ≡ served (view pass.old) (standing S.list S.settled S.count b) }
+    {
+        let shared = &self.table.shared;
+        shared.fetch_add::<Advance<S>>(&mut pass.seat, SERVING, 1);
+    }
+}
