@@ -1,0 +1,14 @@
+pub mod Words
+pub mod Lines
+pub mod Numbers
+pub mod HoldLine
+pub mod HoldText
+pub mod Replies
+pub mod Streams
+pub mod Session
+pub mod SevenLines
+pub mod Desks
+pub mod Serving
+pub mod Ends
+pub mod Run
+pub mod Status

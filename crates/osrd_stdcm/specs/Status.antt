@@ -1,0 +1,47 @@
+-- The statuses of a command.
+use Rattle.std.specs.Prelude.{ℕ, ◌⊎◌}
+use Rattle.outside_io.specs.Openings.{Opening, Standing as standing_type}
+use Rattle.osrd_stdcm.specs.declared.runs.Status.{Status}
+use Rattle.osrd_stdcm.specs.declared.runs.Status.TheVariants.{Done, Words, Opening as not_opened, ClientEnd, Memory}
+use Rattle.osrd_stdcm.specs.declared.sessions.Why.{Why}
+use Rattle.osrd_stdcm.specs.declared.sessions.Why.TheVariants.{Input, ReadFault, WriteFault, LongLine, LineCount, Memory as memory_end}
+use Rattle.osrd_stdcm.specs.declared.words.Serve.{Serve}
+use Rattle.osrd_stdcm.specs.Run.{CannotOpen, CanOpen, ChangesOnly, IsFaulty, Served, Unchanged, Under}
+use Rattle.osrd_stdcm.specs.Ends.{Streams}
+
+-- the number with which a program exits
+abbrev pub status_number : Status → ℕ
+status_number Done = 0
+status_number Words = 2
+status_number not_opened = 7
+status_number ClientEnd = 9
+status_number Memory = 11
+
+-- the status of a session's end
+abbrev pub end_status : Why → Status
+end_status Input = Done
+end_status ReadFault = ClientEnd
+end_status WriteFault = ClientEnd
+end_status LongLine = ClientEnd
+end_status LineCount = ClientEnd
+end_status memory_end = Memory
+
+-- the client's streams were opened, it was served to this end, and they were put back
+pub record WasServed {Src Snk : Type 0} (streams : Streams Src Snk) (standing : Opening → standing_type) (serve : Serve) (old new : Under Src Snk) (why : Why) : Type 0 where
+  pub opened : CannotOpen standing serve → ⊥
+  pub others : ChangesOnly serve old new
+  pub served : Served streams why serve old new
+
+-- an end that is a fault
+pub record WasServedBadly {Src Snk : Type 0} (streams : Streams Src Snk) (standing : Opening → standing_type) (serve : Serve) (old new : Under Src Snk) : Type 0 where
+  pub why : Why
+  pub fault : IsFaulty why
+  pub was : WasServed streams standing serve old new why
+
+-- what a status says of serving a client
+abbrev pub CommandEnds : {Src Snk : Type 0} → Streams Src Snk → (Opening → standing_type) → Serve → Under Src Snk → Under Src Snk → Status → Type 0
+CommandEnds streams standing serve old new Done = WasServed streams standing serve old new Input
+CommandEnds streams standing serve old new Words = ⊥
+CommandEnds streams standing serve old new not_opened = (CanOpen standing serve → ⊥) × Unchanged old new
+CommandEnds streams standing serve old new ClientEnd = WasServedBadly streams standing serve old new
+CommandEnds streams standing serve old new Memory = Unchanged old new ⊎ WasServed streams standing serve old new memory_end

@@ -1,0 +1,85 @@
+//! Laws of the definitions, each on a function that does nothing.
+
+ghost use Rattle.std.specs.Prelude.{◌≡◌, ℕ, ◌≤◌, List, [], ◌∷◌, Ok, codes, pos, take};
+ghost use Rattle.rail_types.specs.declared.limits.TheConstants.{
+  MAX_ACCEL_MM_S2,
+  MAX_ALLOWANCE_PERCENT,
+  MAX_BLOCK_LENGTH_M,
+  MAX_CELLS,
+  MAX_DWELL,
+  MAX_HORIZON,
+  MAX_JOURNAL_BYTES,
+  MAX_NUMBER,
+  MAX_OBJECTS,
+  MAX_OWNER_BYTES,
+  MAX_PINNED_RUNS,
+  MAX_RELEASE,
+  MAX_RUNS,
+  MAX_SETTING,
+  MAX_SIGHT_M,
+  MAX_SPEED_MM_S,
+  MAX_STOPS,
+  MAX_TICK,
+  MAX_TICK_S,
+  MAX_TRAIN_LENGTH_M,
+  MAX_TRAIN_NAME_BYTES,
+  MIN_JOURNAL_BYTES,
+};
+ghost use Rattle.osrd_stdcm.specs.declared.lines.TheConstants.{MAX_AMOUNT};
+ghost use Rattle.osrd_stdcm.specs.declared.streams.TheConstants.{MAX_LINES, MAX_LINE_BYTES};
+ghost use Rattle.osrd_stdcm.specs.declared.lines.HoldLine.{HoldLine as hold_type};
+ghost use Rattle.osrd_stdcm.specs.HoldLine.{IsHoldWithin, read_hold};
+ghost use Rattle.osrd_stdcm.specs.HoldText.{hold_text};
+ghost use Rattle.osrd_stdcm.specs.Session.{standing};
+ghost use Rattle.osrd_stdcm.specs.SevenLines.{client_a, ended_text, entry_0, entry_1, lines_of_a, replies_to_a, told};
+
+/// The text of a hold within its limits asks for that hold, and a line that asks for a hold is the text of it.
+pub fn lines_spell_their_holds()
+    ensures read { (zones : ℕ) (hold : hold_type) → zones ≤ MAX_OBJECTS → IsHoldWithin zones hold → read_hold zones (hold_text hold) ≡ Ok hold }
+    ensures spelled { (zones : ℕ) (line : List ℕ) (hold : hold_type) → zones ≤ MAX_OBJECTS → read_hold zones line ≡ Ok hold → line ≡ hold_text hold }
+    ensures within { (zones : ℕ) (line : List ℕ) (hold : hold_type) → zones ≤ MAX_OBJECTS → read_hold zones line ≡ Ok hold → IsHoldWithin zones hold }
+{}
+
+/// The limits of lines, numbers, networks, trains, timetables and journals.
+pub fn limits_are_these()
+    ensures lines { MAX_LINES ≡ 100000 }
+    ensures line_bytes { MAX_LINE_BYTES ≡ 65536 }
+    ensures amount { MAX_AMOUNT ≡ 100000 }
+    ensures tick { MAX_TICK ≡ pos 100000 }
+    ensures number { MAX_NUMBER ≡ 9223372036854775807 }
+    ensures owner_bytes { MAX_OWNER_BYTES ≡ 32 }
+    ensures objects { MAX_OBJECTS ≡ 65536 }
+    ensures cells { MAX_CELLS ≡ 1048576 }
+    ensures block_length_m { MAX_BLOCK_LENGTH_M ≡ 10000000 }
+    ensures sight_m { MAX_SIGHT_M ≡ 100000 }
+    ensures speed_mm_s { MAX_SPEED_MM_S ≡ 200000 }
+    ensures train_length_m { MAX_TRAIN_LENGTH_M ≡ 5000 }
+    ensures accel_mm_s2 { MAX_ACCEL_MM_S2 ≡ 10000 }
+    ensures allowance_percent { MAX_ALLOWANCE_PERCENT ≡ 1000 }
+    ensures train_name_bytes { MAX_TRAIN_NAME_BYTES ≡ 255 }
+    ensures tick_s { MAX_TICK_S ≡ 3600 }
+    ensures setting { MAX_SETTING ≡ 1000 }
+    ensures release { MAX_RELEASE ≡ 1000 }
+    ensures horizon { MAX_HORIZON ≡ 17280 }
+    ensures least_journal_bytes { MIN_JOURNAL_BYTES ≡ 77 }
+    ensures journal_bytes { MAX_JOURNAL_BYTES ≡ 268435456 }
+    ensures stops { MAX_STOPS ≡ 16 }
+    ensures dwell { MAX_DWELL ≡ 17280 }
+    ensures pinned_runs { MAX_PINNED_RUNS ≡ 4096 }
+    ensures runs { MAX_RUNS ≡ 17280 }
+{}
+
+/// The replies to seven lines of client A, who may speak of the zones 0, 1 and 2, each where the entries stand that
+/// the lines before it put there.
+pub fn a_session_of_seven_lines()
+    ensures first { told [] 1 (codes "hold 1 1 38 50") ≡ ended_text (codes "held 1 entry 0 at 1") }
+    ensures second { told (entry_0 ∷ []) 2 (codes "hold 2 1 37 38") ≡ ended_text (codes "held 2 entry 1 at 2") }
+    ensures third { told (entry_0 ∷ entry_1 ∷ []) 3 (codes "hold 3 1 49 60") ≡ ended_text (codes "taken 3 zone 1 by entry 0 at 2") }
+    ensures fourth { told (entry_0 ∷ entry_1 ∷ []) 4 (codes "hold 1 0 1 2") ≡ ended_text (codes "bad 2") }
+    ensures fifth { told (entry_0 ∷ entry_1 ∷ []) 5 (codes "hold 4 3 3 5") ≡ ended_text (codes "bad 3") }
+    ensures sixth { told (entry_0 ∷ entry_1 ∷ []) 6 (codes "hold 4 1 5 5") ≡ ended_text (codes "bad 5") }
+    ensures seventh { told (entry_0 ∷ entry_1 ∷ []) 7 (codes "ask 1") ≡ ended_text (codes "bad 1") }
+    ensures behind_one { standing client_a (take 1 lines_of_a) (take 1 replies_to_a) ≡ entry_0 ∷ [] }
+    ensures behind_two { standing client_a (take 2 lines_of_a) (take 2 replies_to_a) ≡ entry_0 ∷ entry_1 ∷ [] }
+    ensures behind_all { standing client_a lines_of_a replies_to_a ≡ entry_0 ∷ entry_1 ∷ [] }
+{}
