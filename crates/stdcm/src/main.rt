@@ -1,0 +1,31 @@
+//! The program: it runs the command of its words over real files, pipes and standard streams.
+#![tactic(auto)]
+
+use osrd_stdcm::{Status, run};
+use outside_io::FileOutside;
+use std::io::ErrorKind;
+use std::process::ExitCode;
+use std::{env, io};
+
+fn main(rt: HostRuntime) -> ExitCode {
+    let words = match words_of(&rt) {
+        Ok(words) => words,
+        // No word that is understood has bytes that are no text.
+        Err(error) if error.kind() == ErrorKind::InvalidData => return ExitCode::from(
+            Status::Words.number(),
+        ),
+        Err(_) => return ExitCode::from(Status::Memory.number()),
+    };
+    let mut outside = FileOutside::new(rt);
+    let status = run(&rt, &words, &mut outside);
+    ExitCode::from(status.number())
+}
+
+// The words behind the program's own name.
+fn words_of(rt: &HostRuntime) -> io::Result<Vec<String>> {
+    let mut words = Vec::new(rt.alloc());
+    for word in env::args(rt)?.skip(1) {
+        words.push(word)?;
+    }
+    Ok(words)
+}
