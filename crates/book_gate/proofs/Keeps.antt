@@ -17,9 +17,9 @@ use Rattle.book_gate.specs.declared.views.Turn.{Turn}
 use Rattle.book_gate.specs.declared.views.View.{View}
 use Rattle.book_gate.specs.Rule.{turns_of, one_if, tickets, budget, Fits, IsInPlace, IsKept}
 use Rattle.book_gate.specs.Steps.{with_ticket, called, served, giving, given as given', joining, spent, Meets, Takes, Looks, Advances}
-use Rattle.book_gate.specs.Views.{StartsWith, AreCountedWithin, AreNumberedBelow, longer, merged, own, positions, rises, mark_of, origin, IsChain, newcomer, turn}
-use Rattle.book_gate.proofs.Lists.{each_set, at_end, at_place, within_length, sum_set, sum_has_both}
-use Rattle.book_gate.proofs.Turns.{plain, turns_of-append, turns_of-same, turns_of-other, all_of, length-turns_of, has_all, chain-append, IsWithin, chain_all, chain_own, chain_count, length-merged, renamed, plain-renamed, length-renamed, turns_of-renamed_other, turns_of-renamed_old, turns_of-renamed_new}
+use Rattle.book_gate.specs.Views.{StartsWith, AreListedWithin, AreCountedWithin, AreNumberedBelow, AreAscending, longer, merged, own, positions, rises, mark_of, origin, IsChain, newcomer, turn}
+use Rattle.book_gate.proofs.Lists.{each_set, at_end, at_place, within_length, sum_set, sum_has, sum_has_both}
+use Rattle.book_gate.proofs.Turns.{plain, turns_of-append, turns_of-same, turns_of-other, all_of, length-turns_of, has_all, chain-append, IsWithin, chain_all, ascending, chain_own, chain_count, length-merged, renamed, plain-renamed, length-renamed, turns_of-renamed_other, turns_of-renamed_old, turns_of-renamed_new}
 
 -- What is known of a pass with all turns, of the book that `new` was given, and of the last one.
 pub record IsWholeStory {E F : Type 0} (first last : Standing E) (v : View E F) : Type 0 where
@@ -213,18 +213,20 @@ module _ {S E F : Type 0} (stands : S → Standing E) (footing : S → F) (given
       let same : h.0 ≡ id = r.tickets_apart h.0 id u v h.2 at f.1 has (f.2 ∙ sym mine) in
       not_both u.has_book h.3 (ap (λ (z : V). z.has_book) (some-injective u v (sym h.2 ∙ (ap (get_elem? s.views) same ∙ at))) ∙ none))
 
-  -- the turns of a pass were all served
-  numbered : (s : St) (r : Rule s) (id : ℕ) (v : V) → get_elem? s.views id ≡ slot.some v → AreNumberedBelow v.turns r.serving
-  numbered s r id v at = let served = r.all_served in let as_many : length (plain r.log) ≡ length r.log = length-map r.log (λ (e : ℕ × Turn). e.1) in
-      subst (λ (ts : List Turn). AreNumberedBelow ts r.serving) (sym (r.each_pass id v at).has_its_turns) (all_of (λ t. t.number < r.serving) id r.log
-      (All-weaker (IsWithin 0 r.serving (mark_of r.last)) (λ t. t.number < r.serving) (λ (t : Turn) (w : IsWithin 0 r.serving (mark_of r.last) t). w.1) (plain r.log)
-      (chain_all 0 r.serving (mark_of (stands opened)) (mark_of r.last) (plain r.log) (omega arith) r.one_chain)))
+  -- the turns of a pass were all served, and left no more than the last left
+  all_within : (s : St) (r : Rule s) (id : ℕ) (v : V) → get_elem? s.views id ≡ slot.some v → All (IsWithin 0 r.serving (mark_of (stands opened)) (mark_of r.last)) v.turns
+  all_within s r id v at = let served = r.all_served in let as_many : length (plain r.log) ≡ length r.log = length-map r.log (λ (e : ℕ × Turn). e.1) in
+      let Within : Turn → Type 0 = IsWithin 0 r.serving (mark_of (stands opened)) (mark_of r.last) in
+      subst (All Within) (sym (r.each_pass id v at).has_its_turns) (all_of Within id r.log (chain_all 0 r.serving (mark_of (stands opened)) (mark_of r.last) (plain r.log) (omega arith) r.one_chain))
 
-  -- the turns of a pass were all left with a count that the book has reached
+  numbered : (s : St) (r : Rule s) (id : ℕ) (v : V) → get_elem? s.views id ≡ slot.some v → AreNumberedBelow v.turns r.serving
+  numbered s r id v at = All-weaker (IsWithin 0 r.serving (mark_of (stands opened)) (mark_of r.last)) (λ t. t.number < r.serving) (λ _ w. w.below) v.turns (all_within s r id v at)
+
   counted : (s : St) (r : Rule s) (id : ℕ) (v : V) → get_elem? s.views id ≡ slot.some v → AreCountedWithin v.turns r.last.count
-  counted s r id v at = subst (λ (ts : List Turn). AreCountedWithin ts r.last.count) (sym (r.each_pass id v at).has_its_turns)
-      (all_of (λ t. t.left.count ≤ r.last.count) id r.log (All-weaker (IsWithin 0 (length (plain r.log)) (mark_of r.last)) (λ t. t.left.count ≤ r.last.count) (λ (t : Turn) (w : IsWithin 0 (length (plain r.log)) (mark_of r.last) t). w.2)
-      (plain r.log) (chain_all 0 (length (plain r.log)) (mark_of (stands opened)) (mark_of r.last) (plain r.log) (omega arith) r.one_chain)))
+  counted s r id v at = All-weaker (IsWithin 0 r.serving (mark_of (stands opened)) (mark_of r.last)) (λ t. t.left.count ≤ r.last.count) (λ _ w. w.counted) v.turns (all_within s r id v at)
+
+  listed : (s : St) (r : Rule s) (id : ℕ) (v : V) → get_elem? s.views id ≡ slot.some v → AreListedWithin v.turns (length r.last.list)
+  listed s r id v at = All-weaker (IsWithin 0 r.serving (mark_of (stands opened)) (mark_of r.last)) (λ t. t.left.entries ≤ length r.last.list) (λ _ w. w.listed) v.turns (all_within s r id v at)
 
   pub look_step : (slots id : ℕ) (me : M) → me.0.has_ticket ≡ true → me.0.has_book ≡ false → Allows Rule slots id me 1 (λ n. n) (Looks stands footing (step slots 1 0 0 slot.none) me)
   look_step slots id me has none s r _ at small = let n : ℕ = get_or s.words 1 0 in let is : n ≡ r.serving = ap (λ (ws : List ℕ). get_or ws 1 0) r.words in dite (ℕ_discrete n me.0.ticket)
@@ -256,6 +258,7 @@ module _ {S E F : Type 0} (stands : S → Standing E) (footing : S → F) (given
             refl,
             subst (λ (z : Standing E). StartsWith z.list me.0.seen) (sym place.2) f.has_seen,
             subst (λ (z : Standing E). me.0.count ≤ z.count) (sym place.2) f.has_counted,
+            subst (λ (z : Standing E). AreListedWithin me.0.turns (length z.list)) (sym place.2) (listed s r id me.0 at),
             subst (λ (z : Standing E). AreCountedWithin me.0.turns z.count) (sym place.2) (counted s r id me.0 at),
             subst (AreNumberedBelow me.0.turns) (sym mine) (numbered s r id me.0 at),
             if_some (λ o. o.footing ≡ footing b) me.0.origin (λ o e. ap (λ (z : Origin F). z.footing) (f.knows_origin o e) ∙ sym place.3),
@@ -498,6 +501,8 @@ module _ {S E F : Type 0} (stands : S → Standing E) (footing : S → F) (given
           omega arith,
           (let share = f.keeps_to_its_share in omega arith),
           subst (AreNumberedBelow v.turns) (sym is) (numbered s r id v at),
+          subst AreAscending (sym f.has_its_turns) (ascending 0 id (mark_of (stands opened)) (mark_of r.last) r.log r.one_chain),
+          λ o e. let turns = ap (λ (x : Origin F). x.turns) (f.knows_origin o e) in let mine_left = sum_has budget s.views id v at in let all = r.all_budgets in let now = r.all_wait in omega arith,
           λ o e whole. let all = ap length (has_all_turns s r id v at (whole ∙ ap (λ (x : Origin F). x.turns) (f.knows_origin o e))) in omega arith,
         ),
       )

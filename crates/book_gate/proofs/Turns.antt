@@ -3,13 +3,14 @@ use Rattle.std.proofs.Common.{◌≡◌, ℕ, zero, suc, ◌+◌, ◌-◌, ◌�
 use Rattle.std.proofs.lemmas.List.{append-nil}
 use Rattle.std.proofs.lemmas.List.Sums.{sum_by-cons}
 use Rattle.std.proofs.lemmas.List.Elements.{All-nil, All-cons, All-head, All-tail, All-weaker}
+use Rattle.std.proofs.lemmas.List.Kept.{AllPairs-cons}
 use Rattle.std.proofs.lemmas.Bool.{cond-true, cond-false, cond_both, lt-ltb, le-ltb}
 use mathlib.Core.Logic.{dite}
 use native.Mathlib.Decide.{ℕ_discrete}
 use Rattle.book_gate.specs.declared.views.Mark.{Mark}
 use Rattle.book_gate.specs.declared.views.Turn.{Turn}
 use Rattle.book_gate.specs.Rule.{turns_of}
-use Rattle.book_gate.specs.Views.{Rises, IsChain, positions, own, rises, put, merged}
+use Rattle.book_gate.specs.Views.{Rises, IsChain, AreAscending, positions, own, rises, put, merged}
 
 abbrev pub plain : List (ℕ × Turn) → List Turn
 plain log = map (λ e. e.1) log
@@ -60,14 +61,37 @@ chain_rises n a z [] c = let e = ap (λ (m : Mark). m.entries) c in let k = ap (
 chain_rises n a z (t ∷ ts) c = let rest = chain_rises (suc n) t.left z ts c.3 in let r = c.2 in let e = ap (λ (m : Mark). m.entries) c.1 in let k = ap (λ (m : Mark). m.count) c.1 in (omega arith, omega arith)
 
 -- What holds of each turn of a chain.
-abbrev pub IsWithin : ℕ → ℕ → Mark → Turn → Type 0
-IsWithin low high last t = (low ≤ t.number) × (t.number < high) × (t.left.count ≤ last.count)
+pub record IsWithin (low high : ℕ) (first last : Mark) (t : Turn) : Type 0 where
+  pub from : low ≤ t.number
+  pub below : t.number < high
+  pub goes_on : first.entries ≤ t.found.entries
+  pub listed : t.left.entries ≤ last.entries
+  pub counted : t.left.count ≤ last.count
 
-pub chain_all : (n high : ℕ) (a z : Mark) (ts : List Turn) → n + length ts ≡ high → IsChain n a ts z → All (IsWithin n high z) ts
-chain_all n high a z [] l c = All-nil (IsWithin n high z)
+pub chain_all : (n high : ℕ) (a z : Mark) (ts : List Turn) → n + length ts ≡ high → IsChain n a ts z → All (IsWithin n high a z) ts
+chain_all n high a z [] l c = All-nil (IsWithin n high a z)
 chain_all n high a z (t ∷ ts) l c = let next : suc n + length ts ≡ high = omega arith in let up = chain_rises (suc n) t.left z ts c.3 in let number = c.0 in
-    All-cons (IsWithin n high z) t ts (omega arith, omega arith, up.1)
-    (All-weaker (IsWithin (suc n) high z) (IsWithin n high z) (λ (u : Turn) (w : IsWithin (suc n) high z u). (let h = w.0 in omega arith, w.1, w.2)) ts (chain_all (suc n) high t.left z ts next c.3))
+    let e = ap (λ (m : Mark). m.entries) c.1 in let r = c.2.0 in
+    All-cons (IsWithin n high a z) t ts (record { from = omega arith; below = omega arith; goes_on = omega arith; listed = up.0; counted = up.1 })
+    (All-weaker (IsWithin (suc n) high t.left z) (IsWithin n high a z)
+    (λ (u : Turn) (w : IsWithin (suc n) high t.left z u). record { from = let h = w.from in omega arith; below = w.below; goes_on = let h = w.goes_on in omega arith; listed = w.listed; counted = w.counted })
+    ts (chain_all (suc n) high t.left z ts next c.3))
+
+abbrev IsBefore : Turn → Turn → Type 0
+IsBefore t u = (t.number < u.number) × (t.left.entries ≤ u.found.entries)
+
+-- What comes after the first of a chain has a higher number, and found no fewer entries than that one left.
+chain_after : (t : Turn) (z : Mark) (ts : List Turn) → IsChain (suc t.number) t.left ts z → All (IsBefore t) ts
+chain_after t z ts c = let n : ℕ = suc t.number in let high : ℕ = n + length ts in
+    All-weaker (IsWithin n high t.left z) (IsBefore t) (λ (u : Turn) (w : IsWithin n high t.left z u). (let h = w.from in omega arith, w.goes_on)) ts (chain_all n high t.left z ts refl c)
+
+-- The turns of one pass ascend.
+pub ascending : (n i : ℕ) (a z : Mark) (log : List (ℕ × Turn)) → IsChain n a (plain log) z → AreAscending (turns_of i log)
+ascending n i a z [] c = λ _ j d less within. absurd (omega arith)
+ascending n i a z (e ∷ log) c = let rest = ascending (suc n) i e.1.left z log c.3 in dite (ℕ_discrete e.0 i)
+    (λ same. subst AreAscending (sym (turns_of-same i e.0 e.1 log same)) (AllPairs-cons IsBefore e.1 (turns_of i log)
+    (all_of (IsBefore e.1) i log (chain_after e.1 z (plain log) (subst (λ (k : ℕ). IsChain (suc k) e.1.left (plain log) z) (sym c.0) c.3))) rest))
+    (λ other. subst AreAscending (sym (turns_of-other i e.0 e.1 log other)) rest)
 
 positions-add : (a m n : ℕ) → positions a (m + n) ≡ positions a m ++ positions (a + m) n
 positions-add a zero n = let e : zero + n ≡ n = omega arith in let f : a ≡ a + zero = omega arith in ap (positions a) e ∙ ap (λ (k : ℕ). positions k n) f
@@ -151,9 +175,9 @@ turns_of-renamed_old old new (e ∷ log) n = let rest = turns_of-renamed_old old
 
 -- What comes after the first of a chain has higher numbers, in any part of the log.
 later : (n i : ℕ) (a z : Mark) (log : List (ℕ × Turn)) (t : Turn) → t.number ≡ n → IsChain (suc n) a (plain log) z → All (λ u. t.number < u.number) (turns_of i log)
-later n i a z log t is c = all_of (λ u. t.number < u.number) i log
-    (All-weaker (IsWithin (suc n) (suc n + length (plain log)) z) (λ u. t.number < u.number) (λ (u : Turn) (w : IsWithin (suc n) (suc n + length (plain log)) z u). let h = w.0 in omega arith) (plain log)
-    (chain_all (suc n) (suc n + length (plain log)) a z (plain log) refl c))
+later n i a z log t is c = let high : ℕ = suc n + length (plain log) in all_of (λ u. t.number < u.number) i log
+    (All-weaker (IsWithin (suc n) high a z) (λ u. t.number < u.number) (λ (u : Turn) (w : IsWithin (suc n) high a z u). let h = w.from in omega arith) (plain log)
+    (chain_all (suc n) high a z (plain log) refl c))
 
 -- The turns of the pass that another has become are those of both.
 pub turns_of-renamed_new : (old new n : ℕ) (a z : Mark) (log : List (ℕ × Turn)) → old ≢ new → IsChain n a (plain log) z → turns_of new (renamed old new log) ≡ merged (turns_of new log) (turns_of old log)

@@ -4,7 +4,8 @@ use Rattle.atomic_table.specs.Table.{Me, Step}
 use Rattle.book_gate.specs.declared.views.Origin.{Origin}
 use Rattle.book_gate.specs.declared.views.Standing.{Standing}
 use Rattle.book_gate.specs.declared.views.View.{View}
-use Rattle.book_gate.specs.Views.{StartsWith, AreCountedWithin, AreNumberedBelow, turn, longer, merged}
+use Rattle.book_gate.specs.Rule.{budget}
+use Rattle.book_gate.specs.Views.{StartsWith, AreListedWithin, AreCountedWithin, AreNumberedBelow, AreAscending, turn, longer, merged}
 
 module _ {E F : Type 0} where
   abbrev pub with_ticket : View E F → ℕ → View E F
@@ -42,7 +43,7 @@ module _ {S E F : Type 0} where
 module _ {S E F : Type 0} (stands : S → Standing E) (footing : S → F) where
   -- the pass is called and has the book, which goes on from all that it knew
   abbrev pub IsCalled : Me (Option S) (View E F) → Me (Option S) (View E F) → Type 0
-  IsCalled m w = (b : S) × (w ≡ (called m.0 (stands b), (0, Some b) ∷ m.1)) × StartsWith (stands b).list m.0.seen × (m.0.count ≤ (stands b).count) × AreCountedWithin m.0.turns (stands b).count × AreNumberedBelow m.0.turns m.0.ticket × IfSome m.0.origin (λ o. o.footing ≡ footing b)
+  IsCalled m w = (b : S) × (w ≡ (called m.0 (stands b), (0, Some b) ∷ m.1)) × StartsWith (stands b).list m.0.seen × (m.0.count ≤ (stands b).count) × AreListedWithin m.0.turns (length (stands b).list) × AreCountedWithin m.0.turns (stands b).count × AreNumberedBelow m.0.turns m.0.ticket × IfSome m.0.origin (λ o. o.footing ≡ footing b)
 
   -- called where its ticket is the one that is served, and otherwise as before
   abbrev pub Looks : Step (Option S) → Me (Option S) (View E F) → ℕ → Me (Option S) (View E F) → Type 0
@@ -54,6 +55,6 @@ module _ {S E F : Type 0} (stands : S → Standing E) where
   Advances st m n w = (b : S) → m.1 ≡ (0, Some b) ∷ [] → w ≡ (served m.0 (stands b), [])
 
 module _ {S E F : Type 0} where
-  -- The lists that were joined are beginnings of one, and so many turns were served: at least those of the pass, and these alone where its share is the whole.
+  -- The lists that were joined are beginnings of one, and the turns of the pass ascend. So many turns were served: at least those of the pass, at most all but those that it may still take, and its own alone where its share is the whole.
   abbrev pub Meets : Step (Option S) → Me (Option S) (View E F) → ℕ → Me (Option S) (View E F) → Type 0
-  Meets st m n w = (w ≡ m) × All (λ l. StartsWith m.0.seen l) m.0.joined × (length m.0.turns ≤ n) × (length m.0.turns ≤ m.0.share) × AreNumberedBelow m.0.turns n × ((o : Origin F) → m.0.origin ≡ Some o → m.0.share ≡ o.turns → n ≡ length m.0.turns)
+  Meets st m n w = (w ≡ m) × All (λ l. StartsWith m.0.seen l) m.0.joined × (length m.0.turns ≤ n) × (length m.0.turns ≤ m.0.share) × AreNumberedBelow m.0.turns n × AreAscending m.0.turns × ((o : Origin F) → m.0.origin ≡ Some o → n + budget m.0 ≤ o.turns) × ((o : Origin F) → m.0.origin ≡ Some o → m.0.share ≡ o.turns → n ≡ length m.0.turns)

@@ -1,5 +1,5 @@
 -- What a book stands for, and what a pass knows of it.
-use Rattle.std.specs.Prelude.{◌≡◌, ℕ, zero, suc, ◌-◌, ◌≤◌, ◌<◌, nat_lt, if◌then◌else◌, false, All, List, [], ◌∷◌, ◌++◌, length, sum_by, Some}
+use Rattle.std.specs.Prelude.{◌≡◌, ℕ, zero, suc, ◌-◌, ◌≤◌, ◌<◌, nat_lt, if◌then◌else◌, false, All, AllPairs, List, [], ◌∷◌, ◌++◌, length, sum_by, Some}
 use Rattle.book_gate.specs.declared.views.Mark.{Mark}
 use Rattle.book_gate.specs.declared.views.Origin.{Origin}
 use Rattle.book_gate.specs.declared.views.Standing.{Standing}
@@ -48,7 +48,7 @@ abbrev pub put : Turn → List Turn → List Turn
 put t [] = t ∷ []
 put t (u ∷ us) = if nat_lt t.number u.number then t ∷ u ∷ us else u ∷ put t us
 
--- the turns of both, by their numbers
+-- the turns of both, by their numbers where both ascend
 abbrev pub merged : List Turn → List Turn → List Turn
 merged ts [] = ts
 merged ts (u ∷ us) = put u (merged ts us)
@@ -68,6 +68,14 @@ turn number found left = record { number = number; found = mark_of found; left =
 abbrev pub AreCountedWithin : List Turn → ℕ → Type 0
 AreCountedWithin turns count = All (λ t. t.left.count ≤ count) turns
 
+-- no turn of these left more entries than that
+abbrev pub AreListedWithin : List Turn → ℕ → Type 0
+AreListedWithin turns entries = All (λ t. t.left.entries ≤ entries) turns
+
 -- each of these turns has a number below that one
 abbrev pub AreNumberedBelow : List Turn → ℕ → Type 0
 AreNumberedBelow turns number = All (λ t. t.number < number) turns
+
+-- the turns ascend by number, and each left at most as many entries as a later one found
+abbrev pub AreAscending : List Turn → Type 0
+AreAscending turns = AllPairs (λ t u. (t.number < u.number) × (t.left.entries ≤ u.found.entries)) turns

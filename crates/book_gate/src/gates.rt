@@ -33,7 +33,7 @@ pub struct Pass<S: Stands> {
 impl<S: Stands> Gate<S> {
     ghost use Rattle.book_gate.specs.Passes.{view, opened, turns_given, turns_left, IsOf, IsIdle, IsInTurn, IsWaiting, IsCalledWith, OpensTurn};
     ghost use Rattle.book_gate.specs.Steps.{served, giving, given, joining};
-    ghost use Rattle.book_gate.specs.Views.{StartsWith, AreCountedWithin, AreNumberedBelow, IsChain, standing, newcomer, origin, mark_of, own, positions, rises};
+    ghost use Rattle.book_gate.specs.Views.{StartsWith, AreListedWithin, AreCountedWithin, AreNumberedBelow, AreAscending, IsChain, standing, newcomer, origin, mark_of, own, positions, rises};
 
     /// A gate that keeps this book for so many turns, and the pass that may take them all.
     pub fn new(alloc: Global, book: S, turns: u64) -> Result<(Gate<S>, Pass<S>), (S, NoMemory)>
@@ -80,6 +80,7 @@ impl<S: Stands> Gate<S> {
         ensures seen { StartsWith (S.list result) (view pass.old).seen }
         ensures count { (view pass.old).count ≤ S.count result }
         ensures turns { AreCountedWithin (view pass.old).turns (S.count result) }
+        ensures lengths { AreListedWithin (view pass.old).turns (length (S.list result)) }
 
         // Its number is above those of all earlier turns of the pass.
         ensures numbers { AreNumberedBelow (view pass.old).turns (view pass.new).ticket }
@@ -188,9 +189,12 @@ impl<S: Stands> Gate<S> {
         ensures own_entries { IsPermutation (own (view into.old).turns ++ own (view other).turns) (own (view into.new).turns) }
         ensures rises { rises (view into.new).turns ≡ rises (view into.old).turns + rises (view other).turns }
         ensures budget { turns_left into.new ≡ turns_left into.old + turns_left other }
+        ensures ascend { AreAscending (view into.new).turns }
     {
         let Pass { seat } = other;
         self.table.shared.join_seat::<TakeIn>(&mut into.seat, seat);
+        // The step that joins tells nothing of how the turns of both lie, and a meeting does.
+        self.meet(into);
     }
 
     /// How many turns were served. The lists that were joined into the pass are beginnings of one list.
@@ -202,8 +206,10 @@ impl<S: Stands> Gate<S> {
         ensures same { view pass.new ≡ view pass.old }
         ensures one_list { All (λ list. StartsWith (view pass.old).seen list) (view pass.old).joined }
         ensures at_least { length (view pass.old).turns ≤ result }
+        ensures at_most { result + turns_left pass.old ≤ turns_given self.now }
         ensures within { length (view pass.old).turns ≤ (view pass.old).share }
         ensures numbers { AreNumberedBelow (view pass.old).turns result }
+        ensures ascend { AreAscending (view pass.old).turns }
         ensures all { (view pass.old).share ≡ turns_given self.now → result ≡ length (view pass.old).turns }
     {
         self.table.shared.load::<Meet>(&mut pass.seat, SERVING)

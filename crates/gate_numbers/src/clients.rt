@@ -1,7 +1,7 @@
 //! Callers that add to a book in turns, each in a thread.
 ghost use Rattle.std.specs.Prelude.{◌≡◌, ◌+◌, ◌*◌, ◌^◌, ◌≤◌, ◌<◌, [], All, IfOk, length, sum_by};
-ghost use Rattle.book_gate.specs.Passes.{opened, turns_given, turns_left};
-ghost use Rattle.gate_numbers.specs.Passes.{IsReady, IsFresh, IsHistory, share};
+ghost use Rattle.book_gate.specs.Passes.{view, opened, turns_given, turns_left};
+ghost use Rattle.gate_numbers.specs.Passes.{IsReady, IsFresh, IsSpent, IsHistory, HasAdded, TakesTurns, share};
 
 use crate::numbers::Numbers;
 use book_gate::{Gate, Pass};
@@ -27,6 +27,8 @@ impl Client {
         ensures ready { IsReady gate.now self.new.pass }
         ensures left { turns_left self.new.pass + 1 ≡ turns_left self.old.pass }
         ensures share { share self.new.pass ≡ share self.old.pass }
+        ensures number { self.new.number ≡ self.old.number }
+        ensures turn { TakesTurns 1 self.old.pass self.new.pass }
     {
         let mut held = gate.enter(rt, &mut self.pass);
         if held.book().list.is_empty() {
@@ -47,7 +49,10 @@ impl Client {
         requires ready { IsReady gate.now self.old.pass }
         requires left { turns ≤ turns_left self.old.pass }
         ensures ready { IsReady gate.now self.new.pass }
+        ensures left { turns_left self.new.pass + turns ≡ turns_left self.old.pass }
         ensures share { share self.new.pass ≡ share self.old.pass }
+        ensures number { self.new.number ≡ self.old.number }
+        ensures turns { TakesTurns turns self.old.pass self.new.pass }
     {
         for _turn in 0..turns {
             self.take_turn(rt, gate, pause);
@@ -69,6 +74,8 @@ fn split_all(
     ensures ready { IfOk result (λ v. All (λ c. IsFresh turns gate.now c.pass) v.items) }
     ensures count { IfOk result (λ v. length v.items ≡ clients) }
     ensures pass { IfOk result (λ _. IsReady gate.now pass.new × (share pass.new + clients * turns ≡ share pass.old)) }
+    ensures left { IfOk result (λ _. turns_left pass.new + clients * turns ≡ turns_left pass.old) }
+    ensures turns { (view pass.new).turns ≡ (view pass.old).turns }
 {
     let mut all = Vec::new(alloc);
     for number in 0..clients {
@@ -88,6 +95,7 @@ fn serve_all<R: Threads + Wait + Clock + Sync>(
 ) -> Vec<Client>
     requires { All (λ c. IsFresh turns gate.now c.pass) clients.items }
     ensures ready { All (λ c. IsReady gate.now c.pass × (share c.pass ≡ turns)) result.items }
+    ensures spent { All (λ c. IsSpent c.pass) result.items }
     ensures count { length result.items ≡ length clients.items }
 {
     thread::for_each_mut(
@@ -101,8 +109,11 @@ fn serve_all<R: Threads + Wait + Clock + Sync>(
 
 fn join_all(gate: &Gate<Numbers>, pass: &mut Pass<Numbers>, mut clients: Vec<Client>)
     requires ready { IsReady gate.now pass.old × All (λ c. IsReady gate.now c.pass) clients.items }
+    requires added { HasAdded pass.old × All (λ c. HasAdded c.pass) clients.items }
     ensures ready { IsReady gate.now pass.new }
     ensures share { share pass.new ≡ share pass.old + sum_by (λ c. share c.pass) clients.items }
+    ensures left { turns_left pass.new ≡ turns_left pass.old + sum_by (λ c. turns_left c.pass) clients.items }
+    ensures added { HasAdded pass.new }
 {
     while let Some(client) = clients.pop() {
         gate.join(pass, client.pass);
@@ -116,6 +127,8 @@ fn close_all(gate: Gate<Numbers>, mut pass: Pass<Numbers>) -> (u64, Numbers)
     requires empty { ((opened gate).list.items ≡ []) × ((opened gate).refused ≡ 0) }
     ensures name { result.1.name ≡ (opened gate).name }
     ensures history { IsHistory result.0 result.1 }
+    ensures served { result.0 + turns_left pass ≡ turns_given gate }
+    ensures book { HasAdded pass → length result.1.list.items + result.1.refused ≡ result.0 }
 {
     let served = gate.meet(&mut pass);
     (served, gate.close(pass))
@@ -133,6 +146,8 @@ pub fn run_all<R: Threads + Wait + Clock + Sync>(
     requires few { clients * turns < 2 ^ 62 }
     ensures name { IfOk result (λ r. r.1.name ≡ 7) }
     ensures history { IfOk result (λ r. IsHistory r.0 r.1) }
+    ensures served { IfOk result (λ r. r.0 ≡ clients * turns) }
+    ensures book { IfOk result (λ r. length r.1.list.items + r.1.refused ≡ clients * turns) }
 {
     let book = Numbers::new(alloc, 7);
     let (gate, mut pass) = match Gate::new(alloc, book, clients * turns + 1) {

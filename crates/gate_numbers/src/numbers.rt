@@ -28,6 +28,8 @@ impl Stands for Numbers {
 }
 
 impl Numbers {
+    ghost use Rattle.gate_numbers.specs.Books.{IsAdded};
+
     pub fn new(alloc: Global, name: u64) -> Numbers
         ensures name { result.name ≡ name }
         ensures list { result.list.items ≡ [] }
@@ -45,6 +47,7 @@ impl Numbers {
         ensures name { self.new.name ≡ self.old.name }
         ensures list { StartsWith self.new.list.items self.old.list.items }
         ensures refused { self.old.refused ≤ self.new.refused }
+        ensures added { IsAdded number self.old self.new }
     {
         if self.list.push(number).is_err() {
             self.refused = self.refused.saturating_add(1);

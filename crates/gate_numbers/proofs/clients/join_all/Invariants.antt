@@ -1,5 +1,6 @@
 use Rattle.std.proofs.Common.{◌≡◌, ◌+◌, All, sum_by}
-use Rattle.gate_numbers.specs.Passes.{IsReady, share}
+use Rattle.book_gate.specs.Passes.{turns_left}
+use Rattle.gate_numbers.specs.Passes.{IsReady, HasAdded, share}
 use Rattle.gate_numbers.proofs.clients.join_all.Given as goal
 
 abbrev pub invariant-loop-client : goal.invariant-loop-client
@@ -7,6 +8,9 @@ invariant-loop-client l = record {
   ready : IsReady l.gate l.pass;
   all : All (λ c. IsReady l.gate c.pass) l.clients.items;
   joined : share l.pass + sum_by (λ c. share c.pass) l.clients.items ≡ share l.fn.pass + sum_by (λ c. share c.pass) l.fn.clients.items;
+  left : turns_left l.pass + sum_by (λ c. turns_left c.pass) l.clients.items ≡ turns_left l.fn.pass + sum_by (λ c. turns_left c.pass) l.fn.clients.items;
+  added : HasAdded l.pass;
+  all_added : All (λ c. HasAdded c.pass) l.clients.items;
 }
 
 abbrev pub decreases-loop-client : goal.decreases-loop-client

@@ -1,5 +1,5 @@
 use Rattle.std.proofs.Common.{◌≡◌, ◌+◌, ◌*◌, All, length}
-use Rattle.book_gate.specs.Passes.{turns_left}
+use Rattle.book_gate.specs.Passes.{view, turns_left}
 use Rattle.gate_numbers.specs.Passes.{IsReady, IsFresh, share}
 use Rattle.gate_numbers.proofs.clients.split_all.Given as goal
 
@@ -8,6 +8,7 @@ invariant-loop-number l = record {
   ready : IsReady l.gate l.pass;
   given : share l.pass + l.number * l.turns ≡ share l.fn.pass;
   left : turns_left l.pass ≡ share l.pass;
+  turns : (view l.pass).turns ≡ (view l.fn.pass).turns;
   all : All (λ c. IsFresh l.turns l.gate c.pass) l.all.items;
   count : length l.all.items ≡ l.number;
 }

@@ -16,12 +16,12 @@ join_seat-requires g c = (
   join_step (standing g.S.Stands.list g.S.Stands.settled g.S.Stands.count) g.S.Stands.footing _ _ _ _ _ _ c.requires.idle.0 c.requires.idle.1 c.requires.other_idle.0 c.requires.other_idle.1,
 )
 
-pub returns-clause-own : goal.returns-clause-own
-returns-clause-own g c =
+pub meet-requires-clause-own : goal.meet-requires-clause-own
+meet-requires-clause-own g c =
     let joined : c.join_seat.new.seat.me.0 ≡ joining (view c.args.into.now) (view c.args.other) = search rules in
     (search rules, search rules, subst IsWithinShare (sym joined) (within_joined (view c.args.into.now) (view c.args.other) c.requires.own.2 c.requires.other_own.2))
 
 pub returns-clause-budget : goal.returns-clause-budget
 returns-clause-budget g c =
-    let joined : c.join_seat.new.seat.me.0 ≡ joining (view c.args.into.now) (view c.args.other) = search rules in
+    let joined : view c.meet.new.pass ≡ joining (view c.args.into.now) (view c.args.other) = search rules in
     ap budget joined ∙ budget_joined (view c.args.into.now) (view c.args.other) c.requires.own.2 c.requires.other_own.2 c.requires.other_idle.0
