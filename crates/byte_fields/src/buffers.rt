@@ -35,6 +35,7 @@ impl Buffer {
     pub fn reserve(&mut self, count: usize) -> Result<(), NoMemory>
         ensures held { self.new.held ≡ self.old.held }
         ensures ok { OnOk result (count ≤ self.new.spare) }
+        ensures err { OnErr result (self.new ≡ self.old) }
         ensures spare { self.old.spare ≤ self.new.spare }
         ensures room { count ≤ self.old.spare → IsOk result }
     {
@@ -45,11 +46,14 @@ impl Buffer {
     /// Appends the bytes.
     pub fn extend(&mut self, more: &[u8]) -> Result<(), NoMemory>
         ensures ok { OnOk result (self.new.held ≡ self.old.held ++ more.now) }
-        ensures err { OnErr result (self.new.held ≡ self.old.held) }
+        ensures err { OnErr result (self.new ≡ self.old) }
         ensures room { length more.now ≤ self.old.spare → IsOk result }
         ensures spare { self.old.spare ≤ self.new.spare + length more.now }
     {
-        self.bytes.extend_from_slice(more)?;
+        self.bytes.reserve(more.len())?;
+        let Ok(()) = self.bytes.extend_from_slice(more) else {
+            unreachable!()
+        };
         Ok(())
     }
 

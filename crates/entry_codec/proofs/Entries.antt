@@ -1,6 +1,7 @@
 -- Entries are read where their bodies stand.
-use Rattle.std.proofs.Common.{◌≡◌, ℕ, ◌-◌, ◌^◌, ◌<◌, ◌≤◌, Bool, true, false, cond, eqb, List, [], ◌∷◌, ◌++◌, length, Option, Some, All, Result, Ok, Err, refl, sym, ap, subst, ◌∙◌, append_assoc, arith, inl, inr}
+use Rattle.std.proofs.Common.{◌≡◌, ◌≢◌, ℕ, ◌+◌, ◌-◌, ◌^◌, ◌<◌, ◌≤◌, Bool, true, false, cond, eqb, List, [], ◌∷◌, ◌++◌, length, take, Option, Some, All, Result, Ok, Err, refl, sym, ap, subst, ◌∙◌, append_assoc, arith, inl, inr}
 use Rattle.std.proofs.lemmas.Bool.{eqb-true}
+use Rattle.std.proofs.Math.Dec.{eqb-suc-zero}
 use Rattle.std.proofs.lemmas.Bool.Decides.{nat_tests}
 use Rattle.std.specs.Prelude.{IfOk, IfErr}
 use Rattle.std.specs.List.{list_all, AllByRecursion}
@@ -26,7 +27,7 @@ use Rattle.entry_codec.specs.declared.kinds.Kind.TheVariants as kind
 use Rattle.entry_codec.specs.Body.{body_of, kind_byte, deed_text, name_text, list_text, train_text, window_text, stop_text, run_text}
 use Rattle.entry_codec.specs.Within.{IsFourBytes, IsDeedWithinLimits, IsDeedOfItsTypes, HasBody}
 use Rattle.entry_codec.specs.Reading.{meant, is_name_byte, kind_of, byte_field, name_field, list_field, stop_field, run_field, asked_field, pinned_field, kind_field, deed_field, entry_field, whole, entry_at, GivesAll, Refuses}
-use Rattle.entry_codec.proofs.Readers.{IsBytes, Taken, joined, Finds, Reads, then_takes, then_finds, made_takes, ok_is, under_limits, meant_reads}
+use Rattle.entry_codec.proofs.Readers.{IsBytes, Taken, joined, Spells, with_text, Reads, then_takes, then_spells, made_takes, made_spells, ok_is, under_limits, meant_reads}
 use Rattle.entry_codec.proofs.Numbers.{both_true, byte_reads, number_reads, name_reads, IsNameOf}
 use Rattle.entry_codec.proofs.Parts.{chosen, same_some, nothing_is, position_reads, window_reads, claim_reads, train_reads, stop_reads, IsStop, run_reads, IsRun, IsListOf, list_reads}
 
@@ -94,9 +95,9 @@ kind_takes : (old new : Unread) (x : Kind) → IsBytes old.left → kind_field o
 unfolding kind_field
 kind_takes old new x fits e = kind_meaning_reads.takes old new x fits e
 
-kind_again : (old : Unread) (x : Kind) (rest : List ℕ) → Unit {0} → old.left ≡ (byte_of x ∷ []) ++ rest → Finds (kind_field old) x rest
+kind_again : (x : Kind) → Unit {0} → Spells (byte_of x ∷ []) kind_field x
 unfolding kind_field
-kind_again old x rest limits parts = kind_meaning_reads.again old x rest limits parts
+kind_again x limits = kind_meaning_reads.again x limits
 
 kind_reads : Reads kind_field (λ k. byte_of k ∷ []) (λ k. Unit {0})
 kind_reads = record { takes = kind_takes; again = kind_again }
@@ -140,15 +141,14 @@ asked_takes old new x fits e =
       refl,
     ))))))))
 
-pinned_finds : (old : Unread) (path : Path) (rest : List ℕ) → IsDeed (Grant Pinned path) → old.left ≡ deed_text (Grant Pinned path) ++ rest → Finds (pinned_field old) (Grant Pinned path) rest
+pinned_again : (path : Path) → IsDeed (Grant Pinned path) → Spells (deed_text (Grant Pinned path)) pinned_field (Grant Pinned path)
 unfolding pinned_field
-pinned_finds old path rest limits parts =
-    then_finds train_reads _ old path.train (Grant Pinned path) _ rest limits.0.train (parts ∙ append_assoc (train_text path.train) (list_text run_text path.runs) rest) (λ mid1 e1.
-    then_finds (runs_read MAX_PINNED_RUNS (omega arith)) _ mid1 path.runs (Grant Pinned path) rest rest (record { some = limits.0.some; count = limits.0.count; each = runs_fit path.runs limits.1 limits.0.runs }) e1 (λ mid2 e2.
-    record { new = mid2; found = refl; left_is = e2 }))
+pinned_again path limits =
+    then_spells (train_reads.again path.train limits.0.train) _ (
+    made_spells ((runs_read MAX_PINNED_RUNS (omega arith)).again path.runs (record { some = limits.0.some; count = limits.0.count; each = runs_fit path.runs limits.1 limits.0.runs })) _ (Grant Pinned path) refl)
 
-regroup7 : (a b c d e f g rest : List ℕ) → ((a ++ ((((b ++ c) ++ d) ++ e) ++ f)) ++ g) ++ rest ≡ a ++ (b ++ (c ++ (d ++ (e ++ (f ++ (g ++ rest))))))
-regroup7 a b c d e f g rest = simp append_assoc
+regroup7 : (a b c d e f g : List ℕ) → a ++ (b ++ (c ++ (d ++ (e ++ (f ++ g))))) ≡ (a ++ ((((b ++ c) ++ d) ++ e) ++ f)) ++ g
+regroup7 a b c d e f g = simp append_assoc
 
 -- the request of an answered grant, which has the train of the path
 abbrev asked_by : Request → Path → Deed
@@ -160,19 +160,17 @@ asked_is request path e = ap (λ (train : Train). Grant (Asked (record { train =
 stops_fit : (stops : List Stop) → All (λ stop. IsFourBytes stop.stop) stops → All (λ stop. stop.dwell ≤ MAX_DWELL) stops → AllByRecursion IsStop stops
 stops_fit stops names dwells = recursion_from_All IsStop stops (λ k d lt. (names k d lt, dwells k d lt))
 
-asked_finds : (old : Unread) (request : Request) (path : Path) (rest : List ℕ) → IsDeed (Grant (Asked request) path) → old.left ≡ deed_text (Grant (Asked request) path) ++ rest → Finds (asked_field old) (Grant (Asked request) path) rest
+asked_again : (request : Request) (path : Path) → IsDeed (Grant (Asked request) path) → Spells (deed_text (Grant (Asked request) path)) asked_field (Grant (Asked request) path)
 unfolding asked_field
-asked_finds old request path rest limits parts =
-    let deed = Grant (Asked request) path in
-    then_finds train_reads _ old path.train deed _ rest limits.0.runs.train
-    (parts ∙ regroup7 (train_text path.train) (to_be_bytes w32 request.origin) (to_be_bytes w32 request.destination) (window_text request.depart) (window_text request.arrive) (list_text stop_text request.stops) (list_text run_text path.runs) rest) (λ mid1 e1.
-    then_finds number_reads _ mid1 request.origin deed _ rest limits.1.0.origin e1 (λ mid2 e2.
-    then_finds number_reads _ mid2 request.destination deed _ rest limits.1.0.destination e2 (λ mid3 e3.
-    then_finds window_reads _ mid3 request.depart deed _ rest limits.0.request.depart e3 (λ mid4 e4.
-    then_finds window_reads _ mid4 request.arrive deed _ rest limits.0.request.arrive e4 (λ mid5 e5.
-    then_finds stops_read _ mid5 request.stops deed _ rest (record { some = omega arith; count = limits.0.request.count; each = stops_fit request.stops limits.1.0.stops limits.0.request.dwells }) e5 (λ mid6 e6.
-    then_finds (runs_read (2 ^ 32 - 1) (omega arith)) _ mid6 path.runs deed rest rest (record { some = limits.0.runs.some; count = limits.0.runs.count; each = runs_fit path.runs limits.1.1 limits.0.runs.runs }) e6 (λ mid7 e7.
-    record { new = mid7; found = ap (λ (d : Deed). Ok (d, mid7)) (asked_is request path limits.0.train); left_is = e7 })))))))
+asked_again request path limits =
+    with_text (regroup7 (train_text path.train) (to_be_bytes w32 request.origin) (to_be_bytes w32 request.destination) (window_text request.depart) (window_text request.arrive) (list_text stop_text request.stops) (list_text run_text path.runs)) (
+    then_spells (train_reads.again path.train limits.0.runs.train) _ (
+    then_spells (number_reads.again request.origin limits.1.0.origin) _ (
+    then_spells (number_reads.again request.destination limits.1.0.destination) _ (
+    then_spells (window_reads.again request.depart limits.0.request.depart) _ (
+    then_spells (window_reads.again request.arrive limits.0.request.arrive) _ (
+    then_spells (stops_read.again request.stops (record { some = omega arith; count = limits.0.request.count; each = stops_fit request.stops limits.1.0.stops limits.0.request.dwells })) _ (
+    made_spells ((runs_read (2 ^ 32 - 1) (omega arith)).again path.runs (record { some = limits.0.runs.some; count = limits.0.runs.count; each = runs_fit path.runs limits.1.1 limits.0.runs.runs })) _ (Grant (Asked request) path) (asked_is request path limits.0.train))))))))
 
 deed_takes : (k : Kind) (old new : Unread) (x : Deed) → IsBytes old.left → deed_field k old ≡ Ok (x, new) → Taken old.left (deed_text x) new.left × (IsDeed x × (what x ≡ k))
 unfolding deed_field
@@ -185,19 +183,17 @@ deed_takes kind.Free old new x fits e =
     then_takes position_reads _ _ old (x, new) fits e (λ entry mid t l e1.
     made_takes old mid new (Free entry) x deed_text (λ deed. IsDeed deed × (what deed ≡ kind.Free)) e1 t ((l, tt), refl))
 
-deed_finds : (old : Unread) (x : Deed) (rest : List ℕ) → IsDeed x → old.left ≡ deed_text x ++ rest → Finds (deed_field (what x) old) x rest
+deed_again : (x : Deed) → IsDeed x → Spells (deed_text x) (deed_field (what x)) x
 unfolding deed_field
-deed_finds old (Hold claim) rest limits parts =
-    then_finds claim_reads _ old claim (Hold claim) rest rest (limits.1, limits.0) parts (λ mid e. record { new = mid; found = refl; left_is = e })
-deed_finds old (Grant (Asked request) path) rest limits parts = asked_finds old request path rest limits parts
-deed_finds old (Grant Pinned path) rest limits parts = pinned_finds old path rest limits parts
-deed_finds old (Free entry) rest limits parts =
-    then_finds position_reads _ old entry (Free entry) rest rest limits.0 parts (λ mid e. record { new = mid; found = refl; left_is = e })
+deed_again (Hold claim) limits = made_spells (claim_reads.again claim (limits.1, limits.0)) _ (Hold claim) refl
+deed_again (Grant (Asked request) path) limits = asked_again request path limits
+deed_again (Grant Pinned path) limits = pinned_again path limits
+deed_again (Free entry) limits = made_spells (position_reads.again entry limits.0) _ (Free entry) refl
 
 deed_reads : (k : Kind) → Reads (deed_field k) deed_text (λ deed. IsDeed deed × (what deed ≡ k))
 deed_reads k = record {
   takes = deed_takes k;
-  again = λ old x rest limits parts. subst (λ (kind : Kind). Finds (deed_field kind old) x rest) limits.1 (deed_finds old x rest limits.0 parts);
+  again = λ x limits. subst (λ (kind : Kind). Spells (deed_text x) (deed_field kind) x) limits.1 (deed_again x limits.0);
 }
 
 -- ---- entries
@@ -238,20 +234,18 @@ entry_takes old new x fits e =
     (joined (joined (joined (joined (subst (λ (n : ℕ). Taken old.left (n ∷ []) mid1.left) named t1) t2) t3) t4) t5)
     (record { limits = record { owner = l4; number = l2; deed = l5.0.0 }; line = l3; deed = l5.0.1 }))))))
 
-regroup5 : (a b c d e rest : List ℕ) → ((((a ++ b) ++ c) ++ d) ++ e) ++ rest ≡ a ++ (b ++ (c ++ (d ++ (e ++ rest))))
-regroup5 a b c d e rest = simp append_assoc
+regroup5 : (a b c d e : List ℕ) → a ++ (b ++ (c ++ (d ++ e))) ≡ (((a ++ b) ++ c) ++ d) ++ e
+regroup5 a b c d e = simp append_assoc
 
-entry_again : (old : Unread) (x : Entry) (rest : List ℕ) → HasBody x → old.left ≡ body_of x ++ rest → Finds (entry_field old) x rest
+entry_again : (x : Entry) → HasBody x → Spells (body_of x) entry_field x
 unfolding entry_field
-entry_again old x rest has parts =
-    then_finds kind_reads _ old (what x.deed) x _ rest tt
-    (parts ∙ regroup5 (kind_byte x.deed ∷ []) (to_be_bytes w64 x.number) (to_be_bytes w32 x.line) (name_text x.owner) (deed_text x.deed) rest
-    ∙ ap (λ (n : ℕ). n ∷ (to_be_bytes w64 x.number ++ (to_be_bytes w32 x.line ++ (name_text x.owner ++ (deed_text x.deed ++ rest))))) (sym (what_is x.deed))) (λ mid1 e1.
-    then_finds position_reads _ mid1 x.number x _ rest has.limits.number e1 (λ mid2 e2.
-    then_finds number_reads _ mid2 x.line x _ rest has.line e2 (λ mid3 e3.
-    then_finds owner_reads _ mid3 x.owner x _ rest has.limits.owner e3 (λ mid4 e4.
-    then_finds (deed_reads (what x.deed)) _ mid4 x.deed x rest rest ((has.limits.deed, has.deed), refl) e4 (λ mid5 e5.
-    record { new = mid5; found = refl; left_is = e5 })))))
+entry_again x has =
+    with_text (regroup5 (kind_byte x.deed ∷ []) (to_be_bytes w64 x.number) (to_be_bytes w32 x.line) (name_text x.owner) (deed_text x.deed)) (
+    then_spells (with_text (ap (λ (n : ℕ). n ∷ []) (what_is x.deed)) (kind_reads.again (what x.deed) tt)) _ (
+    then_spells (position_reads.again x.number has.limits.number) _ (
+    then_spells (number_reads.again x.line has.line) _ (
+    then_spells (owner_reads.again x.owner has.limits.owner) _ (
+    made_spells ((deed_reads (what x.deed)).again x.deed ((has.limits.deed, has.deed), refl)) _ x refl)))))
 
 pub entry_reads : Reads entry_field body_of HasBody
 entry_reads = record { takes = entry_takes; again = entry_again }
@@ -280,18 +274,31 @@ body_is body x fits e =
 -- the body of an entry is read
 pub body_again : (body : List ℕ) (x : Entry) → HasBody x → body ≡ body_of x → entry_at body ≡ Ok x
 unfolding entry_at
-body_again body x has e =
-    let a = entry_reads.again (record { at = 0; left = body }) x [] has (e ∙ sym (append-nil (body_of x))) in
-    ap whole a.found ∙ rw a.left_is refl
+body_again body x has e = ap entry_at (e ∙ sym (append-nil (body_of x))) ∙ ap whole ((entry_reads.again x has).found 0 [])
 
 -- no body begins the body of another entry
 pub bodies_apart : (a b : Entry) (x y : List ℕ) → HasBody a → HasBody b → body_of a ++ x ≡ body_of b ++ y → (a ≡ b) × (x ≡ y)
 bodies_apart a b x y has_a has_b e =
-    let start : Unread = record { at = 0; left = body_of a ++ x } in
-    let first = entry_reads.again start a x has_a refl in
-    let second = entry_reads.again start b y has_b e in
-    let same = ok_is (a, first.new) (b, second.new) (sym first.found ∙ second.found) in
-    (ap (λ (p : Entry × Unread). p.0) same, sym first.left_is ∙ ap (λ (p : Entry × Unread). p.1.left) same ∙ second.left_is)
+    let first = (entry_reads.again a has_a).found 0 x in
+    let second = (entry_reads.again b has_b).found 0 y in
+    let same = ok_is (a, record { at = 0 + length (body_of a); left = x }) (b, record { at = 0 + length (body_of b); left = y }) (sym first ∙ ap (λ (left : List ℕ). entry_field (record { at = 0; left = left })) e ∙ second) in
+    (ap (λ (p : Entry × Unread). p.0) same, ap (λ (p : Entry × Unread). p.1.left) same)
+
+-- ---- where a refusal is placed
+
+pub missing_at : (entry : Entry) (count : ℕ) → HasBody entry → count < length (body_of entry) → entry_at (take count (body_of entry)) ≡ Err count
+unfolding entry_at
+missing_at entry count has lt = ap whole ((entry_reads.again entry has).short 0 count lt) ∙ ap (λ (n : ℕ). Err n) (omega arith)
+
+surplus_whole : (entry : Entry) (at : ℕ) (rest : List ℕ) → rest ≢ [] → whole (Ok (entry, record { at = at; left = rest })) ≡ Err at
+surplus_whole entry at [] some = absurd (some refl)
+surplus_whole entry at (x ∷ xs) some = rw (eqb-suc-zero (length xs)) refl
+
+pub surplus_at : (entry : Entry) (rest : List ℕ) → HasBody entry → rest ≢ [] → entry_at (body_of entry ++ rest) ≡ Err (length (body_of entry))
+unfolding entry_at
+surplus_at entry rest has some = ap whole ((entry_reads.again entry has).found 0 rest) ∙ surplus_whole entry (0 + length (body_of entry)) rest some ∙ ap (λ (n : ℕ). Err n) (omega arith)
+
+-- ---- the clauses of a reader
 
 pub is_found : (body : List ℕ) (result : Result Entry EntryFault) → IsBytes body → GivesAll result (entry_at body) → IfOk result (λ entry. HasBody entry × (body ≡ body_of entry))
 is_found body (Ok entry) fits given = body_is body entry fits given

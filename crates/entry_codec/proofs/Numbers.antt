@@ -1,17 +1,17 @@
 -- Bytes, numbers and names are read where they are spelled.
-use Rattle.std.proofs.Common.{◌≡◌, ℕ, ◌+◌, ◌^◌, ◌<◌, ◌≤◌, Bool, true, false, cond, ltb, ◌&&◌, List, [], ◌∷◌, ◌++◌, length, get_or, take, drop, Ok, Err, refl, sym, ap, subst, arith}
+use Rattle.std.proofs.Common.{◌≡◌, ℕ, ◌+◌, ◌^◌, ◌<◌, ◌≤◌, Bool, true, false, cond, ltb, ◌&&◌, List, [], ◌∷◌, ◌++◌, length, get_or, take, drop, Ok, Err, refl, sym, ap, subst, ◌∙◌, arith}
 use Rattle.std.specs.Prelude.{ℤ, FitsSigned, nat_le}
 use Rattle.std.specs.Int.{Width, w32, w64, byte_len, to_be_bytes, from_be_bytes, cast_signed, cast_unsigned}
 use Rattle.std.proofs.Math.Facts.{Fits-lt-pow, Fits-of_z, Fits-of_lt, sfits_to_z}
 use Rattle.std.proofs.lemmas.Bool.{ltb-false, leb-true, le-leb}
 use Rattle.std.proofs.lemmas.Int.{of_z-to_z, to_z-of_z}
-use Rattle.std.proofs.lemmas.List.{take_at, take-append-drop, length-take}
+use Rattle.std.proofs.lemmas.List.{take_at, take-append-drop, length-take, length-take-le}
 use Rattle.std.proofs.lemmas.Nat.{be_bytes_4, be_bytes_8, from_be_bytes-to_be_bytes_4, from_be_bytes-to_be_bytes_8}
 use Rattle.byte_fields.specs.Unread.{Unread, end_of, signed_bytes}
 use Rattle.entry_codec.specs.Body.{name_text}
 use Rattle.entry_codec.specs.Reading.{meant, if_so, is_between, bytes_field, byte_field, number_field, signed_field, name_field}
-use Rattle.entry_codec.proofs.Fields.{bytes_give}
-use Rattle.entry_codec.proofs.Readers.{IsBytes, IsBytes-take, IsBytes-drop, Taken, joined, Finds, Reads, then_takes, then_finds, made_takes, under_limits, passing_reads}
+use Rattle.entry_codec.proofs.Fields.{bytes_give, bytes_end}
+use Rattle.entry_codec.proofs.Readers.{IsBytes, IsBytes-take, IsBytes-drop, Taken, joined, Spells, Reads, then_takes, then_spells, made_takes, made_spells, under_limits, passing_reads}
 
 guard_ok : {A : Type 0} (b : Bool) (at : ℕ) (p q : A × Unread) → cond b (Err at) (Ok p) ≡ Ok q → (b ≡ false) × (p ≡ q)
 guard_ok true at p q e = absurd cc
@@ -32,11 +32,16 @@ bytes_take count old new x fits e =
     subst (λ (p : List ℕ × Unread). Taken old.left p.0 p.1.left × (length p.0 ≡ count)) g.1
     (record { parts = sym (take-append-drop count old.left); fits = IsBytes-drop count old.left fits }, omega (arith, length-take count old.left))
 
-pub bytes_read : (count : ℕ) → Reads (bytes_field count) (λ bytes. bytes) (λ bytes. length bytes ≡ count)
-bytes_read count = record {
-  takes = bytes_take count;
-  again = λ old x rest len parts. record { new = record { at = old.at + count; left = rest }; found = bytes_give old (record { at = old.at + count; left = rest }) x count parts len refl; left_is = refl };
+bytes_again : (count : ℕ) (x : List ℕ) → length x ≡ count → Spells x (bytes_field count) x
+bytes_again count x len = record {
+  found = λ at rest. bytes_give (record { at = at; left = x ++ rest }) (record { at = at + length x; left = rest }) x count refl len (omega arith);
+  short = λ at n lt.
+      let there : length (take n x) ≡ n = length-take-le n x (omega arith) in
+      bytes_end (record { at = at; left = take n x }) count (omega arith) ∙ ap (λ (m : ℕ). Err (at + m)) there;
 }
+
+pub bytes_read : (count : ℕ) → Reads (bytes_field count) (λ bytes. bytes) (λ bytes. length bytes ≡ count)
+bytes_read count = record { takes = bytes_take count; again = bytes_again count }
 
 one_byte : (bytes : List ℕ) → length bytes ≡ 1 → bytes ≡ get_or bytes 0 0 ∷ []
 one_byte [] len = absurd (omega (arith, len))
@@ -49,9 +54,9 @@ byte_takes old new x fits e =
     then_takes (bytes_read 1) _ _ old (x, new) fits e (λ bytes mid t len e1.
     made_takes old mid new (get_or bytes 0 0) x (λ b. b ∷ []) (λ b. b < 256) e1 (subst (λ (w : List ℕ). Taken old.left w mid.left) (one_byte bytes len) t) (taken_bytes old.left bytes mid.left fits t 0))
 
-byte_again : (old : Unread) (x : ℕ) (rest : List ℕ) → x < 256 → old.left ≡ x ∷ rest → Finds (byte_field old) x rest
+byte_again : (x : ℕ) → x < 256 → Spells (x ∷ []) byte_field x
 unfolding byte_field
-byte_again old x rest lt parts = then_finds (bytes_read 1) _ old (x ∷ []) x rest rest refl parts (λ mid e. record { new = mid; found = refl; left_is = e })
+byte_again x lt = made_spells ((bytes_read 1).again (x ∷ []) refl) (λ bytes. get_or bytes 0 0) x refl
 
 pub byte_reads : Reads byte_field (λ b. b ∷ []) (λ b. b < 256)
 byte_reads = record { takes = byte_takes; again = byte_again }
@@ -87,10 +92,9 @@ number_takes w limit wide old new x fits e =
     let bytes_fit = taken_bytes old.left bytes mid.left fits t in
     made_takes old mid new (from_be_bytes w bytes) x (to_be_bytes w) (λ n. n < limit) e1 (subst (λ (front : List ℕ). Taken old.left front mid.left) (sym (wide.back bytes len bytes_fit)) t) (wide.below bytes bytes_fit))
 
-number_again : (w : Width) (limit : ℕ) → IsWide w limit → (old : Unread) (x : ℕ) (rest : List ℕ) → x < limit → old.left ≡ to_be_bytes w x ++ rest → Finds (number_field w old) x rest
+number_again : (w : Width) (limit : ℕ) → IsWide w limit → (x : ℕ) → x < limit → Spells (to_be_bytes w x) (number_field w) x
 unfolding number_field
-number_again w limit wide old x rest lt parts =
-    then_finds (bytes_read (byte_len w)) _ old (to_be_bytes w x) x rest rest (wide.len x) parts (λ mid e. record { new = mid; found = ap (λ (n : ℕ). Ok (n, mid)) (wide.again x lt); left_is = e })
+number_again w limit wide x lt = made_spells ((bytes_read (byte_len w)).again (to_be_bytes w x) (wide.len x)) (from_be_bytes w) x (wide.again x lt)
 
 pub number_reads : Reads (number_field w32) (to_be_bytes w32) (λ n. n < 2 ^ 32)
 number_reads = record { takes = number_takes w32 (2 ^ 32) wide32; again = number_again w32 (2 ^ 32) wide32 }
@@ -104,10 +108,9 @@ signed_takes old new x fits e =
     then_takes long_number_reads _ _ old (x, new) fits e (λ n mid t lt e1.
     made_takes old mid new (cast_signed w64 n) x signed_bytes (λ z. FitsSigned w64 z) e1 (subst (λ (m : ℕ). Taken old.left (to_be_bytes w64 m) mid.left) (sym (of_z-to_z w64 n lt)) t) (sfits_to_z (Fits-of_lt lt)))
 
-signed_again : (old : Unread) (x : ℤ) (rest : List ℕ) → FitsSigned w64 x → old.left ≡ signed_bytes x ++ rest → Finds (signed_field old) x rest
+signed_again : (x : ℤ) → FitsSigned w64 x → Spells (signed_bytes x) signed_field x
 unfolding signed_field
-signed_again old x rest fits parts =
-    then_finds long_number_reads _ old (cast_unsigned w64 x) x rest rest (Fits-lt-pow (Fits-of_z fits)) parts (λ mid e. record { new = mid; found = ap (λ (z : ℤ). Ok (z, mid)) (to_z-of_z w64 x fits); left_is = e })
+signed_again x fits = made_spells (long_number_reads.again (cast_unsigned w64 x) (Fits-lt-pow (Fits-of_z fits))) (cast_signed w64) x (to_z-of_z w64 x fits)
 
 pub signed_reads : Reads signed_field signed_bytes (λ z. FitsSigned w64 z)
 signed_reads = record { takes = signed_takes; again = signed_again }
@@ -142,11 +145,9 @@ name_takes most test lt old new x fits e =
     let counted : Taken old.left (length x ∷ []) mid.left = subst (λ (n : ℕ). Taken old.left (n ∷ []) mid.left) (sym second.1.0) t in
     (joined counted second.0, record { some = omega (arith, l.0, second.1.0); count = omega (arith, l.1, second.1.0); test_is = second.1.1 }))
 
-name_again : (most : ℕ) (test : List ℕ → Bool) → most < 256 → (old : Unread) (x rest : List ℕ) → IsNameOf most test x → old.left ≡ name_text x ++ rest → Finds (name_field most test old) x rest
+name_again : (most : ℕ) (test : List ℕ → Bool) → most < 256 → (x : List ℕ) → IsNameOf most test x → Spells (name_text x) (name_field most test) x
 unfolding name_field
-name_again most test lt old x rest limits parts =
-    then_finds (count_reads most lt) _ old (length x) x (x ++ rest) rest (limits.some, limits.count) parts (λ mid e.
-    (passing_reads (bytes_read (length x)) test).again mid x rest (refl, limits.test_is) e)
+name_again most test lt x limits = then_spells {b = x} ((count_reads most lt).again (length x) (limits.some, limits.count)) (λ count. meant (if_so test) (bytes_field count)) ((passing_reads (bytes_read (length x)) test).again x (refl, limits.test_is))
 
 pub name_reads : (most : ℕ) (test : List ℕ → Bool) → most < 256 → Reads (name_field most test) name_text (IsNameOf most test)
 name_reads most test lt = record { takes = name_takes most test lt; again = name_again most test lt }

@@ -19,7 +19,7 @@ use Rattle.rail_types.specs.Limits.{IsTick, IsClaimWithinLimits, IsWindowWithinL
 use Rattle.entry_codec.specs.Body.{claim_text, window_text, train_text, name_text, stop_text, run_text, flag_byte, list_text}
 use Rattle.entry_codec.specs.Within.{IsFourBytes}
 use Rattle.entry_codec.specs.Reading.{Reading, done, meant, is_between, is_tick, flag_of, byte_field, name_field, limited_field, position_field, tick_field, later_field, flag_field, claim_field, window_field, train_field, stop_field, run_field, items_field, list_field}
-use Rattle.entry_codec.proofs.Readers.{IsBytes, Taken, joined, Finds, Reads, then_takes, then_finds, made_takes, under_limits, meant_reads, passing_reads}
+use Rattle.entry_codec.proofs.Readers.{IsBytes, Taken, joined, Spells, with_text, Reads, then_takes, then_spells, made_takes, made_spells, under_limits, meant_reads, passing_reads}
 use Rattle.entry_codec.proofs.Numbers.{byte_reads, number_reads, long_number_reads, signed_reads, name_reads, IsNameOf, between, is_between-true, both_true}
 
 -- ---- numbers within limits
@@ -28,9 +28,9 @@ limited_takes : (least most : ℕ) (old new : Unread) (x : ℕ) → IsBytes old.
 unfolding limited_field
 limited_takes least most old new x fits e = (passing_reads number_reads (is_between least most)).takes old new x fits e
 
-limited_again : (least most : ℕ) (old : Unread) (x : ℕ) (rest : List ℕ) → (x < 2 ^ 32) × (is_between least most x ≡ true) → old.left ≡ to_be_bytes w32 x ++ rest → Finds (limited_field least most old) x rest
+limited_again : (least most : ℕ) (x : ℕ) → (x < 2 ^ 32) × (is_between least most x ≡ true) → Spells (to_be_bytes w32 x) (limited_field least most) x
 unfolding limited_field
-limited_again least most old x rest limits parts = (passing_reads number_reads (is_between least most)).again old x rest limits parts
+limited_again least most x limits = (passing_reads number_reads (is_between least most)).again x limits
 
 pub limited_reads : (least most : ℕ) → most < 2 ^ 32 → Reads (limited_field least most) (to_be_bytes w32) (λ n. (least ≤ n) × (n ≤ most))
 limited_reads least most lt =
@@ -42,9 +42,9 @@ position_takes : (old new : Unread) (x : ℕ) → IsBytes old.left → position_
 unfolding position_field
 position_takes old new x fits e = (passing_reads long_number_reads (is_between 0 MAX_NUMBER)).takes old new x fits e
 
-position_again : (old : Unread) (x : ℕ) (rest : List ℕ) → (x < 2 ^ 64) × (is_between 0 MAX_NUMBER x ≡ true) → old.left ≡ to_be_bytes w64 x ++ rest → Finds (position_field old) x rest
+position_again : (x : ℕ) → (x < 2 ^ 64) × (is_between 0 MAX_NUMBER x ≡ true) → Spells (to_be_bytes w64 x) position_field x
 unfolding position_field
-position_again old x rest limits parts = (passing_reads long_number_reads (is_between 0 MAX_NUMBER)).again old x rest limits parts
+position_again x limits = (passing_reads long_number_reads (is_between 0 MAX_NUMBER)).again x limits
 
 pub position_reads : Reads position_field (to_be_bytes w64) (λ n. n ≤ MAX_NUMBER)
 position_reads =
@@ -73,9 +73,9 @@ tick_takes : (old new : Unread) (x : ℤ) → IsBytes old.left → tick_field ol
 unfolding tick_field
 tick_takes old new x fits e = (passing_reads signed_reads is_tick).takes old new x fits e
 
-tick_again : (old : Unread) (x : ℤ) (rest : List ℕ) → FitsSigned w64 x × (is_tick x ≡ true) → old.left ≡ signed_bytes x ++ rest → Finds (tick_field old) x rest
+tick_again : (x : ℤ) → FitsSigned w64 x × (is_tick x ≡ true) → Spells (signed_bytes x) tick_field x
 unfolding tick_field
-tick_again old x rest limits parts = (passing_reads signed_reads is_tick).again old x rest limits parts
+tick_again x limits = (passing_reads signed_reads is_tick).again x limits
 
 pub tick_reads : Reads tick_field signed_bytes IsTick
 tick_reads =
@@ -87,9 +87,9 @@ later_takes : (from : ℤ) (old new : Unread) (x : ℤ) → IsBytes old.left →
 unfolding later_field
 later_takes from old new x fits e = (passing_reads signed_reads (λ t. is_tick t && int_lt from t)).takes old new x fits e
 
-later_again : (from : ℤ) (old : Unread) (x : ℤ) (rest : List ℕ) → FitsSigned w64 x × ((is_tick x && int_lt from x) ≡ true) → old.left ≡ signed_bytes x ++ rest → Finds (later_field from old) x rest
+later_again : (from : ℤ) (x : ℤ) → FitsSigned w64 x × ((is_tick x && int_lt from x) ≡ true) → Spells (signed_bytes x) (later_field from) x
 unfolding later_field
-later_again from old x rest limits parts = (passing_reads signed_reads (λ t. is_tick t && int_lt from t)).again old x rest limits parts
+later_again from x limits = (passing_reads signed_reads (λ t. is_tick t && int_lt from t)).again x limits
 
 pub later_reads : (from : ℤ) → Reads (later_field from) signed_bytes (λ t. IsTick t × (from <ℤ t))
 later_reads from =
@@ -134,27 +134,24 @@ flag_takes : (old new : Unread) (x : Bool) → IsBytes old.left → flag_field o
 unfolding flag_field
 flag_takes old new x fits e = flag_meaning_reads.takes old new x fits e
 
-flag_again : (old : Unread) (x : Bool) (rest : List ℕ) → Unit {0} → old.left ≡ (flag_byte x ∷ []) ++ rest → Finds (flag_field old) x rest
+flag_again : (x : Bool) → Unit {0} → Spells (flag_byte x ∷ []) flag_field x
 unfolding flag_field
-flag_again old x rest limits parts = flag_meaning_reads.again old x rest limits parts
+flag_again x limits = flag_meaning_reads.again x limits
 
 pub flag_reads : Reads flag_field (λ b. flag_byte b ∷ []) (λ b. Unit {0})
 flag_reads = record { takes = flag_takes; again = flag_again }
 
 -- ---- windows, claims, stops and runs
 
--- texts one behind the other, and what follows them
-regroup2 : (a b rest : List ℕ) → (a ++ b) ++ rest ≡ a ++ (b ++ rest)
-regroup2 a b rest = append_assoc a b rest
+-- texts one behind the other
+regroup3 : (a b c : List ℕ) → a ++ (b ++ c) ≡ (a ++ b) ++ c
+regroup3 a b c = simp append_assoc
 
-regroup3 : (a b c rest : List ℕ) → ((a ++ b) ++ c) ++ rest ≡ a ++ (b ++ (c ++ rest))
-regroup3 a b c rest = simp append_assoc
+regroup4 : (a b c d : List ℕ) → a ++ (b ++ (c ++ d)) ≡ ((a ++ b) ++ c) ++ d
+regroup4 a b c d = simp append_assoc
 
-regroup4 : (a b c d rest : List ℕ) → (((a ++ b) ++ c) ++ d) ++ rest ≡ a ++ (b ++ (c ++ (d ++ rest)))
-regroup4 a b c d rest = simp append_assoc
-
-regroup6 : (a b c d e f rest : List ℕ) → (((((a ++ b) ++ c) ++ d) ++ e) ++ f) ++ rest ≡ a ++ (b ++ (c ++ (d ++ (e ++ (f ++ rest)))))
-regroup6 a b c d e f rest = simp append_assoc
+regroup6 : (a b c d e f : List ℕ) → a ++ (b ++ (c ++ (d ++ (e ++ f)))) ≡ ((((a ++ b) ++ c) ++ d) ++ e) ++ f
+regroup6 a b c d e f = simp append_assoc
 
 window_takes : (old new : Unread) (x : Window) → IsBytes old.left → window_field old ≡ Ok (x, new) → Taken old.left (window_text x) new.left × IsWindowWithinLimits x
 unfolding window_field
@@ -163,12 +160,11 @@ window_takes old new x fits e =
     then_takes tick_reads _ _ mid1 (x, new) t1.fits e1 (λ to mid2 t2 l2 e2.
     made_takes old mid2 new (record { from = from; to = to }) x window_text IsWindowWithinLimits e2 (joined t1 t2) (record { from = l1; to = l2 })))
 
-window_again : (old : Unread) (x : Window) (rest : List ℕ) → IsWindowWithinLimits x → old.left ≡ window_text x ++ rest → Finds (window_field old) x rest
+window_again : (x : Window) → IsWindowWithinLimits x → Spells (window_text x) window_field x
 unfolding window_field
-window_again old x rest limits parts =
-    then_finds tick_reads _ old x.from x _ rest limits.from (parts ∙ regroup2 (signed_bytes x.from) (signed_bytes x.to) rest) (λ mid1 e1.
-    then_finds tick_reads _ mid1 x.to x rest rest limits.to e1 (λ mid2 e2.
-    record { new = mid2; found = refl; left_is = e2 }))
+window_again x limits =
+    then_spells (tick_reads.again x.from limits.from) _ (
+    made_spells (tick_reads.again x.to limits.to) _ x refl)
 
 pub window_reads : Reads window_field window_text IsWindowWithinLimits
 window_reads = record { takes = window_takes; again = window_again }
@@ -184,13 +180,13 @@ claim_takes old new x fits e =
     then_takes (later_reads from) _ _ mid2 (x, new) t2.fits e2 (λ to mid3 t3 l3 e3.
     made_takes old mid3 new (record { zone = zone; span = record { from = from; to = to } }) x claim_text IsClaim e3 (joined (joined t1 t2) t3) (l1, record { from = l2; to = l3.0; ordered = l3.1 }))))
 
-claim_again : (old : Unread) (x : Claim) (rest : List ℕ) → IsClaim x → old.left ≡ claim_text x ++ rest → Finds (claim_field old) x rest
+claim_again : (x : Claim) → IsClaim x → Spells (claim_text x) claim_field x
 unfolding claim_field
-claim_again old x rest limits parts =
-    then_finds number_reads _ old x.zone x _ rest limits.0 (parts ∙ regroup3 (to_be_bytes w32 x.zone) (signed_bytes x.span.from) (signed_bytes x.span.to) rest) (λ mid1 e1.
-    then_finds tick_reads _ mid1 x.span.from x _ rest limits.1.from e1 (λ mid2 e2.
-    then_finds (later_reads x.span.from) _ mid2 x.span.to x rest rest (limits.1.to, limits.1.ordered) e2 (λ mid3 e3.
-    record { new = mid3; found = refl; left_is = e3 })))
+claim_again x limits =
+    with_text (regroup3 (to_be_bytes w32 x.zone) (signed_bytes x.span.from) (signed_bytes x.span.to)) (
+    then_spells (number_reads.again x.zone limits.0) _ (
+    then_spells (tick_reads.again x.span.from limits.1.from) _ (
+    made_spells ((later_reads x.span.from).again x.span.to (limits.1.to, limits.1.ordered)) _ x refl)))
 
 pub claim_reads : Reads claim_field claim_text IsClaim
 claim_reads = record { takes = claim_takes; again = claim_again }
@@ -208,12 +204,11 @@ stop_takes old new x fits e =
     then_takes dwell_reads _ _ mid1 (x, new) t1.fits e1 (λ dwell mid2 t2 l2 e2.
     made_takes old mid2 new (record { stop = stop; dwell = dwell }) x stop_text IsStop e2 (joined t1 t2) (l1, l2.1)))
 
-stop_again : (old : Unread) (x : Stop) (rest : List ℕ) → IsStop x → old.left ≡ stop_text x ++ rest → Finds (stop_field old) x rest
+stop_again : (x : Stop) → IsStop x → Spells (stop_text x) stop_field x
 unfolding stop_field
-stop_again old x rest limits parts =
-    then_finds number_reads _ old x.stop x _ rest limits.0 (parts ∙ regroup2 (to_be_bytes w32 x.stop) (to_be_bytes w32 x.dwell) rest) (λ mid1 e1.
-    then_finds dwell_reads _ mid1 x.dwell x rest rest (omega arith, limits.1) e1 (λ mid2 e2.
-    record { new = mid2; found = refl; left_is = e2 }))
+stop_again x limits =
+    then_spells (number_reads.again x.stop limits.0) _ (
+    made_spells (dwell_reads.again x.dwell (omega arith, limits.1)) _ x refl)
 
 pub stop_reads : Reads stop_field stop_text IsStop
 stop_reads = record { takes = stop_takes; again = stop_again }
@@ -230,14 +225,14 @@ run_takes old new x fits e =
     then_takes flag_reads _ _ mid3 (x, new) t3.fits e3 (λ stops mid4 t4 l4 e4.
     made_takes old mid4 new (record { block = block; enter = enter; leave = leave; stops = stops }) x run_text IsRun e4 (joined (joined (joined t1 t2) t3) t4) (l1, record { enter = l2; leave = l3 })))))
 
-run_again : (old : Unread) (x : Run) (rest : List ℕ) → IsRun x → old.left ≡ run_text x ++ rest → Finds (run_field old) x rest
+run_again : (x : Run) → IsRun x → Spells (run_text x) run_field x
 unfolding run_field
-run_again old x rest limits parts =
-    then_finds number_reads _ old x.block x _ rest limits.0 (parts ∙ regroup4 (to_be_bytes w32 x.block) (signed_bytes x.enter) (signed_bytes x.leave) (flag_byte x.stops ∷ []) rest) (λ mid1 e1.
-    then_finds tick_reads _ mid1 x.enter x _ rest limits.1.enter e1 (λ mid2 e2.
-    then_finds tick_reads _ mid2 x.leave x _ rest limits.1.leave e2 (λ mid3 e3.
-    then_finds flag_reads _ mid3 x.stops x rest rest tt e3 (λ mid4 e4.
-    record { new = mid4; found = refl; left_is = e4 }))))
+run_again x limits =
+    with_text (regroup4 (to_be_bytes w32 x.block) (signed_bytes x.enter) (signed_bytes x.leave) (flag_byte x.stops ∷ [])) (
+    then_spells (number_reads.again x.block limits.0) _ (
+    then_spells (tick_reads.again x.enter limits.1.enter) _ (
+    then_spells (tick_reads.again x.leave limits.1.leave) _ (
+    made_spells (flag_reads.again x.stops tt) _ x refl))))
 
 pub run_reads : Reads run_field run_text IsRun
 run_reads = record { takes = run_takes; again = run_again }
@@ -265,17 +260,16 @@ train_takes old new x fits e =
     made_takes old mid6 new (record { name = name; length_m = length_m; speed = speed; accel = accel; brake = brake; allowance = allowance }) x train_text IsTrainWithinLimits e6 (joined (joined (joined (joined (joined t1 t2) t3) t4) t5) t6)
     (record { named = (l1.some, l1.count, IsUtf8-from_is_utf8 name l1.test_is); length_m = l2; speed = l3; accel = l4; brake = l5; allowance = l6.1 })))))))
 
-train_again : (old : Unread) (x : Train) (rest : List ℕ) → IsTrainWithinLimits x → old.left ≡ train_text x ++ rest → Finds (train_field old) x rest
+train_again : (x : Train) → IsTrainWithinLimits x → Spells (train_text x) train_field x
 unfolding train_field
-train_again old x rest limits parts =
-    then_finds train_name_reads _ old x.name x _ rest (record { some = limits.named.0; count = limits.named.1; test_is = is_utf8-from_IsUtf8 x.name limits.named.2 })
-    (parts ∙ regroup6 (name_text x.name) (to_be_bytes w32 x.length_m) (to_be_bytes w32 x.speed) (to_be_bytes w32 x.accel) (to_be_bytes w32 x.brake) (to_be_bytes w32 x.allowance) rest) (λ mid1 e1.
-    then_finds (from_one MAX_TRAIN_LENGTH_M (omega arith)) _ mid1 x.length_m x _ rest limits.length_m e1 (λ mid2 e2.
-    then_finds (from_one MAX_SPEED_MM_S (omega arith)) _ mid2 x.speed x _ rest limits.speed e2 (λ mid3 e3.
-    then_finds (from_one MAX_ACCEL_MM_S2 (omega arith)) _ mid3 x.accel x _ rest limits.accel e3 (λ mid4 e4.
-    then_finds (from_one MAX_ACCEL_MM_S2 (omega arith)) _ mid4 x.brake x _ rest limits.brake e4 (λ mid5 e5.
-    then_finds allowance_reads _ mid5 x.allowance x rest rest (omega arith, limits.allowance) e5 (λ mid6 e6.
-    record { new = mid6; found = refl; left_is = e6 }))))))
+train_again x limits =
+    with_text (regroup6 (name_text x.name) (to_be_bytes w32 x.length_m) (to_be_bytes w32 x.speed) (to_be_bytes w32 x.accel) (to_be_bytes w32 x.brake) (to_be_bytes w32 x.allowance)) (
+    then_spells (train_name_reads.again x.name (record { some = limits.named.0; count = limits.named.1; test_is = is_utf8-from_IsUtf8 x.name limits.named.2 })) _ (
+    then_spells ((from_one MAX_TRAIN_LENGTH_M (omega arith)).again x.length_m limits.length_m) _ (
+    then_spells ((from_one MAX_SPEED_MM_S (omega arith)).again x.speed limits.speed) _ (
+    then_spells ((from_one MAX_ACCEL_MM_S2 (omega arith)).again x.accel limits.accel) _ (
+    then_spells ((from_one MAX_ACCEL_MM_S2 (omega arith)).again x.brake limits.brake) _ (
+    made_spells (allowance_reads.again x.allowance (omega arith, limits.allowance)) _ x refl))))))
 
 pub train_reads : Reads train_field train_text IsTrainWithinLimits
 train_reads = record { takes = train_takes; again = train_again }
@@ -286,31 +280,31 @@ train_reads = record { takes = train_takes; again = train_again }
 abbrev pub AreItems : {A : Type 0} → (A → Type 0) → ℕ → List A → Type 0
 AreItems Limits count items = (length items ≡ count) × AllByRecursion Limits items
 
-none_again : {A : Type 0} (text : A → List ℕ) (Limits : A → Type 0) (old : Unread) (x : List A) (rest : List ℕ) → AreItems Limits 0 x → old.left ≡ flat_map text x ++ rest → Finds (done [] old) x rest
-none_again text Limits old [] rest limits parts = record { new = old; found = refl; left_is = parts }
-none_again text Limits old (y ∷ ys) rest limits parts = absurd (omega (arith, limits.0))
+none_again : {A : Type 0} (text : A → List ℕ) (Limits : A → Type 0) (x : List A) → AreItems Limits 0 x → Spells (flat_map text x) (done []) x
+none_again text Limits [] limits = record { found = λ at rest. ap (λ (n : ℕ). Ok ([], record { at = n; left = rest })) (omega arith); short = λ at count lt. absurd (omega arith) }
+none_again text Limits (y ∷ ys) limits = absurd (omega (arith, limits.0))
 
 more_again : {A : Type 0} (item : Reading A) (text : A → List ℕ) (Limits : A → Type 0) → Reads item text Limits → (count : ℕ) → Reads (items_field item count) (flat_map text) (AreItems Limits count)
-    → (old : Unread) (x : List A) (rest : List ℕ) → AreItems Limits (suc count) x → old.left ≡ flat_map text x ++ rest → Finds (items_field item (suc count) old) x rest
+    → (x : List A) → AreItems Limits (suc count) x → Spells (flat_map text x) (items_field item (suc count)) x
 unfolding items_field
-more_again item text Limits reads count others old [] rest limits parts = absurd (omega (arith, limits.0))
-more_again item text Limits reads count others old (y ∷ ys) rest limits parts =
-    then_finds reads _ old y (y ∷ ys) (flat_map text ys ++ rest) rest limits.1.0 (parts ∙ ap (λ (w : List ℕ). w ++ rest) (flat_map-cons text y ys) ∙ append_assoc (text y) (flat_map text ys) rest) (λ mid1 e1.
-    then_finds others _ mid1 ys (y ∷ ys) rest rest (omega (arith, limits.0), limits.1.1) e1 (λ mid2 e2.
-    record { new = mid2; found = refl; left_is = e2 }))
+more_again item text Limits reads count others [] limits = absurd (omega (arith, limits.0))
+more_again item text Limits reads count others (y ∷ ys) limits =
+    with_text (sym (flat_map-cons text y ys)) (
+    then_spells (reads.again y limits.1.0) _ (
+    made_spells (others.again ys (omega (arith, limits.0), limits.1.1)) _ (y ∷ ys) refl))
 
 pub items_read : {A : Type 0} (item : Reading A) (text : A → List ℕ) (Limits : A → Type 0) → Reads item text Limits → (count : ℕ) → Reads (items_field item count) (flat_map text) (AreItems Limits count)
 unfolding items_field
 items_read item text Limits reads zero = record {
   takes = λ old new x fits e. made_takes old old new [] x (flat_map text) (AreItems Limits 0) e (record { parts = refl; fits = fits }) (refl, tt);
-  again = λ old x rest limits parts. none_again text Limits old x rest limits parts;
+  again = none_again text Limits;
 }
 items_read {A} item text Limits reads (suc count) = record {
   takes = λ old new x fits e.
       then_takes reads _ _ old (x, new) fits e (λ first mid1 t1 l1 e1.
       then_takes (items_read item text Limits reads count) _ _ mid1 (x, new) t1.fits e1 (λ others mid2 t2 l2 e2.
       made_takes old mid2 new (first ∷ others) x (flat_map text) (AreItems Limits (suc count)) e2 (subst (λ (w : List ℕ). Taken old.left w mid2.left) (sym (flat_map-cons text first others)) (joined t1 t2)) (ap suc l2.0, (l1, l2.1))));
-  again = λ old x rest limits parts. more_again item text Limits reads count (items_read item text Limits reads count) old x rest limits parts;
+  again = more_again item text Limits reads count (items_read item text Limits reads count);
 }
 
 -- a list of so many elements at least and at most
@@ -327,12 +321,10 @@ list_takes least most lt item text Limits reads old new x fits e =
     let second = (items_read item text Limits reads count).takes mid new x t.fits e1 in
     (subst (λ (n : ℕ). Taken old.left (to_be_bytes w32 n ++ flat_map text x) new.left) (sym second.1.0) (joined t second.0), record { some = omega (arith, l.0, second.1.0); count = omega (arith, l.1, second.1.0); each = second.1.1 }))
 
-list_again : {A : Type 0} (least most : ℕ) → most < 2 ^ 32 → (item : Reading A) (text : A → List ℕ) (Limits : A → Type 0) → Reads item text Limits → (old : Unread) (x : List A) (rest : List ℕ) → IsListOf least most Limits x
-    → old.left ≡ list_text text x ++ rest → Finds (list_field least most item old) x rest
+list_again : {A : Type 0} (least most : ℕ) → most < 2 ^ 32 → (item : Reading A) (text : A → List ℕ) (Limits : A → Type 0) → Reads item text Limits → (x : List A) → IsListOf least most Limits x → Spells (list_text text x) (list_field least most item) x
 unfolding list_field
-list_again least most lt item text Limits reads old x rest limits parts =
-    then_finds (limited_reads least most lt) _ old (length x) x (flat_map text x ++ rest) rest (limits.some, limits.count) (parts ∙ regroup2 (to_be_bytes w32 (length x)) (flat_map text x) rest) (λ mid e.
-    (items_read item text Limits reads (length x)).again mid x rest (refl, limits.each) e)
+list_again least most lt item text Limits reads x limits =
+    then_spells ((limited_reads least most lt).again (length x) (limits.some, limits.count)) _ ((items_read item text Limits reads (length x)).again x (refl, limits.each))
 
 pub list_reads : {A : Type 0} (least most : ℕ) → most < 2 ^ 32 → (item : Reading A) (text : A → List ℕ) (Limits : A → Type 0) → Reads item text Limits → Reads (list_field least most item) (list_text text) (IsListOf least most Limits)
 list_reads least most lt item text Limits reads = record { takes = list_takes least most lt item text Limits reads; again = list_again least most lt item text Limits reads }

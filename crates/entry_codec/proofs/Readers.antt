@@ -1,9 +1,10 @@
 -- Fields that read a text: what they read is spelled at the front, and what is spelled there they read.
-use Rattle.std.proofs.Common.{◌≡◌, ℕ, ◌+◌, ◌<◌, Bool, true, false, cond, List, ◌++◌, get_or, take, drop, Option, Some, None, Result, Ok, Err, refl, sym, ap, subst, ◌∙◌, append_assoc, arith, inl, inr}
+use Rattle.std.proofs.Common.{◌≡◌, ℕ, ◌+◌, ◌-◌, ◌<◌, ◌≤◌, Bool, true, false, cond, List, ◌++◌, length, get_or, take, drop, Option, Some, None, Result, Ok, Err, refl, sym, ap, subst, ◌∙◌, append_assoc, arith, inl, inr, length-append}
 use Rattle.std.proofs.lemmas.Bool.{cases_lt}
-use Rattle.std.proofs.lemmas.List.{get_or-drop, get_or-take, get_or_past, length-take}
+use Rattle.std.proofs.lemmas.List.{get_or-drop, get_or-take, get_or_past, length-take, take-append-le}
+use Rattle.std.proofs.Math.Seq.{take-append-add}
 use Rattle.byte_fields.specs.Unread.{Unread}
-use Rattle.entry_codec.specs.Reading.{Reading, go_on, done, meaning_at, meant, if_so}
+use Rattle.entry_codec.specs.Reading.{Reading, go_on, ◌>>=◌, done, meaning_at, meant, if_so}
 
 abbrev pub IsBytes : List ℕ → Type 0
 IsBytes bytes = (i : ℕ) → get_or bytes i 0 < 256
@@ -26,16 +27,19 @@ pub record Taken (old text new : List ℕ) : Type 0 where
 pub joined : {a x b y c : List ℕ} → Taken a x b → Taken b y c → Taken a (x ++ y) c
 joined {a} {x} {b} {y} {c} p q = record { parts = p.parts ∙ ap (λ (t : List ℕ). x ++ t) q.parts ∙ sym (append_assoc x y c); fits = q.fits }
 
--- reading gives the value and leaves these bytes
-pub record Finds {A : Type 0} (read : Result (A × Unread) ℕ) (value : A) (left : List ℕ) : Type 0 where
-  pub new : Unread
-  pub found : read ≡ Ok (value, new)
-  pub left_is : new.left ≡ left
+-- The text spells the value: the field gives it where the text stands, whatever is behind it, and where the text breaks
+-- off, the field is wrong at the end.
+pub record Spells {A : Type 0} (text : List ℕ) (field : Reading A) (value : A) : Type 0 where
+  pub found : (at : ℕ) (rest : List ℕ) → field (record { at = at; left = text ++ rest }) ≡ Ok (value, record { at = at + length text; left = rest })
+  pub short : (at count : ℕ) → count < length text → field (record { at = at; left = take count text }) ≡ Err (at + count)
+
+pub with_text : {A : Type 0} {text text' : List ℕ} {field : Reading A} {value : A} → text ≡ text' → Spells text field value → Spells text' field value
+with_text {field = field} {value = value} e h = subst (λ (w : List ℕ). Spells w field value) e h
 
 -- the field reads the texts of the values that are within the limits
 pub record Reads {A : Type 0} (field : Reading A) (text : A → List ℕ) (Limits : A → Type 0) : Type 0 where
   pub takes : (old new : Unread) (x : A) → IsBytes old.left → field old ≡ Ok (x, new) → Taken old.left (text x) new.left × Limits x
-  pub again : (old : Unread) (x : A) (rest : List ℕ) → Limits x → old.left ≡ text x ++ rest → Finds (field old) x rest
+  pub again : (x : A) → Limits x → Spells (text x) field x
 
 -- ---- one field after another
 
@@ -50,12 +54,39 @@ then_takes {field = field} reads next P old y fits e others =
     let b = reads.takes old a.1 a.0 fits a.2 in
     others a.0 a.1 b.0 b.1 a.3
 
-pub then_finds : {A B : Type 0} {field : Reading A} {text : A → List ℕ} {Limits : A → Type 0} → Reads field text Limits → (next : A → Reading B) (old : Unread) (x : A) (y : B) (rest end : List ℕ) → Limits x → old.left ≡ text x ++ rest
-    → ((mid : Unread) → mid.left ≡ rest → Finds (next x mid) y end) → Finds (go_on (field old) next) y end
-then_finds reads next old x y rest end limits parts others =
-    let a = reads.again old x rest limits parts in
-    let b = others a.new a.left_is in
-    record { new = b.new; found = ap (λ read. go_on read next) a.found ∙ b.found; left_is = b.left_is }
+take-append-ge : {A : Type 0} (n : ℕ) (xs ys : List A) → length xs ≤ n → take n (xs ++ ys) ≡ xs ++ take (n - length xs) ys
+take-append-ge {A} n xs ys le =
+    let e : n ≡ length xs + (n - length xs) = omega arith in
+    ap (λ (k : ℕ). take k (xs ++ ys)) e ∙ take-append-add xs ys (n - length xs)
+
+pub then_spells : {A B : Type 0} {a b : List ℕ} {field : Reading A} {x : A} {y : B} → Spells a field x → (next : A → Reading B) → Spells b (next x) y → Spells (a ++ b) (field >>= next) y
+then_spells {a = a} {b} {field} {x} {y} first next second =
+    let read = λ (at : ℕ) (left : List ℕ). go_on (field (record { at = at; left = left })) next in
+    record {
+      found = λ at rest.
+          ap (read at) (append_assoc a b rest)
+          ∙ ap (λ r. go_on r next) (first.found at (b ++ rest))
+          ∙ second.found (at + length a) rest
+          ∙ ap (λ (n : ℕ). Ok (y, record { at = n; left = rest })) (omega (arith, length-append a b));
+      short = λ at count lt.
+          elim (cases_lt count (length a)) [
+            | inl within ↦ ap (read at) (take-append-le count a b (omega arith)) ∙ ap (λ r. go_on r next) (first.short at count within)
+            | inr past ↦
+                ap (read at) (take-append-ge count a b past)
+                ∙ ap (λ r. go_on r next) (first.found at (take (count - length a) b))
+                ∙ second.short (at + length a) (count - length a) (omega (arith, length-append a b))
+                ∙ ap (λ (n : ℕ). Err n) (omega arith)
+          ];
+    }
+
+pub meant_spells : {A B : Type 0} {text : List ℕ} {field : Reading A} {x : A} → Spells text field x → (meaning : A → Option B) (y : B) → meaning x ≡ Some y → Spells text (meant meaning field) y
+meant_spells {text = text} {x = x} h meaning y e = record {
+  found = λ at rest. ap (λ r. go_on r (λ value. meaning_at at (meaning value))) (h.found at rest) ∙ ap (λ o. meaning_at at o (record { at = at + length text; left = rest })) e;
+  short = λ at count lt. ap (λ r. go_on r (λ value. meaning_at at (meaning value))) (h.short at count lt);
+}
+
+pub made_spells : {A B : Type 0} {text : List ℕ} {field : Reading A} {x : A} → Spells text field x → (make : A → B) (y : B) → make x ≡ y → Spells text (field >>= λ value. done (make value)) y
+made_spells {x = x} h make y e = meant_spells h (λ value. Some (make value)) y (ap (λ v. Some v) e)
 
 abbrev pub gives_value : {A : Type 0} → A × Unread → Result (A × Unread) ℕ
 gives_value p = Ok p
@@ -72,7 +103,7 @@ made_takes {A} old mid new made x text Limits e taken limits = subst (λ (p : A 
 pub under_limits : {A : Type 0} {field : Reading A} {text : A → List ℕ} {Limits : A → Type 0} → Reads field text Limits → (Others : A → Type 0) → ((x : A) → Limits x → Others x) → ((x : A) → Others x → Limits x) → Reads field text Others
 under_limits reads Others there back = record {
   takes = λ old new x fits e. let a = reads.takes old new x fits e in (a.0, there x a.1);
-  again = λ old x rest limits parts. reads.again old x rest (back x limits) parts;
+  again = λ x limits. reads.again x (back x limits);
 }
 
 meaning_ok : {B : Type 0} (at : ℕ) (o : Option B) (mid : Unread) (y : B × Unread) → meaning_at at o mid ≡ Ok y → (b : B) × (o ≡ Some b) × (done b mid ≡ Ok y)
@@ -87,9 +118,7 @@ meant_reads {A} {B} {field} {text} {Limits} reads meaning text' Limits' sound co
       let m = meaning_ok old.at (meaning a) mid (y, new) e1 in
       let right = sound a m.0 l m.1 in
       made_takes old mid new m.0 y text' Limits' m.2 (subst (λ (w : List ℕ). Taken old.left w mid.left) right.0 t) right.1);
-  again = λ old y rest limits parts.
-      let right = complete y limits in
-      then_finds reads (λ value. meaning_at old.at (meaning value)) old right.0 y rest rest right.1 (parts ∙ ap (λ (w : List ℕ). w ++ rest) (sym right.2)) (λ mid e. record { new = mid; found = ap (λ (o : Option B). meaning_at old.at o mid) right.3; left_is = e });
+  again = λ y limits. let right = complete y limits in with_text right.2 (meant_spells (reads.again right.0 right.1) meaning y right.3);
 }
 
 if_so_ok : {A : Type 0} (test : Bool) (a b : A) → cond test (Some a) None ≡ Some b → (test ≡ true) × (a ≡ b)

@@ -7,7 +7,7 @@ mod reading;
 mod writing;
 
 pub use faults::EntryFault;
-pub use reading::{one_entry, read};
+pub use reading::{one_entry, read, refusals_are_placed};
 pub use writing::{body_len, write};
 
 #[cfg(test)]

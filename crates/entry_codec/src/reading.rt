@@ -1,6 +1,6 @@
 //! An entry read from its body.
 
-ghost use Rattle.std.specs.Prelude.{◌≡◌, ℕ, ◌++◌, List, Ok, IfOk, IfErr};
+ghost use Rattle.std.specs.Prelude.{◌≡◌, ◌≢◌, ℕ, ◌<◌, List, [], ◌++◌, length, take, Ok, Err, IfOk, IfErr};
 ghost use Rattle.std.specs.List.{list_all};
 ghost use Rattle.std.specs.Str.{is_utf8};
 ghost use Rattle.std.specs.Int.{w32, w64};
@@ -400,4 +400,11 @@ pub fn read(alloc: Global, body: &[u8]) -> Result<Entry, EntryFault>
 /// body.
 pub fn one_entry()
     ensures { (a b : entry_type) (x y : List ℕ) → HasBody a → HasBody b → body_of a ++ x ≡ body_of b ++ y → (a ≡ b) × (x ≡ y) }
+{}
+
+/// Where bytes of a body are missing, its refusal is placed at the end of those that are there; where bytes stand behind
+/// a body, at the first of them.
+pub fn refusals_are_placed()
+    ensures missing { (entry : entry_type) (count : ℕ) → HasBody entry → count < length (body_of entry) → entry_at (take count (body_of entry)) ≡ Err count }
+    ensures surplus { (entry : entry_type) (rest : List ℕ) → HasBody entry → rest ≢ [] → entry_at (body_of entry ++ rest) ≡ Err (length (body_of entry)) }
 {}

@@ -255,14 +255,14 @@ pub fn body_len(entry: &Entry) -> usize
     14 + entry.owner.as_bytes().len() + deed_len(&entry.deed)
 }
 
-/// Appends the body of an entry. For want of memory nothing is appended; where the body has room no memory is taken.
+/// Appends the body of an entry. For want of memory nothing changes; where the body has room no memory is taken.
 ///
 /// The entry is within the limits that a reader of client lines keeps: a client's name, ticks and numbers in range, a
 /// pinned path of 1 to 4,096 runs, and for a request that was asked a path of its train with at least one run.
 pub fn write(entry: &Entry, to: &mut Buffer) -> Result<(), NoMemory>
     requires { IsEntryWithinLimits entry.now }
     ensures ok { OnOk result (to.new.held ≡ to.old.held ++ body_of entry.now) }
-    ensures err { OnErr result (to.new.held ≡ to.old.held) }
+    ensures err { OnErr result (to.new ≡ to.old) }
     ensures room { length (body_of entry.now) ≤ to.old.spare → IsOk result }
     ensures spare { to.old.spare ≤ to.new.spare + length (body_of entry.now) }
     // What is written is a body, so that it is read back.

@@ -1,0 +1,5 @@
+use Rattle.entry_codec.proofs.Entries.{missing_at, surplus_at}
+use Rattle.entry_codec.proofs.reading.refusals_are_placed.Goals as goal
+
+pub returns : goal.returns
+returns c = record { missing = missing_at; surplus = surplus_at }
