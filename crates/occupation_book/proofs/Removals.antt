@@ -15,18 +15,18 @@ pub record IsRemovedBelow (owner : Owner) (old now : List Zone) (number count : 
   pub long : length now ≡ length old
   pub done : (k : ℕ) → k < number → (zone_at now k).claims ≡ claims_of_others owner (zone_at old k).claims
   pub left : (k : ℕ) → number ≤ k → zone_at now k ≡ zone_at old k
-  pub kept : (k : ℕ) → (zone_at old k).spare ≤ (zone_at now k).spare
+  pub room : (k : ℕ) → k < number → (zone_at now k).spare ≡ (zone_at old k).spare + length (claims_of owner (zone_at old k).claims)
   pub counted : count ≡ min (length (claims_of owner (held (take number old)))) 4294967295
 
 pub removed_none : (owner : Owner) (old : List Zone) → IsRemovedBelow owner old old 0 0
-removed_none owner old = record { long = refl; done = λ k below. absurd (omega arith); left = λ k from. refl; kept = λ k. omega arith; counted = refl }
+removed_none owner old = record { long = refl; done = λ k below. absurd (omega arith); left = λ k from. refl; room = λ k below. absurd (omega arith); counted = refl }
 
 -- sums that stop at a limit
 counts_add : (whole part rest count more sum : ℕ) → whole ≡ part + rest → count ≡ min part 4294967295 → more ≡ min rest 4294967295 → sum ≡ min (count + more) 4294967295 → sum ≡ min whole 4294967295
 counts_add whole part rest count more sum joined counted counts saturates = omega arith
 
-pub removed_more : (owner : Owner) (old now : List Zone) (number count : ℕ) (zone new : Zone) (more sum : ℕ) → IsRemovedBelow owner old now number count → number < length now → zone ≡ get_or now number zone → new.claims ≡ claims_of_others owner zone.claims → more ≡ min (length (claims_of owner zone.claims)) 4294967295 → zone.spare ≤ new.spare → sum ≡ min (count + more) 4294967295 → IsRemovedBelow owner old (set now number new) (number + 1) sum
-removed_more owner old now number count zone new more sum removed within read taken counts keeps saturates =
+pub removed_more : (owner : Owner) (old now : List Zone) (number count : ℕ) (zone new : Zone) (more sum : ℕ) → IsRemovedBelow owner old now number count → number < length now → zone ≡ get_or now number zone → new.claims ≡ claims_of_others owner zone.claims → more ≡ min (length (claims_of owner zone.claims)) 4294967295 → new.spare ≡ zone.spare + length (claims_of owner zone.claims) → sum ≡ min (count + more) 4294967295 → IsRemovedBelow owner old (set now number new) (number + 1) sum
+removed_more owner old now number count zone new more sum removed within read taken counts room saturates =
     let here : zone ≡ zone_at old number = at_zone now number zone within read ∙ removed.left number (omega arith) in
     let within_old : number < length old = omega (arith, removed.long) in
     let more_counted : length (claims_of owner (held (take (number + 1) old))) ≡ length (claims_of owner (held (take number old))) + length (claims_of owner zone.claims) =
@@ -40,9 +40,9 @@ removed_more owner old now number count zone new more sum removed within read ta
         | inr differs ↦ rw (get_or-set_other now number k new _ differs) (removed.done k (omega arith))
       ];
       left = λ k from. let differs : k ≡ number → ⊥ = λ same. omega arith in rw (get_or-set_other now number k new _ differs) (removed.left k (omega arith));
-      kept = λ k. elim (cases_eq k number) [
-        | inl same ↦ rw (same, at_new, ← here) keeps
-        | inr differs ↦ rw (get_or-set_other now number k new _ differs) (removed.kept k)
+      room = λ k below. elim (cases_eq k number) [
+        | inl same ↦ rw (same, at_new, ← here) room
+        | inr differs ↦ rw (get_or-set_other now number k new _ differs) (removed.room k (omega arith))
       ];
       counted = counts_add _ _ _ count more sum more_counted removed.counted counts saturates;
     }

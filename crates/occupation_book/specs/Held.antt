@@ -33,7 +33,7 @@ pub record IsFirstClash (claims : List HeldClaim) (claim : Claim) (found : HeldC
 abbrev pub AreApart : List HeldClaim → Type 0
 AreApart claims = AllPairs (λ one other. ¬ Clash one.0 other.0) claims
 
--- claims of one zone: each has ticks, and ends before all behind it begin
+-- claims of one zone: each has ticks, and ends by the tick at which any behind it begins
 pub record AreInOrder (number : ℕ) (claims : List HeldClaim) : Type 0 where
   pub on_zone : All (λ one. one.0.zone ≡ number) claims
   pub ticks : All (λ one. HasTicks one.0.span) claims
@@ -44,7 +44,7 @@ pub record IsBook (book : List Zone) : Type 0 where
   pub counted : length book < 2 ^ 32
   pub in_order : (number : ℕ) → number < length book → AreInOrder number (zone_at book number).claims
 
--- one claim is on a lower zone, or on the same zone and ends before the other begins
+-- one claim is on a lower zone, or on the same zone and ends by the tick at which the other begins
 abbrev pub ComesBefore : HeldClaim → HeldClaim → Type 0
 ComesBefore one later = (one.0.zone < later.0.zone) ⊎ ((one.0.zone ≡ later.0.zone) × (one.0.span.to ≤ℤ later.0.span.from))
 

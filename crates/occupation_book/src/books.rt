@@ -1,6 +1,6 @@
 //! The claims of all zones.
 
-ghost use Rattle.std.specs.Prelude.{◌≡◌, ◌≢◌, ℕ, ◌+◌, ◌-◌, ◌<◌, ◌≤◌, ◌∷◌, ◌^◌, ◌↔◌, [], length, map, min, IfOk, IfSome, IsNone, IsOk, IsTrue, OnOk};
+ghost use Rattle.std.specs.Prelude.{◌≡◌, ◌≢◌, ℕ, ◌+◌, ◌-◌, ◌<◌, ◌≤◌, ◌∷◌, ◌^◌, ◌↔◌, [], length, map, min, IfOk, IfSome, IsNone, IsOk, IsTrue, OnErr, OnOk};
 ghost use Rattle.std.specs.List.Sorted.{IsPermutation};
 ghost use Rattle.std.specs.List.{AllPairs};
 ghost use Rattle.rail_types.specs.declared.paths.Claim.{Claim as claim_type};
@@ -91,13 +91,14 @@ impl Occupations {
         claims.as_slice()
     }
 
-    /// Makes room for `n` more claims on a zone. The claims stay, also where memory is wanting.
+    /// Makes room for `n` more claims on a zone. The claims stay; where memory is wanting nothing changes.
     pub fn reserve(&mut self, zone: u32, n: u32) -> Result<(), NoMemory>
         requires { zone < length self.old }
         ensures claims { claims_by_zone self.new ≡ claims_by_zone self.old }
         ensures held { held self.new ≡ held self.old }
         ensures zones { length self.new ≡ length self.old }
         ensures room { OnOk result (n ≤ (zone_at self.new zone).spare) }
+        ensures err { OnErr result (self.new ≡ self.old) }
         ensures kept { (zone_at self.old zone).spare ≤ (zone_at self.new zone).spare }
         ensures had { n ≤ (zone_at self.old zone).spare → IsOk result }
         ensures others { (number : ℕ) → number ≢ zone → zone_at self.new number ≡ zone_at self.old number }
@@ -127,7 +128,7 @@ impl Occupations {
         ensures held { held self.new ≡ claims_of_others owner (held self.old) }
         ensures count { result ≡ min (length (claims_of owner (held self.old))) u32.MAX }
         ensures zones { length self.new ≡ length self.old }
-        ensures kept { (number : ℕ) → (zone_at self.old number).spare ≤ (zone_at self.new number).spare }
+        ensures room { (number : ℕ) → number < length self.old → (zone_at self.new number).spare ≡ (zone_at self.old number).spare + length (claims_of owner (zone_at self.old number).claims) }
     {
         // All zones are looked at, since nothing is freed yet. An index from an owner to the zones of its claims
         // takes the place of this loop before entries are freed.

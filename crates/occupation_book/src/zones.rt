@@ -1,6 +1,6 @@
 //! The claims of one zone.
 
-ghost use Rattle.std.specs.Prelude.{◌≡◌, ◌+◌, ◌-◌, ◌<◌, ◌≤◌, ◌∷◌, ◌<ℤ◌, ◌≤ℤ◌, [], length, min, take, drop, All, IfOk, IfSome, IsNone, OnOk, ◌↔◌, IsOk};
+ghost use Rattle.std.specs.Prelude.{◌≡◌, ◌+◌, ◌-◌, ◌<◌, ◌≤◌, ◌∷◌, ◌<ℤ◌, ◌≤ℤ◌, [], length, min, take, drop, All, IfOk, IfSome, IsNone, OnErr, OnOk, ◌↔◌, IsOk};
 ghost use Rattle.std.specs.List.{AllWithin};
 ghost use Rattle.std.specs.List.Sorted.{IsPermutation};
 ghost use Rattle.rail_types.specs.Occupation.{HasTicks};
@@ -53,6 +53,7 @@ impl ZoneClaims {
     pub(crate) fn reserve(&mut self, n: usize) -> Result<(), NoMemory>
         ensures claims { self.new.claims ≡ self.old.claims }
         ensures room { OnOk result (n ≤ self.new.spare) }
+        ensures err { OnErr result (self.new ≡ self.old) }
         ensures kept { self.old.spare ≤ self.new.spare }
         ensures had { n ≤ self.old.spare → IsOk result }
     {
@@ -77,7 +78,7 @@ impl ZoneClaims {
     pub(crate) fn remove(&mut self, owner: Owner) -> u32
         ensures claims { self.new.claims ≡ claims_of_others owner self.old.claims }
         ensures count { result ≡ min (length (claims_of owner self.old.claims)) u32.MAX }
-        ensures kept { self.old.spare ≤ self.new.spare }
+        ensures room { self.new.spare ≡ self.old.spare + length (claims_of owner self.old.claims) }
     {
         let before = self.claims.len();
         self.claims.retain(|one| !is_same_owner(&one.1, &owner));

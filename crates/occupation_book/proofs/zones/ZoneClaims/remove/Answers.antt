@@ -13,3 +13,9 @@ returns-clause-count c =
     let both = length-filter_both (λ one. is_same_owner one.1 c.args.owner) (λ one. not (is_same_owner one.1 c.args.owner)) (λ one. refl) c.self.inside.claims.items in
     let same : claims_of c.args.owner c.self.inside.claims.items ≡ claims_of c.args.owner c.args.self.now.claims = ap (λ zone. claims_of c.args.owner zone.claims) c.self.view_is in
     rw (← same) (omega (arith, both, ap length left))
+
+pub returns-clause-room : goal.returns-clause-room
+returns-clause-room c =
+    let left : c.retain.new.self.items ≡ claims_of_others c.args.owner c.self.inside.claims.items = filter_same _ (λ one. not (is_same_owner one.1 c.args.owner)) _ (λ x b f' k. search rules) _ _ c.retain.ensures.filtered in
+    let both = length-filter_both (λ one. is_same_owner one.1 c.args.owner) (λ one. not (is_same_owner one.1 c.args.owner)) (λ one. refl) c.self.inside.claims.items in
+    rw (← c.self.view_is) (omega (arith, both, ap length left, c.retain.ensures.capacity))
