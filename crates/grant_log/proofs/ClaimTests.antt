@@ -1,11 +1,12 @@
 -- What the tests of two claims mean.
-use Rattle.std.proofs.Common.{◌≡◌, ℕ, ◌<◌, ◌<ℤ◌, ◌⊎◌, Bool, true, false, nat_lt, nat_eq, int_lt, ◌||◌, inl, inr, refl, arith, ℤ}
+use Rattle.std.proofs.Common.{◌≡◌, ℕ, ◌<◌, ◌<ℤ◌, ◌⊎◌, Bool, true, false, nat_lt, nat_eq, int_lt, ◌||◌, inl, inr, sym, refl, arith, ℤ}
 use Rattle.std.proofs.lemmas.Bool.{and_parts, and_from, or_cases, cases_lt, cases_order}
 use Rattle.std.proofs.lemmas.Bool.Decides.{nat_tests}
 use Rattle.std.proofs.lemmas.Int.{ints, by_lt_z}
 use Rattle.std.proofs.lemmas.Grind.{common_steps}
 use Rattle.rail_types.specs.declared.paths.Claim.{Claim}
 use Rattle.rail_types.specs.Occupation.{Clash}
+use Rattle.grant_log.specs.Firsts.{IsNotBehind}
 use Rattle.grant_log.specs.Verdict.{clashes, is_before}
 
 -- a claim is on a lower zone, or on the same zone and begins before
@@ -38,6 +39,10 @@ clash_is a b test =
 
 pub is_clash : (a b : Claim) → Clash a b → clashes a b ≡ true
 is_clash a b clash = and_from _ _ (is_nat_eq _ _ clash.0) (and_from _ _ (is_int_lt _ _ clash.1.0) (is_int_lt _ _ clash.1.1))
+
+-- a clash is the same from either side
+pub clash_back : (a b : Claim) → Clash a b → Clash b a
+clash_back a b clash = (sym clash.0, (clash.1.1, clash.1.0))
 
 before_is : (a b : Claim) → is_before a b ≡ true → Before a b
 before_is a b test = elim (or_cases _ _ test) [
@@ -93,3 +98,13 @@ before_either a b c first late = is_before_when a c (either (before_is a b first
         | inr beyond ↦ absurd (not_late (inl (let zone = same.0 in omega arith)))
       ]
     ]
+
+-- a claim is not behind another that is not before it
+pub not_behind : (a b : Claim) → is_before b a ≡ false → IsNotBehind a b
+not_behind a b late = elim (cases_order a.zone b.zone) [
+  | inl level ↦ by_lt_z b.span.from a.span.from (λ less. absurd (not_late (inr (sym level, less)))) (λ begins. inr (level, begins))
+  | inr apart ↦ elim apart [ inl below ↦ inl below | inr beyond ↦ absurd (not_late (inl beyond)) ]
+]
+  where
+    not_late : ¬ Before b a
+    not_late before = let test = is_before_when b a before in cc

@@ -1,14 +1,15 @@
 -- The live claims that clash with one claim.
-use Rattle.std.proofs.Common.{◌≡◌, Bool, true, false, ◌||◌, List, [], ◌∷◌, get_or, filter, None, All, Contains, sym, inl, inr, refl, arith, ◌∙◌}
+use Rattle.std.proofs.Common.{◌≡◌, Bool, true, false, ◌||◌, List, [], ◌∷◌, get_or, filter, Option, Some, None, All, Contains, sym, subst, inl, inr, refl, arith, ◌∙◌}
 use Rattle.std.specs.List.{list_any}
 use Rattle.std.proofs.lemmas.Bool.{cases_Bool}
 use Rattle.std.proofs.lemmas.List.Elements.{Contains-append_right, All-nil, All-cons, All-contains, All-filter, filter_passes, All-contains_itself}
 use Rattle.rail_types.specs.declared.paths.Claim.{Claim}
 use Rattle.rail_types.specs.declared.entries.Owner.{Owner}
 use Rattle.rail_types.specs.Occupation.{Clash}
-use Rattle.grant_log.specs.Verdict.{clashes, clashing, first_clashing}
-use Rattle.grant_log.proofs.ClaimTests.{clash_is, is_clash}
-use Rattle.grant_log.proofs.Firsts.{none_when_no_first}
+use Rattle.grant_log.specs.Firsts.{IsFirstOf, IsFirstToClash}
+use Rattle.grant_log.specs.Verdict.{clashes, clashing, first_clashing, is_before}
+use Rattle.grant_log.proofs.ClaimTests.{clash_is, is_clash, not_behind}
+use Rattle.grant_log.proofs.Firsts.{find_is_first, first_exists, none_when_no_first}
 
 -- one claim clashes with one of a list of one, or not
 test_of_one : (held : Claim × Owner) (claim : Claim) → list_any (clashes held.0) (claim ∷ []) ≡ clashes held.0 claim
@@ -59,3 +60,29 @@ module _ (live : List (Claim × Owner)) (claim : Claim) where
   is_clashing held contains clash =
       let p = λ (one : Claim × Owner). list_any (clashes one.0) (claim ∷ []) in
       All-contains (λ one. p one ≡ true → Contains (filter p live) one) live held (kept_when p live) contains (test_of_one held claim ∙ is_clash held.0 claim clash)
+
+  -- where none clashes there is no first
+  pub no_first : All (λ held. ¬ Clash held.0 claim) live → first_clashing live (claim ∷ []) ≡ None
+  no_first free =
+      let first = first_exists (clashing live (claim ∷ [])) in
+      find_is_first _ first.0 first.1 ∙ none first.0 first.1
+    where
+      none : (first : Option (Claim × Owner)) → IsFirstOf (clashing live (claim ∷ [])) first → first ≡ None
+      none None is_first = refl
+      none (Some first) (place, within, here, front, all) =
+          let facts = clashing_is first (place, within, here) in
+          absurd (All-contains (λ held. ¬ Clash held.0 claim) live first free facts.0 facts.1)
+
+  pub is_first_to_clash : (first : Claim × Owner) → first_clashing live (claim ∷ []) ≡ Some first → IsFirstToClash live claim first
+  is_first_to_clash first told =
+      let one = first_exists (clashing live (claim ∷ [])) in
+      let same : one.0 ≡ Some first = sym (find_is_first _ one.0 one.1) ∙ told in
+      let is_first = subst (IsFirstOf (clashing live (claim ∷ []))) same one.1 in
+      let facts = clashing_is first (is_first.0, is_first.1, is_first.2) in
+      record {
+        is_live = facts.0;
+        clashes = facts.1;
+        others = λ k other within clash.
+            let among = is_clashing (get_or live k other) (All-contains_itself live k other within) clash in
+            not_behind first.0 (get_or live k other).0 (All-contains (λ held. is_before held.0 first.0 ≡ false) (clashing live (claim ∷ [])) (get_or live k other) is_first.4 among);
+      }

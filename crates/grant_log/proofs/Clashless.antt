@@ -13,17 +13,15 @@ use Rattle.grant_log.specs.Live.{claims_of, live_claims}
 use Rattle.grant_log.specs.Legal.{IsLegal, NoneClash}
 use Rattle.grant_log.specs.Verdict.{verdict_on}
 use Rattle.grant_log.proofs.Slices.{contains_one, is_contained, take_slice_get}
+use Rattle.grant_log.proofs.ClaimTests.{clash_back}
 use Rattle.grant_log.proofs.Clashings.{none_clash}
 use Rattle.grant_log.proofs.Fresh.{fresh_hold}
-use Rattle.grant_log.proofs.Legals.{IsOf, entry_holds, held_is, is_held, legal_take, live_of_legal}
-
--- a clash is the same from either side
-clash_back : (a b : Claim) → Clash a b → Clash b a
-clash_back a b clash = (sym clash.0, (clash.1.1, clash.1.0))
+use Rattle.grant_log.proofs.Lives.{IsOf, is_live, live_is}
+use Rattle.grant_log.proofs.Legals.{entry_holds, legal_take, none_freed}
 
 module _ (net : Network) (entries : List Entry) (legal : IsLegal net entries) where
   -- a claim of an earlier entry and one of a later entry
-  earlier_fits : (a b : Claim × Owner) (p q : ℕ) (one other : Entry) → p < q → IsOf 0 entries a p one → IsOf 0 entries b q other → ¬ Clash a.0 b.0
+  earlier_fits : (a b : Claim × Owner) (p q : ℕ) (one other : Entry) → p < q → IsOf entries 0 entries a p one → IsOf entries 0 entries b q other → ¬ Clash a.0 b.0
   earlier_fits a b p q one other less first second clash =
       let hold = entry_holds net entries legal q other second.stands in
       let claim = hold.0 in
@@ -31,14 +29,13 @@ module _ (net : Network) (entries : List Entry) (legal : IsLegal net entries) wh
       let before = take q entries in
       let free = none_clash (live_claims before) claim hold.1.free in
       let stands = take_slice_get q entries p less ∙ first.stands in
-      let among = subst (λ live. Contains live (a.0, of_entry (0 + p))) (sym (live_of_legal net before (legal_take net entries q legal))) (is_held 0 before p one a.0 stands first.claim) in
+      let among = is_live before 0 before p one a.0 stands first.claim (none_freed net before (legal_take net entries q legal) (0 + p)) in
       All-contains (λ held. ¬ Clash held.0 claim) (live_claims before) (a.0, of_entry (0 + p)) free among (subst (Clash a.0) (sym same) clash)
 
   pub never_clash : NoneClash (live_claims entries)
   never_clash i j a b here there differ clash =
-      let place : (held : Claim × Owner) → Contains (live_claims entries) held → (k : ℕ) × (entry : Entry) × IsOf 0 entries held k entry = λ held contains. held_is 0 entries held (subst (λ live. Contains live held) (live_of_legal net entries legal) contains) in
-      let first = place a (is_contained (live_claims entries) i a here) in
-      let second = place b (is_contained (live_claims entries) j b there) in
+      let first = live_is entries 0 entries a (is_contained (live_claims entries) i a here) in
+      let second = live_is entries 0 entries b (is_contained (live_claims entries) j b there) in
       elim (cases_order first.0 second.0) [
         | inl same ↦ differ (first.2.owner ∙ (ap (λ k. of_entry (0 + k)) same ∙ sym second.2.owner))
         | inr apart ↦ elim apart [

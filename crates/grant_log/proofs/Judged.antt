@@ -8,7 +8,7 @@ use Rattle.rail_types.specs.declared.entries.Deed.TheVariants.{Hold}
 use Rattle.rail_types.specs.declared.tracks.Network.{Network}
 use Rattle.rail_types.specs.Occupation.{Clash}
 use Rattle.occupation_book.specs.Held.{IsFirstClash, IsFree}
-use Rattle.grant_log.specs.declared.verdicts.Verdict.TheVariants.{Kept, Other}
+use Rattle.grant_log.specs.declared.verdicts.Verdict.TheVariants.{Fresh, Kept, Other, Taken}
 use Rattle.grant_log.specs.Live.{AreLive, live_claims}
 use Rattle.grant_log.specs.Legal.{IsLegal}
 use Rattle.grant_log.specs.Firsts.{IsFirstOf}
@@ -16,7 +16,12 @@ use Rattle.grant_log.specs.Verdict.{clashing, deed_verdict, first_clashing, hold
 use Rattle.grant_log.proofs.ClaimTests.{is_before_when}
 use Rattle.grant_log.proofs.Firsts.{find_is_first, first_exists}
 use Rattle.grant_log.proofs.Clashings.{clashing_is, is_clashing, some_clashing}
+use Rattle.grant_log.proofs.Fresh.{hold_is_new, tells_again}
 use Rattle.grant_log.proofs.Legals.{none_freed}
+
+is_taken : (held : Option (Claim × Owner)) (first : Claim) (owner : Owner) → taken_or_fresh held ≡ Taken first owner → held ≡ Some (first, owner)
+is_taken None first owner told = let wrong : Fresh ≡ Taken first owner = told in cc
+is_taken (Some (claim, other)) first owner told = let same : Taken claim other ≡ Taken first owner = told in cc
 
 module _ (entries : List Entry) (entry : Entry) (claim : Claim) (deed : entry.deed ≡ Hold claim) where
   -- a number that stands, with an entry that none has freed
@@ -30,6 +35,13 @@ module _ (entries : List Entry) (entry : Entry) (claim : Claim) (deed : entry.de
   -- a number that is new
   pub told_first : place_of entries entry.owner entry.number ≡ None → verdict_on entries entry ≡ taken_or_fresh (first_clashing (live_claims entries) (claim ∷ []))
   told_first place = ap (deed_verdict entries entry) deed ∙ ap (hold_verdict entries claim) place
+
+  -- a claim that is told is the first that clashes
+  pub told_taken : (first : Claim) (owner : Owner) → verdict_on entries entry ≡ Taken first owner → first_clashing (live_claims entries) (claim ∷ []) ≡ Some (first, owner)
+  told_taken first owner told =
+      let verdict = sym (ap (deed_verdict entries entry) deed) ∙ told in
+      let is_new = hold_is_new entries claim (place_of entries entry.owner entry.number) (ap tells_again verdict) in
+      is_taken _ first owner (sym (told_first is_new) ∙ told)
 
 module _ (held : List (Claim × Owner)) (entries : List Entry) (claim : Claim) (live : AreLive held entries) where
   -- the first of those that clash is the one that the book finds

@@ -5,8 +5,8 @@ mod Lives
 mod Clashings
 mod Fresh
 mod Slices
-mod Legals
-mod Clashless
+pub mod Legals
+pub mod Clashless
 mod Indexed
 mod Judged
 mod Following

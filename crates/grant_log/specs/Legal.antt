@@ -10,28 +10,33 @@ use Rattle.rail_types.specs.declared.entries.Owner.{Owner}
 use Rattle.rail_types.specs.declared.entries.Settings.{Settings}
 use Rattle.rail_types.specs.declared.paths.Path.{Path}
 use Rattle.rail_types.specs.declared.tracks.Network.{Network}
-use Rattle.rail_types.specs.declared.limits.TheConstants.{MAX_NUMBER}
+use Rattle.rail_types.specs.declared.limits.TheConstants.{MAX_NUMBER, MAX_PINNED_RUNS}
 use Rattle.rail_types.specs.Limits.{IsClaimWithinLimits, IsClientName, IsRequestWithinLimits, IsRunWithinLimits, IsTrainWithinLimits}
 use Rattle.rail_types.specs.Occupation.{Clash}
 use Rattle.grant_log.specs.declared.verdicts.Verdict.TheVariants.{Fresh}
 use Rattle.grant_log.specs.Verdict.{verdict_on}
 
--- the points that a request names are those of the network
+-- the numbers of a request are within their limits, and the operational points that it names are those of the network
 abbrev pub IsWantedInRange : Network → Wanted → Type 0
 IsWantedInRange net Pinned = Unit {0}
 IsWantedInRange net (Asked request) = IsRequestWithinLimits request × (request.origin < net.stops) × (request.destination < net.stops) × All (λ stop. stop.stop < net.stops) request.stops
 
--- a path of at least one run, on blocks of the network
+-- a path of at least one run, on blocks of the network, whose numbers are within their limits
 abbrev pub IsPathInRange : Network → Path → Type 0
 IsPathInRange net path = IsTrainWithinLimits path.train × (1 ≤ length path.runs) × All (λ run. (run.block < length net.blocks) × IsRunWithinLimits run) path.runs
+
+-- a path that a client gave itself has so many runs at most
+abbrev pub IsLengthInRange : Wanted → Path → Type 0
+IsLengthInRange Pinned path = length path.runs ≤ MAX_PINNED_RUNS
+IsLengthInRange (Asked request) path = Unit {0}
 
 -- the numbers of a deed are within their limits and those of the network
 abbrev pub IsDeedInRange : Network → Deed → Type 0
 IsDeedInRange net (Hold claim) = (claim.zone < net.zones) × IsClaimWithinLimits claim
-IsDeedInRange net (Grant wanted path) = IsWantedInRange net wanted × IsPathInRange net path
+IsDeedInRange net (Grant wanted path) = IsWantedInRange net wanted × IsPathInRange net path × IsLengthInRange wanted path
 IsDeedInRange net (Free at) = at ≤ MAX_NUMBER
 
--- all numbers of an entry are within their limits and those of the network, and its owner has a client's name
+-- the numbers of an entry are within their limits and those of the network, and its owner has a client's name; a line may have any number of its type
 pub record IsInRange (net : Network) (entry : Entry) : Type 0 where
   pub owner : IsClientName entry.owner
   pub number : entry.number ≤ MAX_NUMBER

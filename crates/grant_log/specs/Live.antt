@@ -1,5 +1,5 @@
 -- What stands in a history: its live claims, each with its owner.
-use Rattle.std.specs.Prelude.{ℕ, ◌+◌, Bool, false, List, [], ◌∷◌, ◌++◌, map, Option, is_some, position, nat_eq, if◌then◌else◌, ◌↔◌, Contains}
+use Rattle.std.specs.Prelude.{ℕ, ◌+◌, Bool, false, List, [], ◌∷◌, ◌++◌, map, drop, Option, option_map, is_some, position, nat_eq, if◌then◌else◌, ◌↔◌, Contains}
 use Rattle.rail_types.specs.declared.paths.Claim.{Claim}
 use Rattle.rail_types.specs.declared.entries.Entry.{Entry}
 use Rattle.rail_types.specs.declared.entries.Deed.{Deed}
@@ -19,15 +19,15 @@ frees at (Free freed) = nat_eq freed at
 frees at (Hold claim) = false
 frees at (Grant wanted path) = false
 
--- the position of the entry that frees the one at this position, None where none does
+-- the position of the first later entry that frees the one at this position, None where none does
 abbrev pub freed_by : List Entry → ℕ → Option ℕ
-freed_by entries at = position (λ entry. frees at entry.deed) entries
+freed_by entries at = option_map (λ behind. at + 1 + behind) (position (λ entry. frees at entry.deed) (drop (at + 1) entries))
 
 -- claims with the entry at this position as their owner
 abbrev pub owned_by : ℕ → List Claim → List (Claim × Owner)
 owned_by at claims = map (λ claim. (claim, of_entry at)) claims
 
--- the claims of the entry at this position of a history, none where it is freed
+-- the claims of the entry at this position of a history, none where a later one frees it
 abbrev pub live_of : List Entry → ℕ → Entry → List (Claim × Owner)
 live_of entries at entry = if is_some (freed_by entries at) then [] else owned_by at (claims_of entry.deed)
 
@@ -40,6 +40,6 @@ live_from entries at (entry ∷ others) = live_of entries at entry ++ live_from 
 abbrev pub live_claims : List Entry → List (Claim × Owner)
 live_claims entries = live_from entries 0 entries
 
--- a list of claims with owners is that of the live claims, in some order
+-- a list of claims with owners has just the live claims as its members
 abbrev pub AreLive : List (Claim × Owner) → List Entry → Type 0
 AreLive held entries = (claim : Claim × Owner) → Contains held claim ↔ Contains (live_claims entries) claim

@@ -1,7 +1,8 @@
 //! The history of one timetable.
 
-ghost use Rattle.std.specs.Prelude.{◌≡◌, ◌+◌, ◌≤◌, ◌∷◌, ◌++◌, [], length, IfOk, OnOk, option_map, slice_get};
+ghost use Rattle.std.specs.Prelude.{◌≡◌, ◌-◌, ◌≤◌, ◌∷◌, ◌++◌, [], length, max, None, IfOk, IsOk, OnErr, OnOk, option_map, slice_get};
 ghost use Rattle.rail_types.specs.Flaws.{first_flaw};
+ghost use Rattle.rail_types.specs.Limits.{IsSettingsWithinLimits};
 ghost use Rattle.occupation_book.specs.Held.{held};
 ghost use Rattle.grant_log.specs.Live.{AreLive, claims_of};
 ghost use Rattle.grant_log.specs.Legal.{IsInRange, IsLegal, Joins};
@@ -26,48 +27,56 @@ pub struct History {
     entries: Vec<Entry>,
     // The keys of the entries, in their order, so that the place of a key is the position of its entry.
     index: IndexSet<EntryKey>,
+    // For how many entries both have room, as far as it was asked for.
+    room: usize,
 }
 
 impl Model for History {
-    ghost use Rattle.std.specs.Prelude.{◌≡◌, ◌-◌, map, min, None, vec_capacity, vec_len};
+    ghost use Rattle.std.specs.Prelude.{◌≡◌, ◌+◌, ◌≤◌, map, None, vec_capacity, vec_len};
     ghost use Rattle.indexmap.specs.IndexSet.{spare as room_of};
     ghost use Rattle.rail_types.specs.Flaws.{first_flaw};
+    ghost use Rattle.rail_types.specs.Limits.{IsSettingsWithinLimits};
     ghost use Rattle.grant_log.specs.Legal.{IsLegal, Log};
     ghost use Rattle.grant_log.specs.Index.{key_of};
 
     ghost Value = { Log };
 
-    ghost view = { λ a. record { net = a.net; settings = a.settings; entries = a.entries.items; spare = min (vec_capacity a.entries - vec_len a.entries) (room_of a.index) } };
+    ghost view = { λ a. record { net = a.net; settings = a.settings; entries = a.entries.items; spare = a.room } };
 
-    ghost invariant = { λ a. record { sound : first_flaw a.net ≡ None; legal : IsLegal a.net a.entries.items; indexed : a.index.keys ≡ map key_of a.entries.items } };
+    ghost invariant = { λ a. record { sound : first_flaw a.net ≡ None; within : IsSettingsWithinLimits a.settings; legal : IsLegal a.net a.entries.items; indexed : a.index.keys ≡ map key_of a.entries.items; listed : vec_len a.entries + a.room ≤ vec_capacity a.entries; room : a.room ≤ room_of a.index } };
 }
 
 impl History {
     /// The empty history of a network without flaws.
     pub fn new(alloc: Global, net: Network, settings: Settings) -> History
-        requires { first_flaw net ≡ None }
+        requires sound { first_flaw net ≡ None }
+        requires within { IsSettingsWithinLimits settings }
         ensures net { result.net ≡ net }
         ensures settings { result.settings ≡ settings }
         ensures empty { result.entries ≡ [] }
+        ensures room { result.spare ≡ 0 }
     {
         History {
             net,
             settings,
             entries: Vec::new(alloc),
             index: IndexSet::new(alloc),
+            room: 0,
         }
     }
 
-    /// The network by which entries are judged.
+    /// The network by which entries are judged. It has no flaw.
     pub fn net(&self) -> &Network
-        ensures { result.now ≡ self.now.net }
+        ensures net { result.now ≡ self.now.net }
+        ensures sound { first_flaw self.now.net ≡ None }
     {
         &self.net
     }
 
-    /// The settings by which entries are judged.
+    /// The settings by which entries are judged. They are within their limits.
     pub fn settings(&self) -> &Settings
-        ensures { result.now ≡ self.now.settings }
+        ensures settings { result.now ≡ self.now.settings }
+        ensures within { IsSettingsWithinLimits self.now.settings }
     {
         &self.settings
     }
@@ -113,8 +122,7 @@ impl History {
         }
     }
 
-    /// What `judge` says, by the index of numbers and by a book that holds the live claims. It takes no memory, and its
-    /// work does not grow with the history.
+    /// What `judge` says, by the index of numbers and by a book that holds the live claims. It takes no memory.
     pub fn judge_by(&self, book: &Occupations, entry: &Entry) -> Verdict
         requires range { IsInRange self.now.net entry.now }
         requires zones { self.now.net.zones ≤ length book.now }
@@ -124,6 +132,7 @@ impl History {
         let Deed::Hold(claim) = &entry.deed else {
             return Verdict::NotYet;
         };
+        // A look-up and a binary search: the work does not grow with the history.
         let key = entry_key(&entry.owner, entry.number);
         match self.index.get_index_of(&key) {
             // No entry frees another yet, so what stands was kept.
@@ -132,15 +141,17 @@ impl History {
         }
     }
 
-    /// Makes room for one entry more.
+    /// Makes room for one entry more. Where there is room already it takes no memory.
     pub fn reserve(&mut self) -> Result<(), NoMemory>
-        ensures room { OnOk result (1 ≤ self.new.spare) }
-        ensures net { self.new.net ≡ self.old.net }
-        ensures settings { self.new.settings ≡ self.old.settings }
-        ensures entries { self.new.entries ≡ self.old.entries }
+        ensures ok { OnOk result (self.new ≡ record self.old { spare = max self.old.spare 1 }) }
+        ensures err { OnErr result (self.new ≡ self.old) }
+        ensures had { 1 ≤ self.old.spare → IsOk result }
     {
-        self.index.reserve(1)?;
-        self.entries.reserve(1)?;
+        if self.room == 0 {
+            self.index.reserve(1)?;
+            self.entries.reserve(1)?;
+            self.room = 1;
+        }
         Ok(())
     }
 
@@ -148,14 +159,12 @@ impl History {
     pub fn push(&mut self, entry: Entry)
         requires joins { Joins self.old.net self.old.entries entry }
         requires room { 1 ≤ self.old.spare }
-        ensures net { self.new.net ≡ self.old.net }
-        ensures settings { self.new.settings ≡ self.old.settings }
-        ensures entries { self.new.entries ≡ self.old.entries ++ entry ∷ [] }
-        ensures room { self.old.spare ≤ self.new.spare + 1 }
+        ensures { self.new ≡ record self.old { entries = self.old.entries ++ entry ∷ []; spare = self.old.spare - 1 } }
     {
         let key = entry_key(&entry.owner, entry.number);
         let indexed = self.index.insert(key);
         let Ok(_) = indexed else { unreachable!() };
         self.entries.push_reserved(entry);
+        self.room -= 1;
     }
 }

@@ -8,7 +8,10 @@ mod scans;
 mod verdicts;
 
 pub use histories::History;
-pub use laws::{fresh_entries_fit, held_claims_follow, legal_histories_never_clash};
+pub use laws::{
+    fresh_entries_fit, held_claims_follow, holds_are_judged_by_clashes,
+    legal_histories_never_clash, live_claims_are_unfreed,
+};
 pub use verdicts::Verdict;
 
 #[cfg(test)]

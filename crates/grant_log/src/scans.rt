@@ -1,6 +1,6 @@
 //! What stands in a list of entries, found by looking through all of them.
 
-ghost use Rattle.std.specs.Prelude.{◌≡◌, ◌<◌, ◌∷◌, ◌++◌, [], List, length, Some, slice_get, option_to_list};
+ghost use Rattle.std.specs.Prelude.{◌≡◌, ◌<◌, ◌∷◌, ◌++◌, [], List, length, position, Some, slice_get, option_to_list};
 ghost use Rattle.rail_types.specs.declared.paths.Claim.{Claim as claim_type};
 ghost use Rattle.rail_types.specs.declared.entries.Owner.{Owner as owner_type};
 ghost use Rattle.rail_types.specs.declared.entries.Entry.{Entry as entry_type};
@@ -87,13 +87,23 @@ fn earlier(first: Option<(Claim, Owner)>, held: (Claim, Owner)) -> (Claim, Owner
     }
 }
 
-// The position of the entry that frees the one at this position.
+// The position of the first later entry that frees the one at this position.
 fn freed_by(entries: &[Entry], at: u64) -> Option<u64>
+    requires { at < length entries.now }
     ensures { result ≡ freed_at entries.now at }
 {
-    for (freer, entry) in entries.iter().enumerate() {
+    let (_, later) = entries.split_at(at as usize + 1);
+    let behind = first_freeing(later, at)?;
+    Some(at + 1 + behind)
+}
+
+// How many entries stand before the first that frees the one at this position.
+fn first_freeing(entries: &[Entry], at: u64) -> Option<u64>
+    ensures { result ≡ position (λ entry. deed_frees at entry.deed) entries.now }
+{
+    for (behind, entry) in entries.iter().enumerate() {
         if frees(&entry.deed, at) {
-            return Some(freer as u64);
+            return Some(behind as u64);
         }
     }
     None

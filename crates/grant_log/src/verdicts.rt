@@ -10,9 +10,9 @@ use rail_types::{Claim, Deed, Entry, Owner};
 pub enum Verdict {
     /// Entries of this kind are not taken yet.
     NotYet,
-    /// The owner's number stands with the same content, at this position.
+    /// The owner's number stands with the same content, at this position, and no later entry freed it.
     Kept(u64),
-    /// The owner's number stands with the same content at the first position, and the entry at the second freed it.
+    /// The owner's number stands with the same content at the first position, and the later entry at the second freed it.
     Gone(u64, u64),
     /// The owner's number stands with another content, at this position.
     Other(u64),

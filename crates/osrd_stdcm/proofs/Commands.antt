@@ -1,5 +1,5 @@
 -- What opening and putting back leave under all names.
-use Rattle.std.proofs.Common.{◌≢◌, ◌∙◌, ℕ, List, Ok, Err, sym, inl, inr}
+use Rattle.std.proofs.Common.{◌≡◌, ◌≢◌, ◌∙◌, ℕ, List, Ok, Err, sym, inl, inr}
 use Rattle.std.specs.Io.KnownBytes.{Appends, Consumes, IsAtEnd}
 use Rattle.outside_io.specs.declared.failures.Failed.{Failed}
 use Rattle.outside_io.specs.Openings.{Answers, Foretells, Opening, source_at, sink_at, Standing as standing_type, untold, ready, taken, absent}
@@ -8,8 +8,8 @@ use Rattle.outside_io.proofs.Places.{Replaces-round}
 use Rattle.osrd_stdcm.specs.declared.sessions.Why.{Why}
 use Rattle.osrd_stdcm.specs.declared.sessions.Why.TheVariants.{Input, ReadFault, WriteFault, LongLine, LineCount, Memory}
 use Rattle.osrd_stdcm.specs.declared.words.Serve.{Serve}
-use Rattle.outside_io.specs.Stops.{StopsAt}
-use Rattle.osrd_stdcm.specs.Ends.{AreLinesOf, Ends, EndsBy, ReadStopsAt, Streams, Traffic}
+use Rattle.outside_io.specs.Stops.{ReadStopsAt, StopsAt}
+use Rattle.osrd_stdcm.specs.Ends.{AreLinesOf, Ends, EndsBy, Streams, Traffic}
 use Rattle.osrd_stdcm.specs.Session.{Caller}
 use Rattle.osrd_stdcm.specs.Run.{caller_of, CannotOpen, CanOpen, IsReady, IsShut, Under}
 use Rattle.osrd_stdcm.specs.Status.{CommandEnds, end_status, WasServed}
@@ -126,8 +126,10 @@ was_served streams standing serve why rounds opened ended = record {
     took = source_replaced (λ before after. Consumes (streams.left before) (streams.left after) ended.traffic.taken) rounds ended.passed.consumed;
     gave = sink_replaced (λ before after. Appends (streams.held before) (streams.held after) ended.traffic.gained) rounds ended.passed.appended;
     ends = ends_where (λ at_end. source_replaced (λ before after. IsAtEnd (streams.left after)) rounds at_end) why (caller_of serve) ended.traffic ended.ends;
-    read_fault = λ is. source_replaced (λ before after. ReadStopsAt streams before after ended.traffic.taken) rounds (ended.read_fault is);
+    read_fault = λ is. source_replaced (λ before after. ReadStopsAt streams.left streams.read_faults before after ended.traffic.taken) rounds (ended.read_fault is);
     write_fault = λ is. sink_replaced (λ before after. StopsAt streams.held streams.write_faults before after ended.traffic.gained) rounds (ended.write_fault is);
+    read_quiet = λ isnt. source_replaced (λ before after. streams.read_faults after ≡ streams.read_faults before) rounds (ended.read_quiet isnt);
+    write_quiet = λ isnt. sink_replaced (λ before after. streams.write_faults after ≡ streams.write_faults before) rounds (ended.write_quiet isnt);
   };
 }
 

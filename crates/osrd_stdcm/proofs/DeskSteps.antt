@@ -21,6 +21,10 @@ desk_kept owner old new book book' desk net entries zones claims = record {
   live = rw (claims, entries) desk.live;
 }
 
+-- after room was asked for in the history and in the book
+pub desk_with_room : (owner : List ℕ) (old new : Log) (spare : ℕ) (book book' : List Zone) → IsDesk owner old book → new ≡ record old { spare = spare } → length book' ≡ length book → held book' ≡ held book → IsDesk owner new book'
+desk_with_room owner old new spare book book' desk same zones claims = desk_kept owner old new book book' desk (ap (λ log. log.net) same) (ap (λ log. log.entries) same) zones claims
+
 -- the law by which live claims follow a history that grows
 abbrev pub ClaimsFollow : Type 0
 ClaimsFollow = (net : Network) (entries : List Entry) (entry : Entry) (claim : Claim) (old new : List (Claim × Owner)) → IsLegal net entries → Joins net entries entry → entry.deed ≡ Hold claim → AreLive old entries

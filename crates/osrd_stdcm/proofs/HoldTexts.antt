@@ -61,13 +61,13 @@ pub tick_in-signed : (most : ℕ) (tick : ℤ) → most < 2 ^ 63 → IsWithin mo
 tick_in-signed most (pos n) small within = tick_in-pos most n small (omega (arith, ints))
 tick_in-signed most (negsuc n) small within = let read : number_in most (decimal (suc n)) ≡ Some (suc n) = number_in-decimal most (suc n) (omega (arith, ints)) (omega (arith, ints)) in rw read refl
 
-below_reads : (zones zone : ℕ) → zones < 2 ^ 64 → zone < zones → number_below zones (decimal zone) ≡ Some zone
+pub below_reads : (zones zone : ℕ) → zones < 2 ^ 64 → zone < zones → number_below zones (decimal zone) ≡ Some zone
 below_reads zones zone small below =
     let read : number_in zones (decimal zone) ≡ Some zone = number_in-decimal zones zone (omega arith) (omega arith) in
     let is : nat_lt zone zones ≡ true = grind (arith, nat_tests) in
     rw (read, is) refl
 
-after_reads : (most : ℕ) (from to : ℤ) → most < 2 ^ 63 → IsWithin most to → int_lt from to ≡ true → tick_after most from (signed_decimal to) ≡ Some to
+pub after_reads : (most : ℕ) (from to : ℤ) → most < 2 ^ 63 → IsWithin most to → int_lt from to ≡ true → tick_after most from (signed_decimal to) ≡ Some to
 after_reads most from to small within is = rw (tick_in-signed most to small within, is) refl
 
 -- what fields ask for that are read as these numbers
@@ -97,15 +97,15 @@ pub record IsRead (word : Option (List ℕ)) (number zone : Option ℕ) (from : 
   pub some_nothing : (some : ℕ) × (nothing ≡ Some some)
 
 -- the claim, from its parts
-abbrev claim_by : Option ℕ → Option ℤ → (ℤ → Option ℤ) → Result Claim BadField
+abbrev pub claim_by : Option ℕ → Option ℤ → (ℤ → Option ℤ) → Result Claim BadField
 claim_by zone from to = or_bad 3 zone >>= (λ some_zone. or_bad 4 from >>= (λ some_from. or_bad 5 (option_map (span_to some_from) (to some_from)) >>= (λ span. Ok (record { zone = some_zone; span = span }))))
 
 -- the hold, from its parts
-abbrev hold_by : Option (List ℕ) → Option ℕ → Option ℕ → Option ℤ → (ℤ → Option ℤ) → Option ℕ → Result HoldLine BadField
+abbrev pub hold_by : Option (List ℕ) → Option ℕ → Option ℕ → Option ℤ → (ℤ → Option ℤ) → Option ℕ → Result HoldLine BadField
 hold_by word number zone from to nothing = or_bad 1 word >>= (λ some_word. or_bad 2 number >>= (λ some_number. claim_by zone from to >>= (λ claim. or_bad 6 nothing >>= (λ some_nothing. Ok (record { number = some_number; claim = claim })))))
 
 -- the hold, from its number, its zone, its first tick and the parts behind them
-abbrev ends_by : ℕ → ℕ → ℤ → Option ℤ → Option ℕ → Result HoldLine BadField
+abbrev pub ends_by : ℕ → ℕ → ℤ → Option ℤ → Option ℕ → Result HoldLine BadField
 ends_by number zone from to nothing = (or_bad 5 (option_map (span_to from) to) >>= (λ span. Ok (record { zone = zone; span = span }))) >>= (λ claim. or_bad 6 nothing >>= (λ some_nothing. Ok (record { number = number; claim = claim })))
 
 ends_read : (number zone : ℕ) (from : ℤ) (to : Option ℤ) (nothing : Option ℕ) (hold : HoldLine) → ends_by number zone from to nothing ≡ Ok hold
@@ -132,14 +132,14 @@ parts_read (Some word) (Some number) (Some zone) (Some from) to nothing hold is 
       some_nothing = ends.2;
     }
 
-word_spells : (word field some : List ℕ) → the_word word field ≡ Some some → field ≡ word
+pub word_spells : (word field some : List ℕ) → the_word word field ≡ Some some → field ≡ word
 word_spells word field some is = grind (arith, common_steps, bytes_eq-Decides field word)
 
 if_some : {X : Type 0} (test : Bool) (x y : X) → (if test then Some x else None) ≡ Some y → (test ≡ true) × (x ≡ y)
 if_some true x y is = (refl, cc)
 if_some false x y is = absurd (cc)
 
-below_spells : (zones zone : ℕ) (field : List ℕ) → zones < 2 ^ 64 → number_below zones field ≡ Some zone → (field ≡ decimal zone) × (zone < zones)
+pub below_spells : (zones zone : ℕ) (field : List ℕ) → zones < 2 ^ 64 → number_below zones field ≡ Some zone → (field ≡ decimal zone) × (zone < zones)
 below_spells zones zone field small is =
     option_and_then_some (λ n. if nat_lt n zones then Some n else None) (number_in zones field) zone is (λ n read kept.
     let both = if_some (nat_lt n zones) n zone kept in
@@ -171,7 +171,7 @@ pub tick_in-spells : (most : ℕ) (tick : ℤ) (field : List ℕ) → most < 2 ^
 tick_in-spells most tick [] small is = absurd (cc)
 tick_in-spells most tick (front ∷ rest) small is = tick_spells most tick front rest (nat_eq front 45) refl small is
 
-after_spells : (most : ℕ) (from to : ℤ) (field : List ℕ) → most < 2 ^ 63 → tick_after most from field ≡ Some to → (field ≡ signed_decimal to) × IsWithin most to × (int_lt from to ≡ true)
+pub after_spells : (most : ℕ) (from to : ℤ) (field : List ℕ) → most < 2 ^ 63 → tick_after most from field ≡ Some to → (field ≡ signed_decimal to) × IsWithin most to × (int_lt from to ≡ true)
 after_spells most from to field small is =
     option_and_then_some (λ n. if int_lt from n then Some n else None) (tick_in most field) to is (λ n read kept.
     let both = if_some (int_lt from n) n to kept in

@@ -6,3 +6,5 @@ pub mod SessionSteps
 pub mod DeskSteps
 pub mod Commands
 pub mod HoldTexts
+pub mod Legality
+pub mod FirstWrong

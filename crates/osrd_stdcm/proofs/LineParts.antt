@@ -19,7 +19,7 @@ pub record IsReading (left left' : Option (List ℕ)) (pending : List ℕ) (line
   pub came : Came left left' pending (lines.line ++ lines.pending)
   pub one : HasNoEnd lines.line
   pub short : length lines.line ≤ MAX_LINE_BYTES
-  pub later : faults ≤ faults'
+  pub quiet : faults' ≡ faults
 
 length-some : (bytes : List ℕ) → bytes ≢ [] → 0 < length bytes
 length-some [] some = absurd (some refl)
@@ -74,7 +74,7 @@ reading_at_first left lines pending faults empty same = record {
   came = record { taken = []; consumed = Consumes-nil left; bytes_are = append-nil pending ∙ sym same ∙ ap (λ front. front ++ lines.pending) (sym empty) };
   one = λ k d below. absurd (omega (arith, ap length empty));
   short = omega (arith, ap length empty);
-  later = omega arith;
+  quiet = refl;
 }
 
 pub says_line : (left left' : Option (List ℕ)) (pending : List ℕ) (old new : Lines) (faults faults' : ℕ) → IsReading left left' pending old faults faults' → FoundEnding old new → Says Line left left' pending new
@@ -137,12 +137,12 @@ says_last step left left' left'' pending old new last faults faults' reading fou
     last_says step left left'' pending last is (record { came = came; at_end = refilled.1; all = refilled.2 }) (rw same (part_lacks left left' pending old new faults faults' reading found)) (rw same found.short)
 
 pub reading_more : (left left' left'' : Option (List ℕ)) (pending : List ℕ) (old new more : Lines) (faults faults' faults'' : ℕ) → IsReading left left' pending old faults faults' → FoundPart old new
-    → Consumes left' left'' more.pending × (more.pending ≢ []) → more.line ≡ new.line → faults' ≤ faults'' → IsReading left left'' pending more faults faults''
-reading_more left left' left'' pending old new more faults faults' faults'' reading found refilled same later = record {
+    → Consumes left' left'' more.pending × (more.pending ≢ []) → more.line ≡ new.line → faults'' ≡ faults' → IsReading left left'' pending more faults faults''
+reading_more left left' left'' pending old new more faults faults' faults'' reading found refilled same quiet = record {
   came = came_as left left'' pending _ _ (ap (λ front. front ++ more.pending) (sym same)) (came_part left left' left'' pending more.pending old new faults faults' reading found refilled.0);
   one = rw same (part_lacks left left' pending old new faults faults' reading found);
   short = rw same found.short;
-  later = omega (arith, reading.later);
+  quiet = quiet ∙ reading.quiet;
 }
 
 -- with more bytes behind a part, less is left of the longest line

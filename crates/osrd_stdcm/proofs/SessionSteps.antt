@@ -2,7 +2,7 @@
 use Rattle.std.proofs.Common.{◌≡◌, ◌≢◌, ◌⊎◌, ◌∙◌, ℕ, zero, suc, ◌+◌, ◌<◌, ◌≤◌, nat_eq, List, [], ◌∷◌, ◌++◌, length, take, Option, Some, slice_get, All, refl, sym, ap, inl, inr, arith, append_assoc, append-nil}
 use Rattle.std.proofs.Math.Seq.{take-append_seam}
 use Rattle.std.proofs.lemmas.List.{take-append-le, length_push}
-use Rattle.std.proofs.lemmas.List.Elements.{All-append, All-cons, All-nil, All-tail}
+use Rattle.std.proofs.lemmas.List.Elements.{All-append, All-cons, All-head, All-nil, All-tail}
 use Rattle.std.proofs.lemmas.List.Splits.{length-slice_split, slice_split_at, slice_split_none}
 use Rattle.std.proofs.lemmas.Option.{slice_get_within}
 use Rattle.std.specs.List.{slice_split}
@@ -14,7 +14,7 @@ use Rattle.osrd_stdcm.specs.declared.sessions.Why.{Why}
 use Rattle.osrd_stdcm.specs.declared.sessions.Why.TheVariants.{Input, ReadFault, WriteFault, LongLine, LineCount, Memory}
 use Rattle.osrd_stdcm.specs.declared.streams.TheConstants.{MAX_LINES}
 use Rattle.osrd_stdcm.specs.HoldLine.{read_hold}
-use Rattle.osrd_stdcm.specs.Lines.{ended, HasNoEnd, IsLine, line_end, lines_of, without_empty_last}
+use Rattle.osrd_stdcm.specs.Lines.{ended, HasNoEnd, IsLine, line_end, lines_of, unless_empty, without_empty_last}
 use Rattle.osrd_stdcm.specs.Replies.{replies_text, reply_text}
 use Rattle.osrd_stdcm.specs.Session.{accepted, accepted_from, Caller, IsSession, IsTold, Standing, standing}
 use Rattle.osrd_stdcm.specs.Ends.{AreLinesOf, Begins, Ends, EndsAtInput, EndsBy, Passed, Streams, Traffic}
@@ -25,22 +25,22 @@ use Rattle.osrd_stdcm.specs.Serving.{last_end, SaysAnswered, TellsPart, TellsWho
 
 -- ---- lists
 
-slice_get-front : {X : Type 0} (xs ys : List X) (i : ℕ) → i < length xs → slice_get (xs ++ ys) i ≡ slice_get xs i
+pub slice_get-front : {X : Type 0} (xs ys : List X) (i : ℕ) → i < length xs → slice_get (xs ++ ys) i ≡ slice_get xs i
 slice_get-front [] ys i within = absurd (omega arith)
 slice_get-front (x ∷ xs) ys zero within = refl
 slice_get-front (x ∷ xs) ys (suc i) within = slice_get-front xs ys i (omega arith)
 
-slice_get-seam : {X : Type 0} (xs : List X) (y : X) → slice_get (xs ++ y ∷ []) (length xs) ≡ Some y
+pub slice_get-seam : {X : Type 0} (xs : List X) (y : X) → slice_get (xs ++ y ∷ []) (length xs) ≡ Some y
 slice_get-seam [] y = refl
 slice_get-seam (x ∷ xs) y = slice_get-seam xs y
 
 none_at : {X : Type 0} (i : ℕ) (x : X) → slice_get [] i ≡ Some x → ⊥
 none_at i x is = cc
 
-some_injective : {X : Type 0} {x y : X} → Some x ≡ Some y → x ≡ y
+pub some_injective : {X : Type 0} {x y : X} → Some x ≡ Some y → x ≡ y
 some_injective same = cc
 
-before_or_at : (i n : ℕ) → i < n + 1 → (i < n) ⊎ (i ≡ n)
+pub before_or_at : (i n : ℕ) → i < n + 1 → (i < n) ⊎ (i ≡ n)
 before_or_at zero zero below = inr refl
 before_or_at zero (suc n) below = inl (omega arith)
 before_or_at (suc i) zero below = absurd (omega arith)
@@ -60,19 +60,26 @@ ended-append [] line = refl
 ended-append (first ∷ lines) line = ap (λ rest. first ++ line_end ∷ rest) (ended-append lines line) ∙ sym (append_assoc first (line_end ∷ ended lines) (line ++ line_end ∷ []))
 
 -- the lines of a text that begins with lines
-pub lines_of-ended : (lines : List (List ℕ)) (rest : List ℕ) → All IsLine lines → lines_of (ended lines ++ rest) ≡ lines ++ lines_of rest
+pub lines_of-ended : (lines : List (List ℕ)) (rest : List ℕ) → All HasNoEnd lines → lines_of (ended lines ++ rest) ≡ lines ++ lines_of rest
 lines_of-ended [] rest are = refl
 lines_of-ended (line ∷ lines) rest are =
     let text : (line ++ line_end ∷ ended lines) ++ rest ≡ line ++ line_end ∷ (ended lines ++ rest) = append_assoc line (line_end ∷ ended lines) rest in
-    let split = slice_split_at (λ byte. nat_eq byte line_end) line line_end (ended lines ++ rest) (are 0 [] (omega arith)).one refl in
+    let split = slice_split_at (λ byte. nat_eq byte line_end) line line_end (ended lines ++ rest) (All-head HasNoEnd line lines are) refl in
     let parts = slice_split-parts (ended lines ++ rest) in
     ap lines_of text ∙ ap without_empty_last split ∙ ap (λ others. without_empty_last (line ∷ others)) parts.1.1
-    ∙ ap (λ others. line ∷ without_empty_last others) (sym parts.1.1) ∙ ap (λ others. line ∷ others) (lines_of-ended lines rest (All-tail IsLine line lines are))
+    ∙ ap (λ others. line ∷ without_empty_last others) (sym parts.1.1) ∙ ap (λ others. line ∷ others) (lines_of-ended lines rest (All-tail HasNoEnd line lines are))
 
 -- a text without a line end is its one line, unless it is empty
-lines_of-last : (line : List ℕ) → HasNoEnd line → line ≢ [] → lines_of line ≡ line ∷ []
-lines_of-last [] one some = absurd (some refl)
-lines_of-last (byte ∷ bytes) one some = ap without_empty_last (slice_split_none (λ byte'. nat_eq byte' line_end) (byte ∷ bytes) one)
+pub lines_of-last : (line : List ℕ) → HasNoEnd line → lines_of line ≡ unless_empty line
+lines_of-last [] one = refl
+lines_of-last (byte ∷ bytes) one = ap without_empty_last (slice_split_none (λ byte'. nat_eq byte' line_end) (byte ∷ bytes) one)
+
+unless_empty-some : (line : List ℕ) → line ≢ [] → unless_empty line ≡ line ∷ []
+unless_empty-some [] some = absurd (some refl)
+unless_empty-some (byte ∷ bytes) some = refl
+
+have_no_end : (lines : List (List ℕ)) → All IsLine lines → All HasNoEnd lines
+have_no_end lines are k other within = (are k other within).one
 
 -- ---- replies and entries
 
@@ -227,13 +234,15 @@ pub record EndsAs (why : Why) (caller : Caller) (left left' held held' : Option 
 
 -- an end that no call's failure made
 pub ends_of : {Src Snk : Type 0} (streams : Streams Src Snk) (why : Why) (caller : Caller) (src src' : Src) (snk snk' : Snk) → EndsAs why caller (streams.left src) (streams.left src') (streams.held snk) (streams.held snk')
-    → why ≢ ReadFault → why ≢ WriteFault → Ends streams why caller src src' snk snk'
-ends_of streams why caller src src' snk snk' bare no_read no_write = record {
+    → why ≢ ReadFault → why ≢ WriteFault → streams.read_faults src' ≡ streams.read_faults src → streams.write_faults snk' ≡ streams.write_faults snk → Ends streams why caller src src' snk snk'
+ends_of streams why caller src src' snk snk' bare no_read no_write read_quiet write_quiet = record {
   traffic = bare.traffic;
   passed = bare.passed;
   ends = bare.ends;
   read_fault = λ is. absurd (no_read is);
   write_fault = λ is. absurd (no_write is);
+  read_quiet = λ isnt. read_quiet;
+  write_quiet = λ isnt. write_quiet;
 }
 
 no_session : (caller : Caller) → IsSession caller [] []
@@ -267,15 +276,15 @@ ends_at_end {left = left} {left' = left'} {left'' = left''} {caller = caller} {p
   traffic = record { taken = serving.traffic.taken ++ last.came.taken; gained = serving.traffic.gained };
   passed = took _ _ _ _ _ serving.traffic pending [] serving.passed last.came;
   ends = ends_input caller _ _ serving.lines serving.replies last.at_end
-      (ap lines_of (took_text serving.lines serving.traffic.taken pending [] left' left'' serving.text last.came) ∙ lines_of-ended serving.lines [] serving.lines_are ∙ append-nil serving.lines)
+      (ap lines_of (took_text serving.lines serving.traffic.taken pending [] left' left'' serving.text last.came) ∙ lines_of-ended serving.lines [] (have_no_end serving.lines serving.lines_are) ∙ append-nil serving.lines)
       serving.lines_are (omega (arith, serving.count)) serving.session serving.replies_are;
 }
 
 lines_of-with_last : {left left' left'' held held' : Option (List ℕ)} {caller : Caller} {now : Standing} {pending line pending' : List ℕ} {number : ℕ} (serving : Serving left left' held held' caller now pending number)
     → (last : CameLastLine left' left'' pending line pending') → lines_of (serving.traffic.taken ++ last.last.came.taken) ≡ serving.lines ++ line ∷ []
 lines_of-with_last {left' = left'} {left'' = left''} {pending = pending} {line = line} serving last =
-    ap lines_of (took_text serving.lines serving.traffic.taken pending line left' left'' serving.text last.last.came) ∙ lines_of-ended serving.lines line serving.lines_are
-    ∙ ap (λ others. serving.lines ++ others) (lines_of-last line last.line_is.one last.some)
+    ap lines_of (took_text serving.lines serving.traffic.taken pending line left' left'' serving.text last.last.came) ∙ lines_of-ended serving.lines line (have_no_end serving.lines serving.lines_are)
+    ∙ ap (λ others. serving.lines ++ others) (lines_of-last line last.line_is.one ∙ unless_empty-some line last.some)
 
 pub ends_at_last : {left left' left'' held held' held'' : Option (List ℕ)} {caller : Caller} {now new : Standing} {pending line pending' : List ℕ} {number : ℕ} → Serving left left' held held' caller now pending number
     → CameLastLine left' left'' pending line pending' → TellsWhole now (number + 1) line new held' held'' → number < MAX_LINES → EndsAs Input caller left left'' held held''
@@ -309,8 +318,8 @@ ends_at_memory {left = left} {left' = left'} {left'' = left''} {held = held} {he
 -- the source failed at this state, and gave nothing more
 pub ends_in_read_fault : {Src Snk : Type 0} (streams : Streams Src Snk) (src src' src'' : Src) (snk snk' : Snk) {caller : Caller} {now : Standing} {pending : List ℕ} {number : ℕ}
     → Serving (streams.left src) (streams.left src') (streams.held snk) (streams.held snk') caller now pending number → (fault : PartThenFault streams.left streams.read_faults src' src'' pending)
-    → number ≤ MAX_LINES → (number ≡ MAX_LINES → fault.part.rest ≡ []) → Ends streams ReadFault caller src src'' snk snk'
-ends_in_read_fault streams src src' src'' snk snk' {pending = pending} serving fault most few =
+    → number ≤ MAX_LINES → (number ≡ MAX_LINES → fault.part.rest ≡ []) → streams.read_faults src' ≡ streams.read_faults src → streams.write_faults snk' ≡ streams.write_faults snk → Ends streams ReadFault caller src src'' snk snk'
+ends_in_read_fault streams src src' src'' snk snk' {pending = pending} serving fault most few read_quiet write_quiet =
     let took = Consumes-trans (streams.left src) (streams.left src') (streams.left fault.at_fault) serving.traffic.taken fault.part.came.taken serving.passed.consumed fault.part.came.consumed in record {
       traffic = record { taken = serving.traffic.taken ++ fault.part.came.taken; gained = serving.traffic.gained };
       passed = record {
@@ -327,14 +336,16 @@ ends_in_read_fault streams src src' src'' snk snk' {pending = pending} serving f
         few = λ full. few (sym serving.count ∙ full);
         answered = record { session = serving.session; replies_are = serving.replies_are };
       };
-      read_fault = λ is. record { at_fault = fault.at_fault; took = took; kept = fault.kept; rose = fault.rose };
+      read_fault = λ is. record { mid = fault.at_fault; taken_so = took; quiet = fault.quiet ∙ read_quiet; kept = fault.kept; later = fault.later; rose = fault.rose };
       write_fault = λ is. cc;
+      read_quiet = λ isnt. absurd (isnt refl);
+      write_quiet = λ isnt. write_quiet;
     }
 
 -- the source failed where nothing of a line had come
-pub fault_at_once : {Src : Type 0} (left : Src → Option (List ℕ)) (faults : Src → ℕ) (src src' : Src) (pending : List ℕ) → Keeps (left src) (left src') → pending ≡ [] → Rose (faults src) (faults src')
+pub fault_at_once : {Src : Type 0} (left : Src → Option (List ℕ)) (faults : Src → ℕ) (src src' : Src) (pending : List ℕ) → Keeps (left src) (left src') → pending ≡ [] → faults src ≤ faults src' → Rose (faults src) (faults src')
     → (fault : PartThenFault left faults src src' pending) × (fault.part.rest ≡ [])
-fault_at_once left faults src src' pending kept none rose = (
+fault_at_once left faults src src' pending kept none later rose = (
   record {
     at_fault = src;
     part = record {
@@ -343,7 +354,9 @@ fault_at_once left faults src src' pending kept none rose = (
       partial = λ k d within. absurd (omega arith);
       short = omega arith;
     };
+    quiet = refl;
     kept = kept;
+    later = later;
     rose = rose;
   },
   refl,
@@ -386,8 +399,8 @@ ends_at_line_count {pending = pending} serving more full = record {
 ends_write_fault : {Src Snk : Type 0} (streams : Streams Src Snk) (src src' src'' : Src) (snk snk' snk'' : Snk) {caller : Caller} {now : Standing} {pending bytes line : List ℕ} {number : ℕ} (new : Standing)
     (serving : Serving (streams.left src) (streams.left src') (streams.held snk) (streams.held snk') caller now pending number) → (came : Came (streams.left src') (streams.left src'') pending bytes)
     → TellsPart streams.held streams.write_faults now (number + 1) line new snk' snk'' → AreLinesOf (IsAtEnd (streams.left src'')) (serving.traffic.taken ++ came.taken) (serving.lines ++ line ∷ [])
-    → Ends streams WriteFault caller src src'' snk snk''
-ends_write_fault streams src src' src'' snk snk' snk'' {line = line} new serving came told lines_are =
+    → streams.read_faults src'' ≡ streams.read_faults src → streams.write_faults snk' ≡ streams.write_faults snk → Ends streams WriteFault caller src src'' snk snk''
+ends_write_fault streams src src' src'' snk snk' snk'' {line = line} new serving came told lines_are read_quiet write_quiet =
     let part = take told.part (reply_text told.reply) in
     let gave = Appends-trans (streams.held snk) (streams.held snk') (streams.held told.stops.mid) serving.traffic.gained part serving.passed.appended told.stops.gained_so in record {
       traffic = record { taken = serving.traffic.taken ++ came.taken; gained = serving.traffic.gained ++ part };
@@ -406,13 +419,15 @@ ends_write_fault streams src src' src'' snk snk' snk'' {line = line} new serving
         gained = ap (λ front. front ++ part) serving.replies_are;
       };
       read_fault = λ is. cc;
-      write_fault = λ is. record { mid = told.stops.mid; gained_so = gave; kept = told.stops.kept; rose = told.stops.rose };
+      write_fault = λ is. record { mid = told.stops.mid; gained_so = gave; quiet = told.stops.quiet ∙ write_quiet; kept = told.stops.kept; later = told.stops.later; rose = told.stops.rose };
+      read_quiet = λ isnt. read_quiet;
+      write_quiet = λ isnt. absurd (isnt refl);
     }
 
 pub ends_at_write_fault : {Src Snk : Type 0} (streams : Streams Src Snk) (src src' src'' : Src) (snk snk' snk'' : Snk) {caller : Caller} {now : Standing} {pending line pending' : List ℕ} {number : ℕ} (new : Standing)
     → Serving (streams.left src) (streams.left src') (streams.held snk) (streams.held snk') caller now pending number → CameLine (streams.left src') (streams.left src'') pending line pending'
-    → TellsPart streams.held streams.write_faults now (number + 1) line new snk' snk'' → number < MAX_LINES → Ends streams WriteFault caller src src'' snk snk''
-ends_at_write_fault streams src src' src'' snk snk' snk'' {pending = pending} {line = line} {pending' = pending'} new serving came told most =
+    → TellsPart streams.held streams.write_faults now (number + 1) line new snk' snk'' → number < MAX_LINES → streams.read_faults src'' ≡ streams.read_faults src → streams.write_faults snk' ≡ streams.write_faults snk → Ends streams WriteFault caller src src'' snk snk''
+ends_at_write_fault streams src src' src'' snk snk' snk'' {pending = pending} {line = line} {pending' = pending'} new serving came told most read_quiet write_quiet =
     ends_write_fault streams src src' src'' snk snk' snk'' new serving came.came told (inr (
       pending',
       record {
@@ -421,12 +436,12 @@ ends_at_write_fault streams src src' src'' snk snk' snk'' {pending = pending} {l
         lines_are = lines_with serving.lines line serving.lines_are came.line_is;
         count = omega (arith, serving.count, length_push serving.lines line);
       },
-    ))
+    )) read_quiet write_quiet
 
 ends_at_last_write_fault : {Src Snk : Type 0} (streams : Streams Src Snk) (src src' src'' : Src) (snk snk' snk'' : Snk) {caller : Caller} {now : Standing} {pending line pending' : List ℕ} {number : ℕ} (new : Standing)
     → Serving (streams.left src) (streams.left src') (streams.held snk) (streams.held snk') caller now pending number → CameLastLine (streams.left src') (streams.left src'') pending line pending'
-    → TellsPart streams.held streams.write_faults now (number + 1) line new snk' snk'' → number < MAX_LINES → Ends streams WriteFault caller src src'' snk snk''
-ends_at_last_write_fault streams src src' src'' snk snk' snk'' {line = line} new serving last told most =
+    → TellsPart streams.held streams.write_faults now (number + 1) line new snk' snk'' → number < MAX_LINES → streams.read_faults src'' ≡ streams.read_faults src → streams.write_faults snk' ≡ streams.write_faults snk → Ends streams WriteFault caller src src'' snk snk''
+ends_at_last_write_fault streams src src' src'' snk snk' snk'' {line = line} new serving last told most read_quiet write_quiet =
     ends_write_fault streams src src' src'' snk snk' snk'' new serving last.last.came told (inl (
       last.last.at_end,
       record {
@@ -434,12 +449,13 @@ ends_at_last_write_fault streams src src' src'' snk snk' snk'' {line = line} new
         lines_are = lines_with serving.lines line serving.lines_are last.line_is;
         count = omega (arith, serving.count, length_push serving.lines line);
       },
-    ))
+    )) read_quiet write_quiet
 
 -- the end with a last line, by how it was answered
 pub ends_with_last : {Src Snk : Type 0} (streams : Streams Src Snk) (src src' src'' : Src) (snk snk' snk'' : Snk) {caller : Caller} {now : Standing} {pending line pending' : List ℕ} {number : ℕ} (answered : Answered) (new : Standing)
     → Serving (streams.left src) (streams.left src') (streams.held snk) (streams.held snk') caller now pending number → CameLastLine (streams.left src') (streams.left src'') pending line pending'
-    → SaysAnswered streams.held streams.write_faults answered now (number + 1) line new snk' snk'' → number < MAX_LINES → Ends streams (last_end answered) caller src src'' snk snk''
-ends_with_last streams src src' src'' snk snk' snk'' Whole new serving last told most = ends_of streams Input _ src src'' snk snk'' (ends_at_last serving last told most) (λ is. cc) (λ is. cc)
-ends_with_last streams src src' src'' snk snk' snk'' part_written new serving last told most = ends_at_last_write_fault streams src src' src'' snk snk' snk'' new serving last told most
-ends_with_last streams src src' src'' snk snk' snk'' no_memory new serving last told most = ends_of streams Memory _ src src'' snk snk'' (ends_at_memory serving last.last.came told (omega arith)) (λ is. cc) (λ is. cc)
+    → SaysAnswered streams.held streams.write_faults answered now (number + 1) line new snk' snk'' → number < MAX_LINES → streams.read_faults src'' ≡ streams.read_faults src → streams.write_faults snk' ≡ streams.write_faults snk
+    → (answered ≢ part_written → streams.write_faults snk'' ≡ streams.write_faults snk') → Ends streams (last_end answered) caller src src'' snk snk''
+ends_with_last streams src src' src'' snk snk' snk'' Whole new serving last told most read_quiet write_quiet quiet = ends_of streams Input _ src src'' snk snk'' (ends_at_last serving last told most) (λ is. cc) (λ is. cc) read_quiet (quiet (λ is. cc) ∙ write_quiet)
+ends_with_last streams src src' src'' snk snk' snk'' part_written new serving last told most read_quiet write_quiet quiet = ends_at_last_write_fault streams src src' src'' snk snk' snk'' new serving last told most read_quiet write_quiet
+ends_with_last streams src src' src'' snk snk' snk'' no_memory new serving last told most read_quiet write_quiet quiet = ends_of streams Memory _ src src'' snk snk'' (ends_at_memory serving last.last.came told (omega arith)) (λ is. cc) (λ is. cc) read_quiet (quiet (λ is. cc) ∙ write_quiet)

@@ -1,8 +1,7 @@
 -- How a session ends, and what its sink holds then.
 use Rattle.std.specs.Prelude.{◌≡◌, ◌≢◌, ◌⊎◌, ℕ, ◌<◌, ◌≤◌, List, [], ◌∷◌, ◌++◌, length, take, All, Option}
-use Rattle.std.specs.Io.KnownBytes.{Appends, Consumes, IsAtEnd, Keeps}
-use Rattle.outside_io.specs.Faults.{Rose}
-use Rattle.outside_io.specs.Stops.{StopsAt}
+use Rattle.std.specs.Io.KnownBytes.{Appends, Consumes, IsAtEnd}
+use Rattle.outside_io.specs.Stops.{ReadStopsAt, StopsAt}
 use Rattle.osrd_stdcm.specs.declared.streams.TheConstants.{MAX_LINES, MAX_LINE_BYTES}
 use Rattle.osrd_stdcm.specs.declared.replies.Reply.{Reply}
 use Rattle.osrd_stdcm.specs.declared.sessions.Why.{Why}
@@ -121,17 +120,12 @@ pub record Streams (Src Snk : Type 0) : Type 0 where
 abbrev pub streams : {Src Snk : Type 0} → (Src → Option (List ℕ)) → (Src → ℕ) → (Snk → Option (List ℕ)) → (Snk → ℕ) → Streams Src Snk
 streams left read_faults held write_faults = record { left = left; read_faults = read_faults; held = held; write_faults = write_faults }
 
--- the source had given this when a call failed, and it gave nothing more
-pub record ReadStopsAt {Src Snk : Type 0} (streams : Streams Src Snk) (old new : Src) (taken : List ℕ) : Type 0 where
-  pub at_fault : Src
-  pub took : Consumes (streams.left old) (streams.left at_fault) taken
-  pub kept : Keeps (streams.left at_fault) (streams.left new)
-  pub rose : Rose (streams.read_faults at_fault) (streams.read_faults new)
-
--- a session ended so, and this is what passed between the states of its source and its sink
+-- a session ended so, and this is what passed between the states of its source and its sink; a fault of either ends it at once
 pub record Ends {Src Snk : Type 0} (streams : Streams Src Snk) (why : Why) (caller : Caller) (src src' : Src) (snk snk' : Snk) : Type 0 where
   pub traffic : Traffic
   pub passed : Passed (streams.left src) (streams.left src') (streams.held snk) (streams.held snk') traffic
   pub ends : EndsBy why caller traffic (IsAtEnd (streams.left src'))
-  pub read_fault : why ≡ ReadFault → ReadStopsAt streams src src' traffic.taken
+  pub read_fault : why ≡ ReadFault → ReadStopsAt streams.left streams.read_faults src src' traffic.taken
   pub write_fault : why ≡ WriteFault → StopsAt streams.held streams.write_faults snk snk' traffic.gained
+  pub read_quiet : why ≢ ReadFault → streams.read_faults src' ≡ streams.read_faults src
+  pub write_quiet : why ≢ WriteFault → streams.write_faults snk' ≡ streams.write_faults snk

@@ -3,6 +3,7 @@ pub mod Lines
 pub mod Numbers
 pub mod HoldLine
 pub mod HoldText
+pub mod Fitting
 pub mod Replies
 pub mod Streams
 pub mod Session

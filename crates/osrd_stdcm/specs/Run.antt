@@ -3,12 +3,12 @@ use Rattle.std.specs.Prelude.{◌≡◌, ◌≢◌, ◌⊎◌, ℕ, List, ⊤}
 use Rattle.std.specs.Io.KnownBytes.{Appends, Consumes, IsAtEnd}
 use Rattle.outside_io.specs.Faults.{Rose}
 use Rattle.outside_io.specs.Openings.{Opening, source_at, sink_at, Standing as standing_type, untold, ready, taken, absent}
-use Rattle.outside_io.specs.Stops.{StopsAt}
+use Rattle.outside_io.specs.Stops.{ReadStopsAt, StopsAt}
 use Rattle.outside_io.specs.Places.{Place, Replaces, Untouched}
 use Rattle.osrd_stdcm.specs.declared.sessions.Why.{Why}
 use Rattle.osrd_stdcm.specs.declared.sessions.Why.TheVariants.{Input, ReadFault, WriteFault, LongLine, LineCount, Memory}
 use Rattle.osrd_stdcm.specs.declared.words.Serve.{Serve}
-use Rattle.osrd_stdcm.specs.Ends.{EndsBy, ReadStopsAt, Streams, Traffic}
+use Rattle.osrd_stdcm.specs.Ends.{EndsBy, Streams, Traffic}
 use Rattle.osrd_stdcm.specs.Session.{Caller}
 use Rattle.osrd_stdcm.specs.Words.{Asks}
 
@@ -25,14 +25,16 @@ under sources sinks = record { sources = sources; sinks = sinks }
 abbrev pub caller_of : Serve → Caller
 caller_of serve = record { zones = serve.zones; name = serve.client.client }
 
--- what a client's session did to the source and the sink under its names
+-- what a client's session did to the source and the sink that stood under its names; their counts of faults stay, but for the fault that ended it
 pub record Served {Src Snk : Type 0} (streams : Streams Src Snk) (why : Why) (serve : Serve) (old new : Under Src Snk) : Type 0 where
   pub traffic : Traffic
   pub took : Replaces (λ before after. Consumes (streams.left before) (streams.left after) traffic.taken) (old.sources serve.client.input) (new.sources serve.client.input)
   pub gave : Replaces (λ before after. Appends (streams.held before) (streams.held after) traffic.gained) (old.sinks serve.client.output) (new.sinks serve.client.output)
   pub ends : EndsBy why (caller_of serve) traffic (Replaces (λ before after. IsAtEnd (streams.left after)) (old.sources serve.client.input) (new.sources serve.client.input))
-  pub read_fault : why ≡ ReadFault → Replaces (λ before after. ReadStopsAt streams before after traffic.taken) (old.sources serve.client.input) (new.sources serve.client.input)
+  pub read_fault : why ≡ ReadFault → Replaces (λ before after. ReadStopsAt streams.left streams.read_faults before after traffic.taken) (old.sources serve.client.input) (new.sources serve.client.input)
   pub write_fault : why ≡ WriteFault → Replaces (λ before after. StopsAt streams.held streams.write_faults before after traffic.gained) (old.sinks serve.client.output) (new.sinks serve.client.output)
+  pub read_quiet : why ≢ ReadFault → Replaces (λ before after. streams.read_faults after ≡ streams.read_faults before) (old.sources serve.client.input) (new.sources serve.client.input)
+  pub write_quiet : why ≢ WriteFault → Replaces (λ before after. streams.write_faults after ≡ streams.write_faults before) (old.sinks serve.client.output) (new.sinks serve.client.output)
 
 -- an end that is the fault of a client or of its streams
 abbrev pub IsFaulty : Why → Type 0

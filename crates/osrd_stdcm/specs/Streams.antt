@@ -54,10 +54,12 @@ pub record CamePart (left left' : Option (List ℕ)) (pending : List ℕ) : Type
   pub partial : HasNoEnd rest
   pub short : length rest ≤ MAX_LINE_BYTES
 
--- a part of a line came, and then the source failed, and gave nothing more
+-- a part of a line came up to some state without a fault, and then the source failed, and gave nothing more
 pub record PartThenFault {Src : Type 0} (left : Src → Option (List ℕ)) (faults : Src → ℕ) (src src' : Src) (pending : List ℕ) : Type 0 where
   pub at_fault : Src
   pub part : CamePart (left src) (left at_fault) pending
+  pub quiet : faults at_fault ≡ faults src
+  pub later : faults at_fault ≤ faults src'
   pub kept : Keeps (left at_fault) (left src')
   pub rose : Rose (faults at_fault) (faults src')
 

@@ -1,6 +1,6 @@
 //! Laws of the definitions, each on a function that does nothing.
 
-ghost use Rattle.std.specs.Prelude.{◌≡◌, ℕ, ◌≤◌, List, [], ◌∷◌, Ok, codes, pos, take};
+ghost use Rattle.std.specs.Prelude.{◌≡◌, ℕ, ◌≤◌, List, [], ◌∷◌, ◌++◌, All, Err, Ok, codes, pos, take};
 ghost use Rattle.rail_types.specs.declared.limits.TheConstants.{
   MAX_ACCEL_MM_S2,
   MAX_ALLOWANCE_PERCENT,
@@ -14,7 +14,6 @@ ghost use Rattle.rail_types.specs.declared.limits.TheConstants.{
   MAX_OWNER_BYTES,
   MAX_PINNED_RUNS,
   MAX_RELEASE,
-  MAX_RUNS,
   MAX_SETTING,
   MAX_SIGHT_M,
   MAX_SPEED_MM_S,
@@ -28,9 +27,16 @@ ghost use Rattle.rail_types.specs.declared.limits.TheConstants.{
 ghost use Rattle.osrd_stdcm.specs.declared.lines.TheConstants.{MAX_AMOUNT};
 ghost use Rattle.osrd_stdcm.specs.declared.streams.TheConstants.{MAX_LINES, MAX_LINE_BYTES};
 ghost use Rattle.osrd_stdcm.specs.declared.lines.HoldLine.{HoldLine as hold_type};
-ghost use Rattle.osrd_stdcm.specs.HoldLine.{IsHoldWithin, read_hold};
+ghost use Rattle.rail_types.specs.Examples.{bare};
+ghost use Rattle.rail_types.specs.Limits.{IsClientName};
+ghost use Rattle.grant_log.specs.Legal.{IsLegal, NoneClash};
+ghost use Rattle.grant_log.specs.Live.{live_claims};
+ghost use Rattle.osrd_stdcm.specs.declared.replies.Reply.{Reply as reply_type};
+ghost use Rattle.osrd_stdcm.specs.Fitting.{FieldFits, IsFirstWrong};
+ghost use Rattle.osrd_stdcm.specs.HoldLine.{fields_of, IsHoldWithin, read_hold};
 ghost use Rattle.osrd_stdcm.specs.HoldText.{hold_text};
-ghost use Rattle.osrd_stdcm.specs.Session.{standing};
+ghost use Rattle.osrd_stdcm.specs.Lines.{ended, HasNoEnd, lines_of, unless_empty};
+ghost use Rattle.osrd_stdcm.specs.Session.{Caller as caller_type, IsSession, standing};
 ghost use Rattle.osrd_stdcm.specs.SevenLines.{client_a, ended_text, entry_0, entry_1, lines_of_a, replies_to_a, told};
 
 /// The text of a hold within its limits asks for that hold, and a line that asks for a hold is the text of it.
@@ -38,6 +44,25 @@ pub fn lines_spell_their_holds()
     ensures read { (zones : ℕ) (hold : hold_type) → zones ≤ MAX_OBJECTS → IsHoldWithin zones hold → read_hold zones (hold_text hold) ≡ Ok hold }
     ensures spelled { (zones : ℕ) (line : List ℕ) (hold : hold_type) → zones ≤ MAX_OBJECTS → read_hold zones line ≡ Ok hold → line ≡ hold_text hold }
     ensures within { (zones : ℕ) (line : List ℕ) (hold : hold_type) → zones ≤ MAX_OBJECTS → read_hold zones line ≡ Ok hold → IsHoldWithin zones hold }
+{}
+
+/// A line that asks for nothing is told its first field that is missing, out of its form or range, or one too many; and a
+/// line whose fields all fit asks for a hold.
+pub fn bad_names_the_first_wrong_field()
+    ensures wrong { (zones : ℕ) (line : List ℕ) (field : ℕ) → zones ≤ MAX_OBJECTS → read_hold zones line ≡ Err (record { field = field }) → IsFirstWrong zones (fields_of line) field }
+    ensures right { (zones : ℕ) (line : List ℕ) → zones ≤ MAX_OBJECTS → ((field : ℕ) → 1 ≤ field → field ≤ 6 → FieldFits zones (fields_of line) field) → (hold : hold_type) × (read_hold zones line ≡ Ok hold) }
+{}
+
+/// An input is cut at its line ends: behind lines with their ends a last part counts where it is not empty.
+pub fn inputs_are_cut_at_line_ends()
+    ensures { (lines : List (List ℕ)) (rest : List ℕ) → All HasNoEnd lines → HasNoEnd rest → lines_of (ended lines ++ rest) ≡ lines ++ unless_empty rest }
+{}
+
+/// The entries that stand behind any lines and replies of a session are a legal history of the client's zones; so no two
+/// of their live claims clash.
+pub fn sessions_are_legal()
+    ensures legal { (caller : caller_type) (lines : List (List ℕ)) (replies : List reply_type) → IsClientName caller.name → caller.zones ≤ MAX_OBJECTS → IsSession caller lines replies → IsLegal (bare caller.zones) (standing caller lines replies) }
+    ensures apart { (caller : caller_type) (lines : List (List ℕ)) (replies : List reply_type) (count : ℕ) → IsClientName caller.name → caller.zones ≤ MAX_OBJECTS → IsSession caller lines replies → NoneClash (live_claims (standing caller (take count lines) (take count replies))) }
 {}
 
 /// The limits of lines, numbers, networks, trains, timetables and journals.
@@ -66,7 +91,6 @@ pub fn limits_are_these()
     ensures stops { MAX_STOPS ≡ 16 }
     ensures dwell { MAX_DWELL ≡ 17280 }
     ensures pinned_runs { MAX_PINNED_RUNS ≡ 4096 }
-    ensures runs { MAX_RUNS ≡ 17280 }
 {}
 
 /// The replies to seven lines of client A, who may speak of the zones 0, 1 and 2, each where the entries stand that

@@ -14,7 +14,10 @@ mod streams;
 mod tests;
 mod words;
 
-pub use laws::{a_session_of_seven_lines, limits_are_these, lines_spell_their_holds};
+pub use laws::{
+    a_session_of_seven_lines, bad_names_the_first_wrong_field, inputs_are_cut_at_line_ends,
+    limits_are_these, lines_spell_their_holds, sessions_are_legal,
+};
 pub use lines::{BadField, HoldLine, read_line};
 pub use replies::Reply;
 pub use runs::{Status, run};

@@ -24,7 +24,7 @@ pub enum Reply {
         owner: Owner,
         front: u64,
     },
-    /// The line is not understood from this field on, counted from 1.
+    /// This field, counted from 1, is wrong; or it is the second, and its number stands already.
     Bad {
         field: u32,
     },

@@ -1,6 +1,6 @@
 //! The top call.
 
-ghost use Rattle.std.specs.Prelude.{◌≡◌, ◌⊎◌, ◌≤◌, map, string_bytes};
+ghost use Rattle.std.specs.Prelude.{◌≡◌, ◌≢◌, ◌≤◌, ◌⊎◌, map, string_bytes};
 ghost use Rattle.outside_io.specs.Faults.{Rose};
 ghost use Rattle.outside_io.specs.Openings.{Undisturbed};
 ghost use Rattle.osrd_stdcm.specs.declared.sessions.Why.TheVariants.{Input, Memory as memory_end};
@@ -49,7 +49,8 @@ impl Status {
 /// Runs the command that the words ask for.
 ///
 /// `serve --zones Z --client NAME=IN:OUT` answers the lines that come from IN, in order, each with one line to OUT:
-/// a line `hold NUMBER ZONE FROM TO` is told `held`, `taken` or `bad`, by the lines before it that were told `held`.
+/// a line `hold NUMBER ZONE FROM TO` is told `held`, `taken` or `bad`, by the lines before it that were told `held`, or
+/// `no-memory`, which changes nothing.
 pub fn run<R: AllocGlobal, O: Outside>(rt: &R, words: &[String], outside: &mut O) -> Status
     // Words comes where the words ask for nothing, and then nothing is opened; want of memory alone may stand before it.
     ensures words { result ≡ Status.Words → AskNothing (map string_bytes words.now) }
@@ -69,6 +70,8 @@ pub fn run<R: AllocGlobal, O: Outside>(rt: &R, words: &[String], outside: &mut O
     // Whatever the status, all that was opened is put back.
     ensures back { Undisturbed (O.standing outside.old) (O.standing outside.new) }
     ensures later { O.faults outside.old ≤ O.faults outside.new }
+    // Where a call that opens a name failed, the status is Opening.
+    ensures quiet { result ≢ Status.Opening → O.faults outside.new ≡ O.faults outside.old }
 {
     let alloc = rt.alloc();
     match read_words(alloc, words) {
@@ -85,6 +88,7 @@ fn serve_command<O: Outside>(alloc: Global, serve: &Serve, outside: &mut O) -> S
     ensures opening { result ≡ Status.Opening → Rose (O.faults outside.old) (O.faults outside.new) }
     ensures back { Undisturbed (O.standing outside.old) (O.standing outside.new) }
     ensures later { O.faults outside.old ≤ O.faults outside.new }
+    ensures quiet { result ≢ Status.Opening → O.faults outside.new ≡ O.faults outside.old }
 {
     let input = serve.client.input.as_str();
     let output = serve.client.output.as_str();

@@ -1,6 +1,6 @@
 //! The session of one client.
 
-ghost use Rattle.std.specs.Prelude.{◌≡◌, ◌≤◌, []};
+ghost use Rattle.std.specs.Prelude.{◌≡◌, ◌≢◌, []};
 ghost use Rattle.osrd_stdcm.specs.Ends.{Ends, streams};
 ghost use Rattle.osrd_stdcm.specs.Serving.{last_end, SaysAnswered};
 
@@ -51,8 +51,6 @@ pub(crate) fn serve_client<S: Source, K: Sink>(
 ) -> Why
     requires { desk.old.entries ≡ [] }
     ensures ended { Ends (streams S.left S.faults K.held K.faults) result desk.old.caller src.old src.new snk.old snk.new }
-    ensures read { S.faults src.old ≤ S.faults src.new }
-    ensures written { K.faults snk.old ≤ K.faults snk.new }
 {
     let Ok(mut reader) = LineReader::new(alloc) else {
         return Why::Memory;
@@ -109,7 +107,7 @@ fn answer_line<K: Sink>(
 ) -> Answered
     ensures answered { SaysAnswered K.held K.faults result desk.old line_number line.now desk.new snk.old snk.new }
     ensures caller { desk.new.caller ≡ desk.old.caller }
-    ensures later { K.faults snk.old ≤ K.faults snk.new }
+    ensures quiet { result ≢ Answered.WriteFault → K.faults snk.new ≡ K.faults snk.old }
 {
     let reply = desk.answer(line_number, line);
     text.clear();

@@ -1,6 +1,6 @@
 //! Lines out of a source.
 
-ghost use Rattle.std.specs.Prelude.{◌≡◌, ◌≤◌, [], length, IfOk};
+ghost use Rattle.std.specs.Prelude.{◌≡◌, ◌≢◌, ◌≤◌, [], length, IfOk};
 ghost use Rattle.outside_io.specs.Faults.{Rose};
 ghost use Rattle.osrd_stdcm.specs.Streams.{IsLastStep, PartThenFault, Says, SaysFound, SaysMore, SaysRefilled};
 
@@ -104,7 +104,7 @@ impl LineReader {
     /// Reads up to the next line end.
     pub(crate) fn next_line<S: Source>(&mut self, src: &mut S) -> Step
         ensures says { Says result (S.left src.old) (S.left src.new) self.old.pending self.new }
-        ensures later { S.faults src.old ≤ S.faults src.new }
+        ensures quiet { result ≢ Step.ReadFault → S.faults src.new ≡ S.faults src.old }
         ensures fault { result ≡ Step.ReadFault → PartThenFault S.left S.faults src.old src.new self.old.pending }
     {
         self.line.clear();
@@ -126,6 +126,7 @@ impl LineReader {
     /// Whether a byte comes behind the lines that were read.
     pub(crate) fn has_more<S: Source>(&mut self, src: &mut S) -> More
         ensures says { SaysMore result (S.left src.old) (S.left src.new) self.old.pending }
+        ensures quiet { result ≢ More.Failed → S.faults src.new ≡ S.faults src.old }
         ensures later { S.faults src.old ≤ S.faults src.new }
         ensures cause { result ≡ More.Failed → Rose (S.faults src.old) (S.faults src.new) }
     {
@@ -181,6 +182,7 @@ impl LineReader {
         requires { self.old.pending ≡ [] }
         ensures says { SaysRefilled result (S.left src.old) (S.left src.new) self.new.pending }
         ensures line { self.new.line ≡ self.old.line }
+        ensures quiet { result ≢ More.Failed → S.faults src.new ≡ S.faults src.old }
         ensures later { S.faults src.old ≤ S.faults src.new }
         ensures cause { result ≡ More.Failed → Rose (S.faults src.old) (S.faults src.new) }
     {

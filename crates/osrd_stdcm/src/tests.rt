@@ -192,6 +192,27 @@ fn a_line_that_a_failing_source_breaks_off_is_not_answered(rt: HostRuntime) -> R
     Ok(())
 }
 
+// With the most bytes that a line may have, the first line ends in the second read, the third gives the last byte, and
+// the fourth tells the end.
+#[test]
+fn each_read_that_fails_ends_the_session_at_once(rt: HostRuntime) -> Result<(), Fail> {
+    for (reading, status, replies) in [
+        (0, 9, ""),
+        (1, 9, ""),
+        (2, 9, "bad 1\n"),
+        (3, 9, "bad 1\n"),
+        (4, 0, "bad 1\nbad 1\n"),
+    ] {
+        let faults = Faults {
+            reading,
+            ..NO_FAULTS
+        };
+        let outcome = serve(&rt, WORDS, two_long_lines(rt.alloc(), 65_536)?, &faults)?;
+        assert!(rt; outcome.is(status, replies), "call {reading}");
+    }
+    Ok(())
+}
+
 #[test]
 fn a_sink_that_fails_holds_the_replies_before(rt: HostRuntime) -> Result<(), Fail> {
     for (writing, end) in (0u64..8).zip(REPLY_ENDS) {

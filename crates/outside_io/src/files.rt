@@ -1,8 +1,11 @@
 // The edge to the real machine. No clause says which bytes reach or leave it.
-ghost use Rattle.std.specs.Prelude.{◌≡◌, ◌<◌, ◌≤◌, length, IfSome, None};
-ghost use Rattle.outside_io.specs.Machine.{faults_of_machine};
-ghost use Rattle.outside_io.specs.Openings.{untold};
-ghost use Rattle.outside_io.specs.Places.{hidden};
+ghost use Rattle.std.specs.Prelude.{◌≡◌, ◌<◌, ◌≤◌, length, IfOk, IfSome, OnErr, None};
+ghost use Rattle.std.specs.Io.{ReadsAtMost, WritesAtMost};
+ghost use Rattle.std.specs.Io.KnownBytes.{ReadConsumes, WriteAppends};
+ghost use Rattle.outside_io.specs.Faults.{HasCause, next_count};
+ghost use Rattle.outside_io.specs.Machine.{faults_of_machine, faults_of_sink, faults_of_source, sinks_of_machine, sources_of_machine, standing_of_machine};
+ghost use Rattle.outside_io.specs.Openings.{source_at, sink_at, Answers, StandsAgain};
+ghost use Rattle.outside_io.specs.Places.{HandsOut, TakesBack, Untouched};
 
 use crate::{Failed, Outside, Sink, Source};
 use std::fs::{File, OpenOptions};
@@ -102,10 +105,15 @@ impl FileOutside {
 impl Source for FileSource {
     ghost left = { λ _. None };
 
-    ghost faults = { λ source. source.faults };
+    ghost faults = { faults_of_source };
 
     /// One read of the machine. What it has not to give yet is waited for.
-    fn read(&mut self, into: &mut [u8]) -> Result<usize, Failed> {
+    fn read(&mut self, into: &mut [u8]) -> Result<usize, Failed>
+        ensures bound { ReadsAtMost result into.new }
+        ensures bytes { ReadConsumes None None result into.new }
+        ensures cause { HasCause (faults_of_source self.old) (faults_of_source self.new) result }
+        ensures one_fault { OnErr result (faults_of_source self.new ≡ next_count (faults_of_source self.old)) }
+    {
         let Some(count) = self.input.read(into) else {
             self.faults = self.faults.saturating_add(1);
             return Err(Failed);
@@ -117,11 +125,17 @@ impl Source for FileSource {
 impl Sink for FileSink {
     ghost held = { λ _. None };
 
-    ghost faults = { λ sink. sink.faults };
+    ghost faults = { faults_of_sink };
 
     /// One write of the machine, with nothing kept back. One that takes nothing of a piece that
     /// isn't empty is a fault.
-    fn write(&mut self, piece: &[u8]) -> Result<usize, Failed> {
+    fn write(&mut self, piece: &[u8]) -> Result<usize, Failed>
+        ensures bound { WritesAtMost result piece.now }
+        ensures progress { IfOk result (λ n. 0 < length piece.now → 0 < n) }
+        ensures bytes { WriteAppends None None result piece.now }
+        ensures cause { HasCause (faults_of_sink self.old) (faults_of_sink self.new) result }
+        ensures one_fault { OnErr result (faults_of_sink self.new ≡ next_count (faults_of_sink self.old)) }
+    {
         let Some(count) = self.output.write(piece) else {
             self.faults = self.faults.saturating_add(1);
             return Err(Failed);
@@ -137,15 +151,22 @@ impl Outside for FileOutside {
 
     ghost faults = { faults_of_machine };
 
-    ghost standing = { λ outside call. untold };
+    ghost standing = { standing_of_machine };
 
-    ghost sources = { λ outside name. hidden };
+    ghost sources = { sources_of_machine };
 
-    ghost sinks = { λ outside name. hidden };
+    ghost sinks = { sinks_of_machine };
 
-    /// Opens standard input, or a file or named pipe that is there. At a named pipe it waits for
-    /// who writes.
-    fn source(&mut self, name: &str) -> Result<FileSource, Failed> {
+    /// Opens standard input, or a file or named pipe that is there, without a fault so far. At a
+    /// named pipe it waits for who writes.
+    fn source(&mut self, name: &str) -> Result<FileSource, Failed>
+        ensures object { HandsOut name.now (sources_of_machine self.old) (sources_of_machine self.new) result }
+        ensures sinks { Untouched (sinks_of_machine self.old) (sinks_of_machine self.new) }
+        ensures ready { Answers (source_at name.now) (standing_of_machine self.old) (standing_of_machine self.new) result }
+        ensures cause { HasCause (faults_of_machine self.old) (faults_of_machine self.new) result }
+        ensures fresh { IfOk result (λ source. faults_of_source source ≡ 0) }
+        ensures one_fault { OnErr result (faults_of_machine self.new ≡ next_count (faults_of_machine self.old)) }
+    {
         let input = if name == "stdin" {
             Input::Standard(self.rt.stdin())
         } else if let Ok(file) = File::open(&self.rt, name) {
@@ -158,8 +179,15 @@ impl Outside for FileOutside {
     }
 
     /// Opens standard output, or a file or named pipe to append to, and creates a file that isn't
-    /// there. At a named pipe it waits for who reads.
-    fn sink(&mut self, name: &str) -> Result<FileSink, Failed> {
+    /// there; without a fault so far. At a named pipe it waits for who reads.
+    fn sink(&mut self, name: &str) -> Result<FileSink, Failed>
+        ensures object { HandsOut name.now (sinks_of_machine self.old) (sinks_of_machine self.new) result }
+        ensures sources { Untouched (sources_of_machine self.old) (sources_of_machine self.new) }
+        ensures ready { Answers (sink_at name.now) (standing_of_machine self.old) (standing_of_machine self.new) result }
+        ensures cause { HasCause (faults_of_machine self.old) (faults_of_machine self.new) result }
+        ensures fresh { IfOk result (λ sink. faults_of_sink sink ≡ 0) }
+        ensures one_fault { OnErr result (faults_of_machine self.new ≡ next_count (faults_of_machine self.old)) }
+    {
         let output = if name == "stdout" {
             Output::Standard(self.rt.stdout())
         } else if let Ok(file) = OpenOptions::new()
@@ -176,8 +204,18 @@ impl Outside for FileOutside {
     }
 
     /// Closes the file.
-    fn put_back_source(&mut self, _name: &str, _it: FileSource) {}
+    fn put_back_source(&mut self, name: &str, it: FileSource)
+        ensures object { TakesBack name.now it (sources_of_machine self.old) (sources_of_machine self.new) }
+        ensures sinks { Untouched (sinks_of_machine self.old) (sinks_of_machine self.new) }
+        ensures ready { StandsAgain (source_at name.now) (standing_of_machine self.old) (standing_of_machine self.new) }
+        ensures quiet { faults_of_machine self.new ≡ faults_of_machine self.old }
+    {}
 
     /// Closes the file.
-    fn put_back_sink(&mut self, _name: &str, _it: FileSink) {}
+    fn put_back_sink(&mut self, name: &str, it: FileSink)
+        ensures object { TakesBack name.now it (sinks_of_machine self.old) (sinks_of_machine self.new) }
+        ensures sources { Untouched (sources_of_machine self.old) (sources_of_machine self.new) }
+        ensures ready { StandsAgain (sink_at name.now) (standing_of_machine self.old) (standing_of_machine self.new) }
+        ensures quiet { faults_of_machine self.new ≡ faults_of_machine self.old }
+    {}
 }

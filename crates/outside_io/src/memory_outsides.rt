@@ -9,8 +9,8 @@ use crate::{Failed, MemSink, MemSource, Outside};
 use no_memory::NoMemory;
 use std::alloc::Global;
 
-/// An outside whose sources and sinks stand in memory. It tells which names stand ready where none
-/// of its opening calls is to fail.
+/// An outside whose sources and sinks stand in memory. It tells which names stand ready where no
+/// opening call is listed to fail.
 #[derive(Debug, Drop)]
 pub struct MemOutside {
     alloc: Global,
@@ -124,7 +124,6 @@ impl Outside for MemOutside {
         ensures counted { calls_of self.new ≡ next_count (calls_of self.old) }
         ensures listed { fails_of self.new ≡ fails_of self.old }
         ensures one_fault { OnErr result (faults_of self.new ≡ next_count (faults_of self.old)) }
-        ensures no_fault { OnOk result (faults_of self.new ≡ faults_of self.old) }
     {
         if self.next_call_fails() {
             return Err(self.failed());
@@ -144,7 +143,6 @@ impl Outside for MemOutside {
         ensures counted { calls_of self.new ≡ next_count (calls_of self.old) }
         ensures listed { fails_of self.new ≡ fails_of self.old }
         ensures one_fault { OnErr result (faults_of self.new ≡ next_count (faults_of self.old)) }
-        ensures no_fault { OnOk result (faults_of self.new ≡ faults_of self.old) }
     {
         if self.next_call_fails() {
             return Err(self.failed());
@@ -159,10 +157,9 @@ impl Outside for MemOutside {
         ensures object { TakesBack name.now it (sources_of self.old) (sources_of self.new) }
         ensures sinks { Untouched (sinks_of self.old) (sinks_of self.new) }
         ensures ready { StandsAgain (source_at name.now) (standing_of self.old) (standing_of self.new) }
-        ensures later { faults_of self.old ≤ faults_of self.new }
         ensures counted { calls_of self.new ≡ calls_of self.old }
         ensures listed { fails_of self.new ≡ fails_of self.old }
-        ensures no_fault { faults_of self.new ≡ faults_of self.old }
+        ensures quiet { faults_of self.new ≡ faults_of self.old }
     {
         self.sources.put_back(name, it);
     }
@@ -171,10 +168,9 @@ impl Outside for MemOutside {
         ensures object { TakesBack name.now it (sinks_of self.old) (sinks_of self.new) }
         ensures sources { Untouched (sources_of self.old) (sources_of self.new) }
         ensures ready { StandsAgain (sink_at name.now) (standing_of self.old) (standing_of self.new) }
-        ensures later { faults_of self.old ≤ faults_of self.new }
         ensures counted { calls_of self.new ≡ calls_of self.old }
         ensures listed { fails_of self.new ≡ fails_of self.old }
-        ensures no_fault { faults_of self.new ≡ faults_of self.old }
+        ensures quiet { faults_of self.new ≡ faults_of self.old }
     {
         self.sinks.put_back(name, it);
     }

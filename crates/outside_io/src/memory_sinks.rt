@@ -71,7 +71,6 @@ impl Sink for MemSink {
         ensures counted { self.new.calls ≡ next_count self.old.calls }
         ensures listed { self.new.fails ≡ self.old.fails }
         ensures one_fault { OnErr result (self.new.faults ≡ next_count self.old.faults) }
-        ensures no_fault { OnOk result (self.new.faults ≡ self.old.faults) }
     {
         let is_listed = self.fails.contains(&self.calls);
         self.calls = self.calls.saturating_add(1);

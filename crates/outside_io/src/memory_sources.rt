@@ -76,7 +76,7 @@ impl Source for MemSource {
         ensures counted { self.new.calls ≡ next_count self.old.calls }
         ensures listed { self.new.fails ≡ self.old.fails }
         ensures one_fault { OnErr result (self.new.faults ≡ next_count self.old.faults) }
-        ensures no_fault { OnOk result (self.new.faults ≡ self.old.faults) }
+        ensures lent { OnErr result (into.new ≡ into.old) }
     {
         let is_listed = self.fails.contains(&self.calls);
         self.calls = self.calls.saturating_add(1);

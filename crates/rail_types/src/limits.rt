@@ -1,4 +1,4 @@
-//! The limits of all numbers, each by one name.
+//! The limits of the numbers of these types, each by one name.
 
 use crate::Tick;
 
@@ -47,5 +47,3 @@ pub const MAX_STOPS: u32 = 16;
 pub const MAX_DWELL: u32 = 17_280;
 /// Most runs of a path that a client gives; the fewest is 1.
 pub const MAX_PINNED_RUNS: u32 = 4_096;
-/// Most runs of a path that is within a horizon, since each takes a tick at least.
-pub const MAX_RUNS: u32 = 17_280;

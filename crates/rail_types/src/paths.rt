@@ -10,7 +10,7 @@ use std::alloc::Global;
 /// A moment, counted in ticks.
 pub type Tick = i64;
 
-/// The ticks from `from` on and before `to`; `from` is less than `to` in every claim.
+/// The ticks from `from` on and before `to`; `from` is less than `to` in every claim that is held.
 #[derive(Clone, Copy, Debug, PartialEq, Eq)]
 pub struct Span {
     pub from: Tick,

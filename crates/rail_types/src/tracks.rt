@@ -38,7 +38,7 @@ pub struct Network {
 
 /// What is wrong with a network, in the order in which a block is looked through: a zone out of range, cells out of
 /// order or past the block's end, no length or no cell, a point out of range, served points unsorted or out of range,
-/// a number past its limit.
+/// a number outside its limits; and last, more zones, points, operational points, blocks or cells than are allowed.
 #[derive(Clone, Copy, Debug, PartialEq, Eq)]
 pub enum NetFlaw {
     Range,

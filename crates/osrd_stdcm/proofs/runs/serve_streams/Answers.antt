@@ -1,3 +1,4 @@
+use Rattle.std.proofs.Common.{refl}
 use Rattle.osrd_stdcm.specs.Ends.{streams}
 use Rattle.osrd_stdcm.specs.declared.sessions.Why.TheVariants.{Memory}
 use Rattle.osrd_stdcm.proofs.SessionSteps.{ends_of, ends_unserved}
@@ -5,5 +6,5 @@ use Rattle.osrd_stdcm.proofs.runs.serve_streams.Goals as goal
 
 pub returns-in-Err : goal.returns-in-Err
 returns-in-Err g c = record {
-  ended = ends_of (streams g.S.Source.left g.S.Source.faults g.K.Sink.held g.K.Sink.faults) Memory _ c.args.src.now c.args.src.now c.args.snk.now c.args.snk.now (ends_unserved _ _ _) (λ is. cc) (λ is. cc);
+  ended = ends_of (streams g.S.Source.left g.S.Source.faults g.K.Sink.held g.K.Sink.faults) Memory _ c.args.src.now c.args.src.now c.args.snk.now c.args.snk.now (ends_unserved _ _ _) (λ is. cc) (λ is. cc) refl refl;
 }

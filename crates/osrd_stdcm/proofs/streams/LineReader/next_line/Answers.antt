@@ -12,6 +12,8 @@ pub returns-in-Failed-clause-fault : goal.returns-in-Failed-clause-fault
 returns-in-Failed-clause-fault g c is = record {
   at_fault = c.loop-self.src;
   part = part_before _ _ _ c.loop-self.self c.take_pending.new.self _ _ c.loop-self.invariant c.in-Part.ensures;
+  quiet = c.loop-self.invariant.quiet;
   kept = c.in-Failed.ensures.says;
+  later = c.in-Failed.ensures.later;
   rose = c.in-Failed.ensures.cause refl;
 }
