@@ -7,7 +7,6 @@ use Rattle.std.proofs.lemmas.List.Splits.{length-slice_split, slice_split_at, sl
 use Rattle.std.proofs.lemmas.Option.{slice_get_within}
 use Rattle.std.specs.List.{slice_split}
 use Rattle.std.specs.Io.KnownBytes.{IsAtEnd, Keeps}
-use Rattle.outside_io.specs.Faults.{Rose}
 use Rattle.std.proofs.KnownBytes.{Appends-kept, Appends-nil, Appends-trans, Consumes-kept, Consumes-nil, Consumes-trans}
 use Rattle.osrd_stdcm.specs.declared.replies.Reply.{Reply}
 use Rattle.osrd_stdcm.specs.declared.sessions.Why.{Why}
@@ -341,26 +340,6 @@ ends_in_read_fault streams src src' src'' snk snk' {pending = pending} serving f
       read_quiet = λ isnt. absurd (isnt refl);
       write_quiet = λ isnt. write_quiet;
     }
-
--- the source failed where nothing of a line had come
-pub fault_at_once : {Src : Type 0} (left : Src → Option (List ℕ)) (faults : Src → ℕ) (src src' : Src) (pending : List ℕ) → Keeps (left src) (left src') → pending ≡ [] → faults src ≤ faults src' → Rose (faults src) (faults src')
-    → (fault : PartThenFault left faults src src' pending) × (fault.part.rest ≡ [])
-fault_at_once left faults src src' pending kept none later rose = (
-  record {
-    at_fault = src;
-    part = record {
-      rest = [];
-      came = record { taken = []; consumed = Consumes-nil (left src); bytes_are = append-nil pending ∙ none };
-      partial = λ k d within. absurd (omega arith);
-      short = omega arith;
-    };
-    quiet = refl;
-    kept = kept;
-    later = later;
-    rose = rose;
-  },
-  refl,
-)
 
 pub ends_at_long_line : {left left' left'' held held' : Option (List ℕ)} {caller : Caller} {now : Standing} {pending : List ℕ} {number : ℕ} → Serving left left' held held' caller now pending number
     → CameLong left' left'' pending → number < MAX_LINES → EndsAs LongLine caller left left'' held held'
