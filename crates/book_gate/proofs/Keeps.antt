@@ -12,7 +12,7 @@ use lib.ListN.{get_elem?}
 use Rattle.atomic_table.specs.Table.{State, Me, keeps, takes, gives, put_back, rest, step, opening, Allows, Splits, Joins, Final, Seen}
 use Rattle.atomic_table.proofs.Lists.{at_set, set_again, set_else, set_here, at_longer}
 use Rattle.book_gate.specs.declared.views.Origin.{Origin}
-use Rattle.book_gate.specs.declared.views.Standing.{Standing}
+use Rattle.book_gate.specs.declared.views.Statement.{Statement}
 use Rattle.book_gate.specs.declared.views.Turn.{Turn}
 use Rattle.book_gate.specs.declared.views.View.{View}
 use Rattle.book_gate.specs.Rule.{turns_of, one_if, tickets, budget, Fits, IsInPlace, IsKept}
@@ -22,7 +22,7 @@ use Rattle.book_gate.proofs.Lists.{each_set, at_end, at_place, within_length, su
 use Rattle.book_gate.proofs.Turns.{plain, turns_of-append, turns_of-same, turns_of-other, all_of, length-turns_of, has_all, chain-append, IsWithin, chain_all, ascending, chain_own, chain_count, length-merged, renamed, plain-renamed, length-renamed, turns_of-renamed_other, turns_of-renamed_old, turns_of-renamed_new}
 
 -- What is known of a pass with all turns, of the book that `new` was given, and of the last one.
-pub record IsWholeStory {E F : Type 0} (first last : Standing E) (v : View E F) : Type 0 where
+pub record IsWholeStory {E F : Type 0} (first last : Statement E) (v : View E F) : Type 0 where
   pub chain : IsChain 0 (mark_of first) v.turns (mark_of last)
   pub list : StartsWith last.list first.list
   pub seen : StartsWith last.list v.seen
@@ -73,7 +73,7 @@ module _ {E : Type 0} where
       (λ less. let h = ltb-true (length a) (length b) less in let le : length a ≤ length b = omega arith in (q, starts_within l a b p q le, starts_refl b))
       (λ more. let h = ltb-false (length a) (length b) more in (p, starts_refl a, starts_within l b a q p h))
 
-module _ {S E F : Type 0} (stands : S → Standing E) (footing : S → F) (given : ℕ) (opened : S) where
+module _ {S E F : Type 0} (stands : S → Statement E) (footing : S → F) (given : ℕ) (opened : S) where
   abbrev V : Type 0
   V = View E F
 
@@ -86,10 +86,10 @@ module _ {S E F : Type 0} (stands : S → Standing E) (footing : S → F) (given
   abbrev Rule : St → Type 0
   Rule = IsKept stands footing given opened
 
-  abbrev Fit : ℕ → ℕ → Bool → Standing E → List (ℕ × Turn) → ℕ → V → Type 0
+  abbrev Fit : ℕ → ℕ → Bool → Statement E → List (ℕ × Turn) → ℕ → V → Type 0
   Fit = Fits (origin (footing opened) given)
 
-  abbrev Place : Standing E → List (ℕ × Turn) → Bool → List (slot.Option (Option S)) → Type 0
+  abbrev Place : Statement E → List (ℕ × Turn) → Bool → List (slot.Option (Option S)) → Type 0
   Place = IsInPlace stands footing opened
 
   -- tickets stay apart where the one that changed has a ticket which no other has
@@ -116,7 +116,7 @@ module _ {S E F : Type 0} (stands : S → Standing E) (footing : S → F) (given
 
   -- a step after which one view is w, from what it was
   moved : (s : St) (r : Rule s) (id : ℕ) (v w : V) → get_elem? s.views id ≡ slot.some v
-      → (taken serving : ℕ) (is_out : Bool) (last : Standing E) (log : List (ℕ × Turn)) (words : List ℕ) (homes : List (slot.Option (Option S)))
+      → (taken serving : ℕ) (is_out : Bool) (last : Statement E) (log : List (ℕ × Turn)) (words : List ℕ) (homes : List (slot.Option (Option S)))
       → words ≡ taken ∷ serving ∷ [] → Place last log is_out homes → Fit taken serving is_out last log id w
       → ((j : ℕ) (u : V) → j ≢ id → get_elem? s.views j ≡ slot.some u → Fit r.taken r.serving r.is_out r.last r.log j u → Fit taken serving is_out last log j u)
       → (is_out ≡ true → IsWithBook (set s.views id w))
@@ -146,7 +146,7 @@ module _ {S E F : Type 0} (stands : S → Standing E) (footing : S → F) (given
   }
 
   -- what a pass knows still holds where the book goes on
-  goes_on : (taken serving taken' serving' : ℕ) (is_out is_out' : Bool) (last last' : Standing E) (log log' : List (ℕ × Turn)) (i : ℕ) (v : V)
+  goes_on : (taken serving taken' serving' : ℕ) (is_out is_out' : Bool) (last last' : Statement E) (log log' : List (ℕ × Turn)) (i : ℕ) (v : V)
       → StartsWith last'.list last.list → last.count ≤ last'.count → turns_of i log' ≡ turns_of i log
       → (v.has_ticket ≡ true → serving ≤ v.ticket → v.ticket < taken → (serving' ≤ v.ticket) × (v.ticket < taken'))
       → (v.has_book ≡ true → (is_out ≡ true) × (v.has_ticket ≡ true) × (v.ticket ≡ serving) × (v.found ≡ last) → (is_out' ≡ true) × (v.has_ticket ≡ true) × (v.ticket ≡ serving') × (v.found ≡ last'))
@@ -256,10 +256,10 @@ module _ {S E F : Type 0} (stands : S → Standing E) (footing : S → F) (given
           λ _. (
             b,
             refl,
-            subst (λ (z : Standing E). StartsWith z.list me.0.seen) (sym place.2) f.has_seen,
-            subst (λ (z : Standing E). me.0.count ≤ z.count) (sym place.2) f.has_counted,
-            subst (λ (z : Standing E). AreListedWithin me.0.turns (length z.list)) (sym place.2) (listed s r id me.0 at),
-            subst (λ (z : Standing E). AreCountedWithin me.0.turns z.count) (sym place.2) (counted s r id me.0 at),
+            subst (λ (z : Statement E). StartsWith z.list me.0.seen) (sym place.2) f.has_seen,
+            subst (λ (z : Statement E). me.0.count ≤ z.count) (sym place.2) f.has_counted,
+            subst (λ (z : Statement E). AreListedWithin me.0.turns (length z.list)) (sym place.2) (listed s r id me.0 at),
+            subst (λ (z : Statement E). AreCountedWithin me.0.turns z.count) (sym place.2) (counted s r id me.0 at),
             subst (AreNumberedBelow me.0.turns) (sym mine) (numbered s r id me.0 at),
             if_some (λ o. o.footing ≡ footing b) me.0.origin (λ o e. ap (λ (z : Origin F). z.footing) (f.knows_origin o e) ∙ sym place.3),
           ),
@@ -272,7 +272,7 @@ module _ {S E F : Type 0} (stands : S → Standing E) (footing : S → F) (given
       → footing b ≡ footing opened → StartsWith (stands b).list me.0.found.list → me.0.found.count ≤ (stands b).count → Allows Rule slots id me 1 (λ n. (n + 1) % 2 ^ 64) (Advances stands (step slots 1 1 0 slot.none) me)
   advance_step slots id me b has book carried on_footing more count s r _ at small =
       let n : ℕ = get_or s.words 1 0 in let is : n ≡ r.serving = ap (λ (ws : List ℕ). get_or ws 1 0) r.words in
-      let v : V = me.0 in let z : Standing E = stands b in let w : V = served v z in let t : Turn = turn v.ticket v.found z in
+      let v : V = me.0 in let z : Statement E = stands b in let w : V = served v z in let t : Turn = turn v.ticket v.found z in
       let f = r.each_pass id v at in let c = f.is_called_in_turn book in let out = c.0 in let mine : v.ticket ≡ r.serving = c.2 in
       let has_one : tickets v ≡ 1 = ap one_if has in
       let now = r.all_wait in let bound = r.all_budgets in let top = r.no_wrap in let within = f.waits_in_line has in let share = f.keeps_to_its_share in
@@ -280,8 +280,8 @@ module _ {S E F : Type 0} (stands : S → Standing E) (footing : S → F) (given
       let long : length (v.turns ++ t ∷ []) ≡ length v.turns + 1 = length-append v.turns (t ∷ []) in
       let log : List (ℕ × Turn) = r.log ++ (id, t) ∷ [] in let was = r.all_served in
       let longer_log : length log ≡ length r.log + 1 = length-append r.log ((id, t) ∷ []) in
-      let begins : StartsWith z.list r.last.list = subst (λ (x : Standing E). StartsWith z.list x.list) c.3 more in
-      let counts : r.last.count ≤ z.count = subst (λ (x : Standing E). x.count ≤ z.count) c.3 count in
+      let begins : StartsWith z.list r.last.list = subst (λ (x : Statement E). StartsWith z.list x.list) c.3 more in
+      let counts : r.last.count ≤ z.count = subst (λ (x : Statement E). x.count ≤ z.count) c.3 count in
       let homes = subst (λ (o : Bool). Place r.last r.log o s.homes) out r.in_place in
       let fit : Fit r.taken (r.serving + 1) false z log id w = record {
         knows_origin = f.knows_origin;
@@ -411,7 +411,7 @@ module _ {S E F : Type 0} (stands : S → Standing E) (footing : S → F) (given
       }
 
   -- the book is where it was, whatever the log calls the passes
-  place_again : (last : Standing E) (log log' : List (ℕ × Turn)) (b : Bool) (homes : List (slot.Option (Option S))) → (log' ≡ [] → log ≡ []) → Place last log b homes → Place last log' b homes
+  place_again : (last : Statement E) (log log' : List (ℕ × Turn)) (b : Bool) (homes : List (slot.Option (Option S))) → (log' ≡ [] → log ≡ []) → Place last log b homes → Place last log' b homes
   place_again last log log' false homes h p = (p.0, p.1, p.2, p.3, λ e. p.4 (h e))
   place_again last log log' true homes h p = p
 
@@ -533,7 +533,7 @@ module _ {S E F : Type 0} (stands : S → Standing E) (footing : S → F) (given
         (
           place.3,
           λ none. place.4 (let e = ap length (sym all ∙ none) in nil_from_length r.log (let as_many = length-map r.log (λ (e : ℕ × Turn). e.1) in omega arith)),
-          subst (λ (z : Standing E). IsWholeStory (stands opened) z v) (sym place.2) story,
+          subst (λ (z : Statement E). IsWholeStory (stands opened) z v) (sym place.2) story,
         ),
       )
 

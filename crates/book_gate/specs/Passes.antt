@@ -2,7 +2,7 @@
 use Rattle.std.specs.Prelude.{◌≡◌, ℕ, true, false, [], ◌∷◌, Some, None}
 use Rattle.book_gate.specs.declared.gates.Gate.{Gate}
 use Rattle.book_gate.specs.declared.gates.Pass.{Pass}
-use Rattle.book_gate.specs.declared.views.Standing.{Standing}
+use Rattle.book_gate.specs.declared.views.Statement.{Statement}
 use Rattle.book_gate.specs.declared.views.View.{View}
 use Rattle.book_gate.specs.Rule.{budget, IsWithinShare}
 use Rattle.book_gate.specs.Steps.{IsCalled}
@@ -50,5 +50,5 @@ module _ {S E F : Type 0} where
   IsOf footing gate pass = (pass.seat.table_id ≡ gate.table.shared.table_id) × ((view pass).origin ≡ Some (origin (footing (opened gate)) (turns_given gate))) × IsWithinShare (view pass)
 
   -- the pass was called, and holds the slot with a book that goes on from all that it knew
-  abbrev pub IsCalledWith : (S → Standing E) → (S → F) → Pass S E F → Pass S E F → Type 0
+  abbrev pub IsCalledWith : (S → Statement E) → (S → F) → Pass S E F → Pass S E F → Type 0
   IsCalledWith stands footing old new = IsCalled stands footing old.seat.me new.seat.me

@@ -4,7 +4,7 @@ use mathlib.Core.Option as slot
 use lib.ListN.{get_elem?}
 use Rattle.atomic_table.specs.Table.{State}
 use Rattle.book_gate.specs.declared.views.Origin.{Origin}
-use Rattle.book_gate.specs.declared.views.Standing.{Standing}
+use Rattle.book_gate.specs.declared.views.Statement.{Statement}
 use Rattle.book_gate.specs.declared.views.Turn.{Turn}
 use Rattle.book_gate.specs.declared.views.View.{View}
 use Rattle.book_gate.specs.Views.{StartsWith, mark_of, origin, IsChain}
@@ -30,7 +30,7 @@ abbrev pub IsWithinShare : {E F : Type 0} → View E F → Type 0
 IsWithinShare v = length v.turns + tickets v ≤ v.share
 
 -- What holds of each pass, of which i is the number: `taken` and `serving` are the two words, and `last` is what the book stood for as the last turn left it.
-pub record Fits {E F : Type 0} (here : Origin F) (taken serving : ℕ) (is_out : Bool) (last : Standing E) (log : List (ℕ × Turn)) (i : ℕ) (v : View E F) : Type 0 where
+pub record Fits {E F : Type 0} (here : Origin F) (taken serving : ℕ) (is_out : Bool) (last : Statement E) (log : List (ℕ × Turn)) (i : ℕ) (v : View E F) : Type 0 where
   -- it knows the footing that `new` found, and how many turns there are
   pub knows_origin : (o : Origin F) → v.origin ≡ Some o → o ≡ here
   -- the book's list begins with what it has seen, and the count has not fallen
@@ -49,16 +49,16 @@ pub record Fits {E F : Type 0} (here : Origin F) (taken serving : ℕ) (is_out :
   pub has_its_turns : v.turns ≡ turns_of i log
 
 -- Where the book is. At home it is as the last turn left it, on the footing that `new` found, and before any turn it is the one that `new` was given. Else it is out with the pass that is called.
-abbrev pub IsInPlace : {S E F : Type 0} → (S → Standing E) → (S → F) → S → Standing E → List (ℕ × Turn) → Bool → List (slot.Option (Option S)) → Type 0
+abbrev pub IsInPlace : {S E F : Type 0} → (S → Statement E) → (S → F) → S → Statement E → List (ℕ × Turn) → Bool → List (slot.Option (Option S)) → Type 0
 IsInPlace {S} stands footing opened last log false homes = (b : S) × (homes ≡ slot.some (Some b) ∷ []) × (stands b ≡ last) × (footing b ≡ footing opened) × (log ≡ [] → b ≡ opened)
 IsInPlace stands footing opened last log true homes = homes ≡ slot.none ∷ []
 
 -- The rule. `taken` and `serving` are the two words, and `is_out` tells whether the book is with a pass. `last` is what the book stood for as the last turn left it, or as `new` found it. The log has all turns that were served, each with the number of the pass whose it is.
-pub record IsKept {S E F : Type 0} (stands : S → Standing E) (footing : S → F) (given : ℕ) (opened : S) (s : State (Option S) (View E F)) : Type 0 where
+pub record IsKept {S E F : Type 0} (stands : S → Statement E) (footing : S → F) (given : ℕ) (opened : S) (s : State (Option S) (View E F)) : Type 0 where
   pub taken : ℕ
   pub serving : ℕ
   pub is_out : Bool
-  pub last : Standing E
+  pub last : Statement E
   pub log : List (ℕ × Turn)
   pub words : s.words ≡ taken ∷ serving ∷ []
   pub in_place : IsInPlace stands footing opened last log is_out s.homes

@@ -2,7 +2,7 @@
 use Rattle.std.specs.Prelude.{◌≡◌, ◌≢◌, ℕ, ◌+◌, ◌-◌, ◌≤◌, max, true, false, [], ◌∷◌, ◌++◌, All, length, Option, Some, None, IfSome}
 use Rattle.atomic_table.specs.Table.{Me, Step}
 use Rattle.book_gate.specs.declared.views.Origin.{Origin}
-use Rattle.book_gate.specs.declared.views.Standing.{Standing}
+use Rattle.book_gate.specs.declared.views.Statement.{Statement}
 use Rattle.book_gate.specs.declared.views.View.{View}
 use Rattle.book_gate.specs.Rule.{budget}
 use Rattle.book_gate.specs.Views.{StartsWith, AreListedWithin, AreCountedWithin, AreNumberedBelow, AreAscending, turn, longer, merged}
@@ -11,11 +11,11 @@ module _ {E F : Type 0} where
   abbrev pub with_ticket : View E F → ℕ → View E F
   with_ticket v n = record v { has_ticket = true; ticket = n }
 
-  abbrev pub called : View E F → Standing E → View E F
+  abbrev pub called : View E F → Statement E → View E F
   called v b = record v { has_book = true; found = b }
 
   -- the pass after a turn that left this
-  abbrev pub served : View E F → Standing E → View E F
+  abbrev pub served : View E F → Statement E → View E F
   served v b = record v { seen = b.list; count = b.count; turns = v.turns ++ turn v.ticket v.found b ∷ []; has_ticket = false; has_book = false }
 
 module _ {E F : Type 0} where
@@ -40,7 +40,7 @@ module _ {S E F : Type 0} where
   abbrev pub Takes : Step (Option S) → Me (Option S) (View E F) → ℕ → Me (Option S) (View E F) → Type 0
   Takes st m n w = w ≡ (with_ticket m.0 n, m.1)
 
-module _ {S E F : Type 0} (stands : S → Standing E) (footing : S → F) where
+module _ {S E F : Type 0} (stands : S → Statement E) (footing : S → F) where
   -- the pass is called and has the book, which goes on from all that it knew
   abbrev pub IsCalled : Me (Option S) (View E F) → Me (Option S) (View E F) → Type 0
   IsCalled m w = (b : S) × (w ≡ (called m.0 (stands b), (0, Some b) ∷ m.1)) × StartsWith (stands b).list m.0.seen × (m.0.count ≤ (stands b).count) × AreListedWithin m.0.turns (length (stands b).list) × AreCountedWithin m.0.turns (stands b).count × AreNumberedBelow m.0.turns m.0.ticket × IfSome m.0.origin (λ o. o.footing ≡ footing b)
@@ -49,7 +49,7 @@ module _ {S E F : Type 0} (stands : S → Standing E) (footing : S → F) where
   abbrev pub Looks : Step (Option S) → Me (Option S) (View E F) → ℕ → Me (Option S) (View E F) → Type 0
   Looks st m n w = (n ≡ m.0.ticket → IsCalled m w) × (n ≢ m.0.ticket → w ≡ m)
 
-module _ {S E F : Type 0} (stands : S → Standing E) where
+module _ {S E F : Type 0} (stands : S → Statement E) where
   -- the turn ends with the book b put back, and is recorded
   abbrev pub Advances : Step (Option S) → Me (Option S) (View E F) → ℕ → Me (Option S) (View E F) → Type 0
   Advances st m n w = (b : S) → m.1 ≡ (0, Some b) ∷ [] → w ≡ (served m.0 (stands b), [])

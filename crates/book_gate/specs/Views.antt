@@ -2,7 +2,7 @@
 use Rattle.std.specs.Prelude.{◌≡◌, ℕ, zero, suc, ◌-◌, ◌≤◌, ◌<◌, nat_lt, if◌then◌else◌, false, All, AllPairs, List, [], ◌∷◌, ◌++◌, length, sum_by, Some}
 use Rattle.book_gate.specs.declared.views.Mark.{Mark}
 use Rattle.book_gate.specs.declared.views.Origin.{Origin}
-use Rattle.book_gate.specs.declared.views.Standing.{Standing}
+use Rattle.book_gate.specs.declared.views.Statement.{Statement}
 use Rattle.book_gate.specs.declared.views.Turn.{Turn}
 use Rattle.book_gate.specs.declared.views.View.{View}
 
@@ -11,10 +11,10 @@ abbrev pub StartsWith : {E : Type 0} → List E → List E → Type 0
 StartsWith {E} whole part = (rest : List E) × (whole ≡ part ++ rest)
 
 -- what a book stands for
-abbrev pub standing : {S E : Type 0} → (S → List E) → (S → ℕ) → (S → ℕ) → S → Standing E
-standing list settled count book = record { list = list book; settled = settled book; count = count book }
+abbrev pub statement_of : {S E : Type 0} → (S → List E) → (S → ℕ) → (S → ℕ) → S → Statement E
+statement_of list settled count book = record { list = list book; settled = settled book; count = count book }
 
-abbrev pub mark_of : {E : Type 0} → Standing E → Mark
+abbrev pub mark_of : {E : Type 0} → Statement E → Mark
 mark_of b = record { entries = length b.list; settled = b.settled; count = b.count }
 
 abbrev pub origin : {F : Type 0} → F → ℕ → Origin F
@@ -57,11 +57,11 @@ abbrev pub longer : {E : Type 0} → List E → List E → List E
 longer a b = if nat_lt (length a) (length b) then b else a
 
 -- the pass that comes with a new gate
-abbrev pub newcomer : {E F : Type 0} → Origin F → Standing E → View E F
+abbrev pub newcomer : {E F : Type 0} → Origin F → Statement E → View E F
 newcomer o b = record { origin = Some o; seen = b.list; count = b.count; joined = []; turns = []; share = o.turns; has_ticket = false; ticket = 0; has_book = false; found = b }
 
 -- a turn of that number
-abbrev pub turn : {E : Type 0} → ℕ → Standing E → Standing E → Turn
+abbrev pub turn : {E : Type 0} → ℕ → Statement E → Statement E → Turn
 turn number found left = record { number = number; found = mark_of found; left = mark_of left }
 
 -- no turn of these left a count above that one

@@ -33,7 +33,7 @@ pub struct Pass<S: Stands> {
 impl<S: Stands> Gate<S> {
     ghost use Rattle.book_gate.specs.Passes.{view, opened, turns_given, turns_left, IsOf, IsIdle, IsInTurn, IsWaiting, IsCalledWith, OpensTurn};
     ghost use Rattle.book_gate.specs.Steps.{served, giving, given, joining};
-    ghost use Rattle.book_gate.specs.Views.{StartsWith, AreListedWithin, AreCountedWithin, AreNumberedBelow, AreAscending, IsChain, standing, newcomer, origin, mark_of, own, positions, rises};
+    ghost use Rattle.book_gate.specs.Views.{StartsWith, AreListedWithin, AreCountedWithin, AreNumberedBelow, AreAscending, IsChain, statement_of, newcomer, origin, mark_of, own, positions, rises};
 
     /// A gate that keeps this book for so many turns, and the pass that may take them all.
     pub fn new(alloc: Global, book: S, turns: u64) -> Result<(Gate<S>, Pass<S>), (S, NoMemory)>
@@ -43,7 +43,7 @@ impl<S: Stands> Gate<S> {
         ensures turns { IfOk result (λ r. turns_given r.0 ≡ turns) }
         ensures own { IfOk result (λ r. IsOf S.footing r.0 r.1) }
         ensures idle { IfOk result (λ r. IsIdle r.1) }
-        ensures fresh { IfOk result (λ r. view r.1 ≡ newcomer (origin (S.footing book) turns) (standing S.list S.settled S.count book)) }
+        ensures fresh { IfOk result (λ r. view r.1 ≡ newcomer (origin (S.footing book) turns) (statement_of S.list S.settled S.count book)) }
         ensures refused { IfErr result (λ e. e.0 ≡ book) }
     {
         let opening = Opening {
@@ -75,7 +75,7 @@ impl<S: Stands> Gate<S> {
         ensures budget { turns_left pass.new + 1 ≡ turns_left pass.old }
 
         // The book goes on from all that the pass knew.
-        ensures found { (view pass.new).found ≡ standing S.list S.settled S.count result }
+        ensures found { (view pass.new).found ≡ statement_of S.list S.settled S.count result }
         ensures footing { S.footing result ≡ S.footing (opened self.now) }
         ensures seen { StartsWith (S.list result) (view pass.old).seen }
         ensures count { (view pass.old).count ≤ S.count result }
@@ -95,7 +95,7 @@ impl<S: Stands> Gate<S> {
         requires own { IsOf S.footing self.now pass.old }
         requires waits { IsWaiting pass.old × ((view pass.old).ticket ≡ ticket) }
         ensures own { IsOf S.footing self.now pass.new }
-        ensures called { IsCalledWith (standing S.list S.settled S.count) S.footing pass.old pass.new }
+        ensures called { IsCalledWith (statement_of S.list S.settled S.count) S.footing pass.old pass.new }
     {
         let mut looks = 0;
         for _ in rt.forever() {
@@ -125,7 +125,7 @@ impl<S: Stands> Gate<S> {
         requires count { (view pass.old).found.count ≤ S.count held }
         ensures own { IsOf S.footing self.now pass.new }
         ensures idle { IsIdle pass.new }
-        ensures served { view pass.new ≡ served (view pass.old) (standing S.list S.settled S.count held) }
+        ensures served { view pass.new ≡ served (view pass.old) (statement_of S.list S.settled S.count held) }
         ensures budget { turns_left pass.new ≡ turns_left pass.old }
         ensures own_entries { own (view pass.new).turns ≡ own (view pass.old).turns ++ positions (length (view pass.old).found.list) (length (S.list held) - length (view pass.old).found.list) }
     {
@@ -222,7 +222,7 @@ impl<S: Stands> Gate<S> {
         requires whole { (view pass).share ≡ turns_given self }
         ensures footing { S.footing result ≡ S.footing (opened self) }
         ensures untouched { (view pass).turns ≡ [] → result ≡ opened self }
-        ensures chain { IsChain 0 (mark_of (standing S.list S.settled S.count (opened self))) (view pass).turns (mark_of (standing S.list S.settled S.count result)) }
+        ensures chain { IsChain 0 (mark_of (statement_of S.list S.settled S.count (opened self))) (view pass).turns (mark_of (statement_of S.list S.settled S.count result)) }
         ensures list { StartsWith (S.list result) (S.list (opened self)) }
         ensures seen { StartsWith (S.list result) (view pass).seen }
         ensures joined { All (λ list. StartsWith (S.list result) list) (view pass).joined }

@@ -10,8 +10,6 @@ mod held;
 mod plays;
 mod stands;
 mod steps;
-#[cfg(test)]
-mod tests;
 mod views;
 
 pub use gates::{Gate, Pass};

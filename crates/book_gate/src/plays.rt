@@ -1,7 +1,7 @@
 //! The rule of the gate, and what each step tells.
 ghost use Rattle.book_gate.specs.Rule.{IsKept};
 ghost use Rattle.book_gate.specs.Steps.{Takes, Looks, Advances, Meets, giving, given, joining, spent};
-ghost use Rattle.book_gate.specs.Views.{standing, newcomer, origin};
+ghost use Rattle.book_gate.specs.Views.{statement_of, newcomer, origin};
 
 use crate::stands::Stands;
 use crate::views::{Opening, View};
@@ -13,9 +13,9 @@ pub(crate) struct Turns<S> {
 }
 
 impl<S: Stands> TableRule<Option<S>, View<S::Entry, S::Footing>, Opening<S>> for Turns<S> {
-    ghost holds = { λ o. IsKept (standing S.list S.settled S.count) S.footing o.turns o.book.value };
+    ghost holds = { λ o. IsKept (statement_of S.list S.settled S.count) S.footing o.turns o.book.value };
 
-    ghost first = { λ o. newcomer (origin (S.footing o.book.value) o.turns) (standing S.list S.settled S.count o.book.value) };
+    ghost first = { λ o. newcomer (origin (S.footing o.book.value) o.turns) (statement_of S.list S.settled S.count o.book.value) };
 }
 
 pub(crate) struct Take;
@@ -29,7 +29,7 @@ pub(crate) struct Look<S> {
 }
 
 impl<S: Stands> Play<Option<S>, View<S::Entry, S::Footing>> for Look<S> {
-    ghost then = { Looks (standing S.list S.settled S.count) S.footing };
+    ghost then = { Looks (statement_of S.list S.settled S.count) S.footing };
 }
 
 pub(crate) struct Advance<S> {
@@ -37,7 +37,7 @@ pub(crate) struct Advance<S> {
 }
 
 impl<S: Stands> Play<Option<S>, View<S::Entry, S::Footing>> for Advance<S> {
-    ghost then = { Advances (standing S.list S.settled S.count) };
+    ghost then = { Advances (statement_of S.list S.settled S.count) };
 }
 
 pub(crate) struct Meet;

@@ -2,14 +2,14 @@
 use std::collections::LinkedList;
 use std::snapshot::Snapshot;
 
-/// What a book stands for at one moment.
-pub struct Standing<E> {
+/// What a book stands for at one moment: its entries, how many of them are settled, and its count of faults.
+pub struct Statement<E> {
     pub list: LinkedList<E>,
     pub settled: u64,
     pub count: u64,
 }
 
-/// A standing in three numbers: of entries, of settled entries, and of faults.
+/// A statement in three numbers: of entries, of settled entries, and of faults.
 pub struct Mark {
     pub entries: u64,
     pub settled: u64,
@@ -44,7 +44,7 @@ pub struct View<E, F> {
     pub ticket: u64,
     // In a turn: what the book stood for when it was taken out.
     pub has_book: bool,
-    pub found: Standing<E>,
+    pub found: Statement<E>,
 }
 
 /// What a gate is told once, when it is made.

@@ -2,7 +2,7 @@ use Rattle.std.proofs.Common.{◌≡◌, rules, sym, ap, ◌∙◌, subst}
 use Rattle.book_gate.specs.Passes.{view}
 use Rattle.book_gate.specs.Rule.{budget, IsWithinShare}
 use Rattle.book_gate.specs.Steps.{joining}
-use Rattle.book_gate.specs.Views.{standing}
+use Rattle.book_gate.specs.Views.{statement_of}
 use Rattle.book_gate.proofs.Keeps.{join_step}
 use Rattle.book_gate.proofs.Merging.{within_joined, budget_joined}
 use Rattle.book_gate.proofs.gates.Gate.join.Goals as goal
@@ -13,7 +13,7 @@ join_seat-requires g c = (
   search rules,
   search rules,
   search rules,
-  join_step (standing g.S.Stands.list g.S.Stands.settled g.S.Stands.count) g.S.Stands.footing _ _ _ _ _ _ c.requires.idle.0 c.requires.idle.1 c.requires.other_idle.0 c.requires.other_idle.1,
+  join_step (statement_of g.S.Stands.list g.S.Stands.settled g.S.Stands.count) g.S.Stands.footing _ _ _ _ _ _ c.requires.idle.0 c.requires.idle.1 c.requires.other_idle.0 c.requires.other_idle.1,
 )
 
 pub meet-requires-clause-own : goal.meet-requires-clause-own

@@ -1,7 +1,7 @@
 use Rattle.std.proofs.Common.{rules}
-use Rattle.book_gate.specs.Views.{standing}
+use Rattle.book_gate.specs.Views.{statement_of}
 use Rattle.book_gate.proofs.Keeps.{meet_step}
 use Rattle.book_gate.proofs.gates.Gate.meet.Goals as goal
 
 pub load-requires : goal.load-requires
-load-requires g c = (search rules, search rules, meet_step (standing g.S.Stands.list g.S.Stands.settled g.S.Stands.count) g.S.Stands.footing _ _ _ _ _)
+load-requires g c = (search rules, search rules, meet_step (statement_of g.S.Stands.list g.S.Stands.settled g.S.Stands.count) g.S.Stands.footing _ _ _ _ _)
