@@ -1,7 +1,8 @@
 -- What was appended in pieces, and how long texts are.
-use Rattle.std.proofs.Common.{◌≡◌, ℕ, ◌+◌, ◌*◌, List, [], ◌∷◌, ◌++◌, length, refl, ap, ◌∙◌, append_assoc, arith, length-append}
+use Rattle.std.proofs.Common.{◌≡◌, ℕ, ◌+◌, ◌*◌, ◌≤◌, List, [], ◌∷◌, ◌++◌, length, refl, ap, ◌∙◌, append_assoc, arith, length-append}
 use Rattle.std.specs.List.{flat_map}
 use Rattle.std.specs.Int.{w32, w64, to_be_bytes}
+use Rattle.rail_types.specs.declared.paths.Claim.{Claim}
 use Rattle.rail_types.specs.declared.paths.Path.{Path}
 use Rattle.rail_types.specs.declared.paths.Run.{Run}
 use Rattle.rail_types.specs.declared.trains.Train.{Train}
@@ -10,7 +11,7 @@ use Rattle.rail_types.specs.declared.trains.Request.{Request}
 use Rattle.rail_types.specs.declared.entries.Wanted.TheVariants.{Asked, Pinned}
 use Rattle.rail_types.specs.declared.entries.Deed.TheVariants.{Grant}
 use Rattle.rail_types.specs.declared.entries.Entry.{Entry}
-use Rattle.entry_codec.specs.Body.{body_of, kind_byte, deed_text, name_text, list_text, train_text, wish_text, window_text, stop_text, run_text}
+use Rattle.entry_codec.specs.Body.{body_of, kind_byte, deed_text, hold_text, claim_text, name_text, list_text, train_text, wish_text, window_text, stop_text, run_text}
 use Rattle.std.proofs.lemmas.List.Concat.{flat_map-cons}
 
 pub appended : (old mid new a b : List ℕ) → mid ≡ old ++ a → new ≡ mid ++ b → new ≡ old ++ (a ++ b)
@@ -53,6 +54,27 @@ pub length-asked : (request : Request) (path : Path) → length (deed_text (Gran
 length-asked request path =
     length-append3 (train_text path.train) (wish_text request) (list_text run_text path.runs)
     ∙ omega (arith, length-train_text path.train, length-wish_text request, length-runs path.runs)
+
+length-claims : (claims : List Claim) → length (flat_map claim_text claims) ≡ 20 * length claims
+length-claims claims = length-flat_map claim_text 20 (λ x. refl) claims
+
+pub length-plain : (claims : List Claim) (reason : List ℕ) → length reason ≡ 0 → length (hold_text claims reason) ≡ 20 * length claims
+length-plain claims [] none_is = length-claims claims
+length-plain claims (byte ∷ others) none_is = absurd (omega (arith, none_is))
+
+pub length-reasoned : (claims : List Claim) (reason : List ℕ) → 1 ≤ length reason → length (hold_text claims reason) ≡ 5 + length reason + 20 * length claims
+length-reasoned claims [] some = absurd (omega (arith, some))
+length-reasoned claims (byte ∷ others) some =
+    length-append (name_text (byte ∷ others)) (list_text claim_text claims)
+    ∙ omega (arith, length-append (to_be_bytes w32 (length claims)) (flat_map claim_text claims), length-claims claims)
+
+pub plain_text : (claims : List Claim) (reason : List ℕ) → length reason ≡ 0 → hold_text claims reason ≡ flat_map claim_text claims
+plain_text claims [] none_is = refl
+plain_text claims (byte ∷ others) none_is = absurd (omega (arith, none_is))
+
+pub reasoned_text : (claims : List Claim) (reason : List ℕ) → 1 ≤ length reason → hold_text claims reason ≡ name_text reason ++ list_text claim_text claims
+reasoned_text claims [] some = absurd (omega (arith, some))
+reasoned_text claims (byte ∷ others) some = refl
 
 pub length-body_of : (entry : Entry) → length (body_of entry) ≡ 14 + length entry.owner + length (deed_text entry.deed)
 length-body_of entry =

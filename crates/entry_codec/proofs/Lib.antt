@@ -6,3 +6,6 @@ pub mod Readers
 pub mod Numbers
 pub mod Parts
 pub mod Texts
+pub mod Stops
+pub mod Wrongs
+pub mod Refusals

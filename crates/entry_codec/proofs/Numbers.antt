@@ -8,8 +8,9 @@ use Rattle.std.proofs.lemmas.Int.{of_z-to_z, to_z-of_z}
 use Rattle.std.proofs.lemmas.List.{take_at, take-append-drop, length-take, length-take-le}
 use Rattle.std.proofs.lemmas.Nat.{be_bytes_4, be_bytes_8, from_be_bytes-to_be_bytes_4, from_be_bytes-to_be_bytes_8}
 use Rattle.byte_fields.specs.Unread.{Unread, end_of, signed_bytes}
+use Rattle.rail_types.specs.Limits.{is_between}
 use Rattle.entry_codec.specs.Body.{name_text}
-use Rattle.entry_codec.specs.Reading.{meant, if_so, is_between, bytes_field, byte_field, number_field, signed_field, name_field}
+use Rattle.entry_codec.specs.Reading.{meant, if_so, bytes_field, byte_field, number_field, signed_field, name_field}
 use Rattle.entry_codec.proofs.Fields.{bytes_give, bytes_end}
 use Rattle.entry_codec.proofs.Readers.{IsBytes, IsBytes-take, IsBytes-drop, Taken, joined, Spells, Reads, then_takes, then_spells, made_takes, made_spells, under_limits, passing_reads}
 
@@ -134,7 +135,7 @@ pub record IsNameOf (most : ℕ) (test : List ℕ → Bool) (name : List ℕ) : 
   pub count : length name ≤ most
   pub test_is : test name ≡ true
 
-count_reads : (most : ℕ) → most < 256 → Reads (meant (if_so (is_between 1 most)) byte_field) (λ b. b ∷ []) (λ b. (1 ≤ b) × (b ≤ most))
+pub count_reads : (most : ℕ) → most < 256 → Reads (meant (if_so (is_between 1 most)) byte_field) (λ b. b ∷ []) (λ b. (1 ≤ b) × (b ≤ most))
 count_reads most lt = under_limits (passing_reads byte_reads (is_between 1 most)) (λ b. (1 ≤ b) × (b ≤ most)) (λ b l. between 1 most b l.1) (λ b l. (omega (arith, l.1), is_between-true 1 most b l))
 
 name_takes : (most : ℕ) (test : List ℕ → Bool) → most < 256 → (old new : Unread) (x : List ℕ) → IsBytes old.left → name_field most test old ≡ Ok (x, new) → Taken old.left (name_text x) new.left × IsNameOf most test x

@@ -1,7 +1,10 @@
 -- Each part of an entry is read where it is spelled.
-use Rattle.std.proofs.Common.{◌≡◌, ℕ, zero, suc, ◌^◌, ◌<◌, ◌≤◌, Bool, true, false, cond, eqb, ◌&&◌, List, [], ◌∷◌, ◌++◌, length, Some, None, Ok, refl, sym, ap, subst, ◌∙◌, append_assoc, arith, ◌⊎◌, inl, inr}
-use Rattle.std.proofs.lemmas.Bool.{eqb-true}
-use Rattle.std.specs.Prelude.{ℤ, FitsSigned, ◌<ℤ◌, int_lt, int_le, neg_ℤ}
+use Rattle.std.proofs.Common.{◌≡◌, ℕ, zero, suc, ◌^◌, ◌<◌, ◌≤◌, Bool, true, false, cond, eqb, ◌&&◌, List, [], ◌∷◌, ◌++◌, length, Some, None, Ok, refl, sym, ap, subst, ◌∙◌, append_assoc, arith, ◌⊎◌, inl, inr, ◌||◌, All, AllPairs}
+use Rattle.std.proofs.lemmas.Bool.{eqb-true, leb-true, le-leb, ltb-true, lt-ltb, cases_lt}
+use Rattle.std.proofs.lemmas.List.Elements.{All-from_recursion}
+use Rattle.std.proofs.lemmas.List.Kept.{AllPairs-cons}
+use Rattle.rail_types.specs.Occupation.{HasTicks, EndsBefore}
+use Rattle.std.specs.Prelude.{ℤ, FitsSigned, ◌<ℤ◌, int_lt, int_le, neg_ℤ, nat_le, nat_lt}
 use Rattle.std.specs.Str.{is_utf8}
 use Rattle.std.specs.List.{flat_map, AllByRecursion}
 use Rattle.std.specs.Int.{w32, w64, to_be_bytes}
@@ -15,10 +18,10 @@ use Rattle.rail_types.specs.declared.paths.Window.{Window}
 use Rattle.rail_types.specs.declared.paths.Run.{Run}
 use Rattle.rail_types.specs.declared.trains.Train.{Train}
 use Rattle.rail_types.specs.declared.trains.Stop.{Stop}
-use Rattle.rail_types.specs.Limits.{IsTick, IsClaimWithinLimits, IsWindowWithinLimits, IsRunWithinLimits, IsTrainWithinLimits}
+use Rattle.rail_types.specs.Limits.{is_between, is_tick, IsTick, IsClaimWithinLimits, IsWindowWithinLimits, IsRunWithinLimits, IsTrainWithinLimits}
 use Rattle.entry_codec.specs.Body.{claim_text, window_text, train_text, name_text, stop_text, run_text, flag_byte, list_text}
 use Rattle.entry_codec.specs.Within.{IsFourBytes}
-use Rattle.entry_codec.specs.Reading.{Reading, done, meant, is_between, is_tick, flag_of, byte_field, name_field, limited_field, position_field, tick_field, later_field, flag_field, claim_field, window_field, train_field, stop_field, run_field, items_field, list_field}
+use Rattle.entry_codec.specs.Reading.{Reading, done, meant, is_behind, before_all, next_zone_field, begin_field, next_claim_field, claims_field, flag_of, byte_field, name_field, limited_field, position_field, tick_field, later_field, flag_field, claim_field, window_field, train_field, stop_field, run_field, items_field, list_field}
 use Rattle.entry_codec.proofs.Readers.{IsBytes, Taken, joined, Spells, with_text, Reads, then_takes, then_spells, made_takes, made_spells, under_limits, meant_reads, passing_reads}
 use Rattle.entry_codec.proofs.Numbers.{byte_reads, number_reads, long_number_reads, signed_reads, name_reads, IsNameOf, between, is_between-true, both_true}
 
@@ -57,7 +60,7 @@ position_reads =
 tick_passes : (t : ℤ) → is_tick t ≡ true → IsTick t
 tick_passes t e = let b = both_true (int_le (neg_ℤ MAX_TICK) t) (int_le t MAX_TICK) e in (grind (arith, ints, b.0), grind (arith, ints, b.1))
 
-tick_is : (t : ℤ) → IsTick t → is_tick t ≡ true
+pub tick_is : (t : ℤ) → IsTick t → is_tick t ≡ true
 tick_is t h = grind (arith, ints, h.0, h.1)
 
 tick_fits : (t : ℤ) → IsTick t → FitsSigned w64 t
@@ -66,7 +69,7 @@ tick_fits t h = omega (arith, ints, h.0, h.1)
 later_passes : (from t : ℤ) → (is_tick t && int_lt from t) ≡ true → IsTick t × (from <ℤ t)
 later_passes from t e = let b = both_true (is_tick t) (int_lt from t) e in (tick_passes t b.0, grind (arith, ints, b.1))
 
-later_is : (from t : ℤ) → IsTick t × (from <ℤ t) → (is_tick t && int_lt from t) ≡ true
+pub later_is : (from t : ℤ) → IsTick t × (from <ℤ t) → (is_tick t && int_lt from t) ≡ true
 later_is from t h = let low = tick_is t h.0 in let high : int_lt from t ≡ true = grind (arith, ints, h.1) in rw (low, high) refl
 
 tick_takes : (old new : Unread) (x : ℤ) → IsBytes old.left → tick_field old ≡ Ok (x, new) → Taken old.left (signed_bytes x) new.left × (FitsSigned w64 x × (is_tick x ≡ true))
@@ -191,6 +194,180 @@ claim_again x limits =
 pub claim_reads : Reads claim_field claim_text IsClaim
 claim_reads = record { takes = claim_takes; again = claim_again }
 
+-- ---- claims one behind another
+
+next_zone_takes : (before : Claim) (old new : Unread) (x : ℕ) → IsBytes old.left → next_zone_field before old ≡ Ok (x, new) → Taken old.left (to_be_bytes w32 x) new.left × (IsFourBytes x × (nat_le before.zone x ≡ true))
+unfolding next_zone_field
+next_zone_takes before old new x fits e = (passing_reads number_reads (nat_le before.zone)).takes old new x fits e
+
+next_zone_again : (before : Claim) (x : ℕ) → IsFourBytes x × (nat_le before.zone x ≡ true) → Spells (to_be_bytes w32 x) (next_zone_field before) x
+unfolding next_zone_field
+next_zone_again before x limits = (passing_reads number_reads (nat_le before.zone)).again x limits
+
+pub next_zone_reads : (before : Claim) → Reads (next_zone_field before) (to_be_bytes w32) (λ zone. IsFourBytes zone × (before.zone ≤ zone))
+next_zone_reads before =
+    under_limits {Limits = λ zone. IsFourBytes zone × (nat_le before.zone zone ≡ true)} (record { takes = next_zone_takes before; again = next_zone_again before }) (λ zone. IsFourBytes zone × (before.zone ≤ zone))
+    (λ zone l. (l.0, leb-true before.zone zone l.1))
+    (λ zone l. (l.0, le-leb before.zone zone l.1))
+
+begin_takes : (before : Claim) (zone : ℕ) (old new : Unread) (x : ℤ) → IsBytes old.left → begin_field before zone old ≡ Ok (x, new) → Taken old.left (signed_bytes x) new.left × (FitsSigned w64 x × (is_behind before zone x ≡ true))
+unfolding begin_field
+begin_takes before zone old new x fits e = (passing_reads signed_reads (is_behind before zone)).takes old new x fits e
+
+begin_again : (before : Claim) (zone : ℕ) (x : ℤ) → FitsSigned w64 x × (is_behind before zone x ≡ true) → Spells (signed_bytes x) (begin_field before zone) x
+unfolding begin_field
+begin_again before zone x limits = (passing_reads signed_reads (is_behind before zone)).again x limits
+
+-- on a greater zone, or behind the end
+abbrev pub IsBehind : Claim → ℕ → ℤ → Type 0
+IsBehind before zone from = (before.zone < zone) ⊎ (before.span.to <ℤ from)
+
+either_true : (a b : Bool) → (a || b) ≡ true → (a ≡ true) ⊎ (b ≡ true)
+either_true true b e = inl refl
+either_true false b e = inr e
+
+or_left : (a b : Bool) → a ≡ true → (a || b) ≡ true
+or_left a b e = rw e refl
+
+or_right : (a b : Bool) → b ≡ true → (a || b) ≡ true
+or_right true b e = refl
+or_right false b e = e
+
+behind_passes : (before : Claim) (zone : ℕ) (t : ℤ) → is_behind before zone t ≡ true → IsTick t × IsBehind before zone t
+behind_passes before zone t e =
+    let b = both_true (is_tick t) (nat_lt before.zone zone || int_lt before.span.to t) e in (
+      tick_passes t b.0,
+      elim (either_true (nat_lt before.zone zone) (int_lt before.span.to t) b.1) [
+        | inl lt ↦ inl (ltb-true before.zone zone lt)
+        | inr later ↦ inr (grind (arith, ints, later))
+      ],
+    )
+
+behind_either : (before : Claim) (zone : ℕ) (t : ℤ) → IsBehind before zone t → (nat_lt before.zone zone || int_lt before.span.to t) ≡ true
+behind_either before zone t (inl lt) = or_left (nat_lt before.zone zone) (int_lt before.span.to t) (lt-ltb before.zone zone lt)
+behind_either before zone t (inr later) = or_right (nat_lt before.zone zone) (int_lt before.span.to t) (grind (arith, ints, later))
+
+pub behind_is : (before : Claim) (zone : ℕ) (t : ℤ) → IsTick t × IsBehind before zone t → is_behind before zone t ≡ true
+behind_is before zone t h = let low = tick_is t h.0 in let high = behind_either before zone t h.1 in rw (low, high) refl
+
+pub begin_reads : (before : Claim) (zone : ℕ) → Reads (begin_field before zone) signed_bytes (λ t. IsTick t × IsBehind before zone t)
+begin_reads before zone =
+    under_limits {Limits = λ t. FitsSigned w64 t × (is_behind before zone t ≡ true)} (record { takes = begin_takes before zone; again = begin_again before zone }) (λ t. IsTick t × IsBehind before zone t)
+    (λ t l. behind_passes before zone t l.1)
+    (λ t l. (tick_fits t l.0, behind_is before zone t l))
+
+-- a claim behind another one
+abbrev pub IsNextClaim : Claim → Claim → Type 0
+IsNextClaim before claim = IsClaim claim × EndsBefore before claim
+
+ends_before : (before claim : Claim) → before.zone ≤ claim.zone → IsBehind before claim.zone claim.span.from → EndsBefore before claim
+ends_before before claim le (inl lt) = inl lt
+ends_before before claim le (inr later) =
+    elim (cases_lt before.zone claim.zone) [
+      | inl lt ↦ inl lt
+      | inr ge ↦ inr (omega (arith, le, ge), later)
+    ]
+
+pub zone_is : (before claim : Claim) → EndsBefore before claim → before.zone ≤ claim.zone
+zone_is before claim (inl lt) = omega (arith, lt)
+zone_is before claim (inr same) = omega (arith, same.0)
+
+pub is_behind_it : (before claim : Claim) → EndsBefore before claim → IsBehind before claim.zone claim.span.from
+is_behind_it before claim (inl lt) = inl lt
+is_behind_it before claim (inr same) = inr same.1
+
+next_claim_takes : (before : Claim) (old new : Unread) (x : Claim) → IsBytes old.left → next_claim_field before old ≡ Ok (x, new) → Taken old.left (claim_text x) new.left × IsNextClaim before x
+unfolding next_claim_field
+next_claim_takes before old new x fits e =
+    then_takes (next_zone_reads before) _ _ old (x, new) fits e (λ zone mid1 t1 l1 e1.
+    then_takes (begin_reads before zone) _ _ mid1 (x, new) t1.fits e1 (λ from mid2 t2 l2 e2.
+    then_takes (later_reads from) _ _ mid2 (x, new) t2.fits e2 (λ to mid3 t3 l3 e3.
+    let claim : Claim = record { zone = zone; span = record { from = from; to = to } } in
+    made_takes old mid3 new claim x claim_text (IsNextClaim before) e3 (joined (joined t1 t2) t3) ((l1.0, record { from = l2.0; to = l3.0; ordered = l3.1 }), ends_before before claim l1.1 l2.1))))
+
+next_claim_again : (before x : Claim) → IsNextClaim before x → Spells (claim_text x) (next_claim_field before) x
+unfolding next_claim_field
+next_claim_again before x limits =
+    with_text (regroup3 (to_be_bytes w32 x.zone) (signed_bytes x.span.from) (signed_bytes x.span.to)) (
+    then_spells ((next_zone_reads before).again x.zone (limits.0.0, zone_is before x limits.1)) _ (
+    then_spells ((begin_reads before x.zone).again x.span.from (limits.0.1.from, is_behind_it before x limits.1)) _ (
+    made_spells ((later_reads x.span.from).again x.span.to (limits.0.1.to, limits.0.1.ordered)) _ x refl)))
+
+pub next_claim_reads : (before : Claim) → Reads (next_claim_field before) claim_text (IsNextClaim before)
+next_claim_reads before = record { takes = next_claim_takes before; again = next_claim_again before }
+
+-- each claim behind the one before
+abbrev pub AreNext : Claim → List Claim → Type 0
+AreNext before [] = Unit {0}
+AreNext before (claim ∷ claims) = IsNextClaim before claim × AreNext claim claims
+
+abbrev pub AreClaims : ℕ → Claim → List Claim → Type 0
+AreClaims count before claims = (length claims ≡ count) × AreNext before claims
+
+no_claims_again : (before : Claim) (x : List Claim) → AreClaims 0 before x → Spells (flat_map claim_text x) (done []) x
+no_claims_again before [] limits = record { found = λ at rest. ap (λ (n : ℕ). Ok ([], record { at = n; left = rest })) (omega arith); short = λ at count lt. absurd (omega arith) }
+no_claims_again before (y ∷ ys) limits = absurd (omega (arith, limits.0))
+
+more_claims_again : (count : ℕ) (before : Claim) → ((first : Claim) → Reads (claims_field count first) (flat_map claim_text) (AreClaims count first)) → (x : List Claim) → AreClaims (suc count) before x → Spells (flat_map claim_text x) (claims_field (suc count) before) x
+unfolding claims_field
+more_claims_again count before others [] limits = absurd (omega (arith, limits.0))
+more_claims_again count before others (y ∷ ys) limits =
+    with_text (sym (flat_map-cons claim_text y ys)) (
+    then_spells ((next_claim_reads before).again y limits.1.0) _ (
+    made_spells ((others y).again ys (omega (arith, limits.0), limits.1.1)) _ (y ∷ ys) refl))
+
+pub claims_read : (count : ℕ) (before : Claim) → Reads (claims_field count before) (flat_map claim_text) (AreClaims count before)
+unfolding claims_field
+claims_read zero before = record {
+  takes = λ old new x fits e. made_takes old old new [] x (flat_map claim_text) (AreClaims 0 before) e (record { parts = refl; fits = fits }) (refl, tt);
+  again = no_claims_again before;
+}
+claims_read (suc count) before = record {
+  takes = λ old new x fits e.
+      then_takes (next_claim_reads before) _ _ old (x, new) fits e (λ first mid1 t1 l1 e1.
+      then_takes (claims_read count first) _ _ mid1 (x, new) t1.fits e1 (λ others mid2 t2 l2 e2.
+      made_takes old mid2 new (first ∷ others) x (flat_map claim_text) (AreClaims (suc count) before) e2 (subst (λ (w : List ℕ). Taken old.left w mid2.left) (sym (flat_map-cons claim_text first others)) (joined t1 t2)) (ap suc l2.0, (l1, l2.1))));
+  again = more_claims_again count before (λ first. claims_read count first);
+}
+
+-- ---- claims one behind another are apart
+
+pub next_claims : (before : Claim) (claims : List Claim) → AreNext before claims → AllByRecursion IsClaim claims
+next_claims before [] h = tt
+next_claims before (claim ∷ claims) h = (h.0.0, next_claims claim claims h.1)
+
+ends_long_before : (a b c : Claim) → EndsBefore a b → HasTicks b.span → EndsBefore b c → EndsBefore a c
+ends_long_before a b c (inl p) t (inl q) = inl (omega (arith, p, q))
+ends_long_before a b c (inl p) t (inr q) = inl (omega (arith, p, q.0))
+ends_long_before a b c (inr p) t (inl q) = inl (omega (arith, p.0, q))
+ends_long_before a b c (inr p) t (inr q) = inr (p.0 ∙ q.0, omega (arith, ints, p.1, t, q.1))
+
+ends_before_all : (before claim : Claim) → EndsBefore before claim → HasTicks claim.span → (claims : List Claim) → AllByRecursion (EndsBefore claim) claims → AllByRecursion (EndsBefore before) claims
+ends_before_all before claim e t [] h = tt
+ends_before_all before claim e t (next ∷ claims) h = (ends_long_before before claim next e t h.0, ends_before_all before claim e t claims h.1)
+
+before_next : (before : Claim) (claims : List Claim) → AreNext before claims → AllByRecursion (EndsBefore before) claims
+before_next before [] h = tt
+before_next before (claim ∷ claims) h = (h.0.1, ends_before_all before claim h.0.1 h.0.0.1.ordered claims (before_next claim claims h.1))
+
+pub next_apart : (before : Claim) (claims : List Claim) → AreNext before claims → AllPairs EndsBefore claims
+next_apart before [] h = λ i j d lt within. absurd (omega arith)
+next_apart before (claim ∷ claims) h = AllPairs-cons EndsBefore claim claims (All-from_recursion (EndsBefore claim) claims (before_next claim claims h.1)) (next_apart claim claims h.1)
+
+pub are_next : (before : Claim) (claims : List Claim) → All (EndsBefore before) claims → AllByRecursion IsClaim claims → AllPairs EndsBefore claims → AreNext before claims
+are_next before [] first each apart = tt
+are_next before (claim ∷ claims) first each apart = (
+  (each.0, first 0 claim (omega arith)),
+  are_next claim claims (λ k d lt. apart 0 (suc k) d (omega arith) (omega arith)) each.1 (λ i j d lt within. apart (suc i) (suc j) d (omega arith) (omega arith)),
+)
+
+pub all_behind : (claim : Claim) → IsClaimWithinLimits claim → EndsBefore before_all claim
+all_behind claim h =
+    elim (cases_lt 0 claim.zone) [
+      | inl lt ↦ inl (omega (arith, lt))
+      | inr le ↦ inr (omega (arith, le), omega (arith, ints, h.from.0))
+    ]
+
 abbrev pub IsStop : Stop → Type 0
 IsStop stop = IsFourBytes stop.stop × (stop.dwell ≤ MAX_DWELL)
 
@@ -239,7 +416,7 @@ run_reads = record { takes = run_takes; again = run_again }
 
 -- ---- trains
 
-train_name_reads : Reads (name_field MAX_TRAIN_NAME_BYTES is_utf8) name_text (IsNameOf MAX_TRAIN_NAME_BYTES is_utf8)
+pub train_name_reads : Reads (name_field MAX_TRAIN_NAME_BYTES is_utf8) name_text (IsNameOf MAX_TRAIN_NAME_BYTES is_utf8)
 train_name_reads = name_reads MAX_TRAIN_NAME_BYTES is_utf8 (omega arith)
 
 from_one : (most : ℕ) → most < 2 ^ 32 → Reads (limited_field 1 most) (to_be_bytes w32) (λ n. (1 ≤ n) × (n ≤ most))

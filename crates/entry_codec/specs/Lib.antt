@@ -1,3 +1,4 @@
 pub mod Body
 pub mod Within
 pub mod Reading
+pub mod Places

@@ -1,10 +1,11 @@
 -- A body read from left to right, with the place of the first field that is wrong.
-use Rattle.std.specs.Prelude.{◌≡◌, ℕ, zero, suc, ◌+◌, ◌^◌, ◌-◌, Bool, true, false, ◌&&◌, ◌||◌, List, [], ◌∷◌, length, take, drop, slice_index, Option, Some, None, Result, Ok, Err, ℤ, neg_ℤ, int_le, int_lt, nat_lt, nat_le, ◌==◌, if◌then◌else◌}
+use Rattle.std.specs.Prelude.{◌≡◌, ℕ, zero, suc, ◌+◌, ◌^◌, ◌-◌, Bool, true, false, ◌&&◌, ◌||◌, List, [], ◌∷◌, length, take, drop, slice_index, Option, Some, None, Result, Ok, Err, ℤ, pos, neg_ℤ, ◌-ℤ◌, int_lt, nat_lt, nat_le, ◌==◌, if◌then◌else◌}
 use Rattle.std.specs.List.{list_all}
 use Rattle.std.specs.Int.{Width, w32, w64, byte_len, from_be_bytes, cast_signed}
 use Rattle.std.specs.Str.{is_utf8}
 use Rattle.byte_fields.specs.Unread.{Unread, end_of}
-use Rattle.rail_types.specs.declared.limits.TheConstants.{MAX_TICK, MAX_NUMBER, MAX_OWNER_BYTES, MAX_TRAIN_LENGTH_M, MAX_SPEED_MM_S, MAX_ACCEL_MM_S2, MAX_ALLOWANCE_PERCENT, MAX_TRAIN_NAME_BYTES, MAX_STOPS, MAX_DWELL, MAX_PINNED_RUNS}
+use Rattle.rail_types.specs.declared.limits.TheConstants.{MAX_TICK, MAX_NUMBER, MAX_OWNER_BYTES, MAX_TRAIN_LENGTH_M, MAX_SPEED_MM_S, MAX_ACCEL_MM_S2, MAX_ALLOWANCE_PERCENT, MAX_TRAIN_NAME_BYTES, MAX_STOPS, MAX_DWELL, MAX_PINNED_RUNS, MAX_HOLD_CLAIMS, MAX_REASON_BYTES}
+use Rattle.rail_types.specs.Limits.{is_between, is_tick, is_name_byte}
 use Rattle.rail_types.specs.declared.paths.Claim.{Claim}
 use Rattle.rail_types.specs.declared.paths.Window.{Window}
 use Rattle.rail_types.specs.declared.paths.Run.{Run}
@@ -19,24 +20,14 @@ use Rattle.entry_codec.specs.Within.{HasBody}
 use Rattle.entry_codec.specs.declared.kinds.Kind.{Kind}
 use Rattle.entry_codec.specs.declared.kinds.Kind.TheVariants as kind
 use Rattle.entry_codec.specs.declared.faults.EntryFault.{EntryFault}
+use Rattle.entry_codec.specs.declared.faults.Wrong.{Wrong}
+use Rattle.entry_codec.specs.declared.finding.FoundTrain.{FoundTrain}
 use Rattle.entry_codec.specs.declared.faults.EntryFault.TheVariants.{NotEntry, Memory}
 
 -- What reading gives: a value and what is left behind it, or where the first wrong field begins. Where bytes are
 -- missing that is the end of all.
 abbrev pub Reading : Type 0 → Type 0
 Reading A = Unread → Result (A × Unread) ℕ
-
--- What a call answered and left is what reading gives, unless memory ran out.
-abbrev pub Fails : {A : Type 0} → EntryFault → Result A ℕ → Type 0
-Fails Memory read = Unit {0}
-Fails (NotEntry at) read = read ≡ Err at
-
-abbrev pub GivesBy : {A B : Type 0} → (A → B) → Unread → Result A EntryFault → Result (B × Unread) ℕ → Type 0
-GivesBy view left (Ok value) read = read ≡ Ok (view value, left)
-GivesBy view left (Err fault) read = Fails fault read
-
-abbrev pub Gives : {A : Type 0} → Unread → Result A EntryFault → Result (A × Unread) ℕ → Type 0
-Gives left result read = GivesBy (λ value. value) left result read
 
 -- one field after the other
 abbrev pub go_on : {A B : Type 0} → Result (A × Unread) ℕ → (A → Reading B) → Result (B × Unread) ℕ
@@ -66,7 +57,11 @@ if_so test value = if test value then Some value else None
 
 -- the next bytes, so many
 unfoldable pub bytes_field : ℕ → Reading (List ℕ)
-bytes_field count = λ unread. if nat_lt (length unread.left) count then Err (end_of unread) else Ok (take count unread.left, record { at = unread.at + count; left = drop count unread.left })
+bytes_field count =
+    λ unread.
+    if nat_lt (length unread.left) count
+    then Err (end_of unread)
+    else Ok (take count unread.left, record { at = unread.at + count; left = drop count unread.left })
 
 unfoldable pub byte_field : Reading ℕ
 byte_field = do
@@ -83,18 +78,12 @@ signed_field = do
   number ← number_field w64
   done (cast_signed w64 number)
 
-abbrev pub is_between : ℕ → ℕ → ℕ → Bool
-is_between least most number = nat_le least number && nat_le number most
-
 unfoldable pub limited_field : ℕ → ℕ → Reading ℕ
 limited_field least most = meant (if_so (is_between least most)) (number_field w32)
 
 -- an entry's position, or a client's number
 unfoldable pub position_field : Reading ℕ
 position_field = meant (if_so (is_between 0 MAX_NUMBER)) (number_field w64)
-
-abbrev pub is_tick : ℤ → Bool
-is_tick tick = int_le (neg_ℤ MAX_TICK) tick && int_le tick MAX_TICK
 
 unfoldable pub tick_field : Reading ℤ
 tick_field = meant (if_so is_tick) signed_field
@@ -115,8 +104,18 @@ name_field most test = do
   count ← meant (if_so (is_between 1 most)) byte_field
   meant (if_so test) (bytes_field count)
 
-abbrev pub is_name_byte : ℕ → Bool
-is_name_byte byte = is_between 65 90 byte || is_between 97 122 byte || is_between 48 57 byte || byte == 95 || byte == 45
+abbrev pub owner_field : Reading (List ℕ)
+owner_field = name_field MAX_OWNER_BYTES (list_all is_name_byte)
+
+abbrev pub train_name_field : Reading (List ℕ)
+train_name_field = name_field MAX_TRAIN_NAME_BYTES is_utf8
+
+-- a reason may have any bytes
+abbrev pub any_bytes : List ℕ → Bool
+any_bytes bytes = true
+
+abbrev pub reason_field : Reading (List ℕ)
+reason_field = name_field MAX_REASON_BYTES any_bytes
 
 -- ---- lists
 
@@ -141,9 +140,49 @@ claim_field = do
   to ← later_field from
   done (record { zone = zone; span = record { from = from; to = to } })
 
+-- ends before each claim that may be named
+abbrev pub before_all : Claim
+before_all =
+    let tick = neg_ℤ MAX_TICK -ℤ pos 1 in
+    record { zone = 0; span = record { from = tick; to = tick } }
+
+-- the zone of a claim behind another one: not below that one's
+unfoldable pub next_zone_field : Claim → Reading ℕ
+next_zone_field before = meant (if_so (nat_le before.zone)) (number_field w32)
+
+-- a tick that is behind a claim where it stands on the same zone
+abbrev pub is_behind : Claim → ℕ → ℤ → Bool
+is_behind before zone from = is_tick from && (nat_lt before.zone zone || int_lt before.span.to from)
+
+-- the begin on a zone of a claim behind another one
+unfoldable pub begin_field : Claim → ℕ → Reading ℤ
+begin_field before zone = meant (if_so (is_behind before zone)) signed_field
+
+unfoldable pub next_claim_field : Claim → Reading Claim
+next_claim_field before = do
+  zone ← next_zone_field before
+  from ← begin_field before zone
+  to ← later_field from
+  done (record { zone = zone; span = record { from = from; to = to } })
+
+-- so many claims, each behind the one before
+unfoldable pub claims_field : ℕ → Claim → Reading (List Claim)
+claims_field zero before = done []
+claims_field (suc count) before = do
+  first ← next_claim_field before
+  others ← claims_field count first
+  done (first ∷ others)
+
+unfoldable pub reasoned_field : Reading Deed
+reasoned_field = do
+  reason ← reason_field
+  count ← limited_field 1 MAX_HOLD_CLAIMS
+  claims ← claims_field count before_all
+  done (Hold claims reason)
+
 unfoldable pub train_field : Reading Train
 train_field = do
-  name ← name_field MAX_TRAIN_NAME_BYTES is_utf8
+  name ← train_name_field
   length_m ← limited_field 1 MAX_TRAIN_LENGTH_M
   speed ← limited_field 1 MAX_SPEED_MM_S
   accel ← limited_field 1 MAX_ACCEL_MM_S2
@@ -189,7 +228,12 @@ pinned_field = do
   done (Grant Pinned (record { train = train; runs = runs }))
 
 abbrev pub kind_of : ℕ → Option Kind
-kind_of byte = if byte == 1 then Some kind.Hold else (if byte == 2 then Some kind.Asked else (if byte == 3 then Some kind.Pinned else (if byte == 4 then Some kind.Free else None)))
+kind_of byte =
+    if byte == 1 then Some kind.Hold else (
+    if byte == 2 then Some kind.Asked else (
+    if byte == 3 then Some kind.Pinned else (
+    if byte == 4 then Some kind.Free else (
+    if byte == 5 then Some kind.Reasoned else None))))
 
 unfoldable pub kind_field : Reading Kind
 kind_field = meant kind_of byte_field
@@ -197,19 +241,20 @@ kind_field = meant kind_of byte_field
 unfoldable pub deed_field : Kind → Reading Deed
 deed_field kind.Hold = do
   claim ← claim_field
-  done (Hold claim)
+  done (Hold (claim ∷ []) [])
 deed_field kind.Asked = asked_field
 deed_field kind.Pinned = pinned_field
 deed_field kind.Free = do
   entry ← position_field
   done (Free entry)
+deed_field kind.Reasoned = reasoned_field
 
 unfoldable pub entry_field : Reading Entry
 entry_field = do
   what ← kind_field
   number ← position_field
   line ← number_field w32
-  owner ← name_field MAX_OWNER_BYTES (list_all is_name_byte)
+  owner ← owner_field
   deed ← deed_field what
   done (record { owner = owner; number = number; line = line; deed = deed })
 
@@ -224,12 +269,50 @@ whole (Err at) = Err at
 unfoldable pub entry_at : List ℕ → Result Entry ℕ
 entry_at body = whole (entry_field (record { at = 0; left = body }))
 
--- no entry has the body, where that is what the fault says
-abbrev pub Refuses : EntryFault → List ℕ → Type 0
-Refuses Memory body = Unit {0}
-Refuses (NotEntry at) body = (entry : Entry) → HasBody entry → body ≡ body_of entry → ⊥
+-- What a call answered is what reading all gives, unless memory ran out.
+abbrev pub Fails : {A : Type 0} → EntryFault → Result A ℕ → Type 0
+Fails Memory read = Unit {0}
+Fails (NotEntry at) read = read ≡ Err at
 
--- what a call answered is what reading all gives, unless memory ran out
 abbrev pub GivesAll : {A : Type 0} → Result A EntryFault → Result A ℕ → Type 0
 GivesAll (Ok value) read = read ≡ Ok value
 GivesAll (Err fault) read = Fails fault read
+
+-- no entry has the body; memory is wanted for a body of an entry alone
+abbrev pub Refuses : EntryFault → List ℕ → Type 0
+Refuses Memory body = (entry : Entry) × HasBody entry × (body ≡ body_of entry)
+Refuses (NotEntry at) body = (entry : Entry) → HasBody entry → body ≡ body_of entry → ⊥
+
+-- ---- inside: what private calls answer and leave
+
+-- What a call that takes no memory found and left is what reading gives.
+abbrev pub FindsBy : {A B : Type 0} → (A → B) → Unread → Result A Wrong → Result (B × Unread) ℕ → Type 0
+FindsBy view left (Ok value) read = read ≡ Ok (view value, left)
+FindsBy view left (Err wrong) read = read ≡ Err wrong.at
+
+abbrev pub Finds : {A : Type 0} → Unread → Result A Wrong → Result (A × Unread) ℕ → Type 0
+Finds left result read = FindsBy (λ value. value) left result read
+
+-- what reading leaves, or where it stops
+abbrev pub after : {A : Type 0} → Result (A × Unread) ℕ → Result Unread ℕ
+after (Ok found) = Ok found.1
+after (Err at) = Err at
+
+-- what a call that keeps no value left is what reading leaves
+abbrev pub Passes : {A B : Type 0} → Unread → Result A Wrong → Result (B × Unread) ℕ → Type 0
+Passes left (Ok done) read = after read ≡ Ok left
+Passes left (Err wrong) read = after read ≡ Err wrong.at
+
+-- what a call answered and left is what reading gives, unless memory ran out
+abbrev pub Gives : {A : Type 0} → Unread → Result A EntryFault → Result (A × Unread) ℕ → Type 0
+Gives left (Ok value) read = read ≡ Ok (value, left)
+Gives left (Err fault) read = Fails fault read
+
+-- whether reading all gives an entry, or where it stops
+abbrev pub PassesAll : {A B : Type 0} → Result A Wrong → Result B ℕ → Type 0
+PassesAll {B = B} (Ok done) read = (value : B) × (read ≡ Ok value)
+PassesAll (Err wrong) read = read ≡ Err wrong.at
+
+-- the train of its numbers and the bytes of its name
+abbrev pub train_found : FoundTrain → Train
+train_found found = record { name = found.name.now; length_m = found.length_m; speed = found.speed; accel = found.accel; brake = found.brake; allowance = found.allowance }

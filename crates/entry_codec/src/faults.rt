@@ -20,19 +20,33 @@ pub enum EntryFault {
     Memory,
 }
 
-impl From<Short> for EntryFault {
-    ghost from_gives = { λ short fault. fault ≡ NotEntry short.at };
+/// Where the first wrong field of a body begins.
+#[derive(Clone, Copy, Debug)]
+pub(crate) struct Wrong {
+    pub at: usize,
+}
 
-    fn from(short: Short) -> EntryFault {
-        EntryFault::NotEntry { at: short.at }
+impl From<Short> for Wrong {
+    ghost from_gives = { λ short wrong. wrong.at ≡ short.at };
+
+    fn from(short: Short) -> Wrong {
+        Wrong { at: short.at }
     }
 }
 
-impl From<Over> for EntryFault {
-    ghost from_gives = { λ over fault. fault ≡ NotEntry over.at };
+impl From<Over> for Wrong {
+    ghost from_gives = { λ over wrong. wrong.at ≡ over.at };
 
-    fn from(over: Over) -> EntryFault {
-        EntryFault::NotEntry { at: over.at }
+    fn from(over: Over) -> Wrong {
+        Wrong { at: over.at }
+    }
+}
+
+impl From<Wrong> for EntryFault {
+    ghost from_gives = { λ wrong fault. fault ≡ NotEntry wrong.at };
+
+    fn from(wrong: Wrong) -> EntryFault {
+        EntryFault::NotEntry { at: wrong.at }
     }
 }
 

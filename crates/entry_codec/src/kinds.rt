@@ -7,4 +7,5 @@ pub(crate) enum Kind {
     Asked,
     Pinned,
     Free,
+    Reasoned,
 }

@@ -2,7 +2,9 @@
 #![tactic(auto)]
 
 mod faults;
+mod finding;
 mod kinds;
+mod passing;
 mod reading;
 mod writing;
 

@@ -1,6 +1,6 @@
 use super::*;
 use byte_fields::Buffer;
-use rail_types::{Claim, Deed, Entry, Name, Span, Wanted};
+use rail_types::{Deed, Wanted};
 use std::alloc::{AllocError, Global};
 use std::test::*;
 
@@ -8,6 +8,14 @@ use std::test::*;
 const HOLD: [u8; 35] = [
     1, 0, 0, 0, 0, 0, 0, 0, 1, 0, 0, 0, 1, 1, 65, 0, 0, 0, 1, 0, 0, 0, 0, 0, 0, 0, 38, 0, 0, 0, 0,
     0, 0, 0, 50,
+];
+
+/// Line 1 of client A holds zone 0 and zone 2 from 5 to 9, under the number 1, for the reason `works`.
+const REASONED: [u8; 65] = [
+    5, 0, 0, 0, 0, 0, 0, 0, 1, 0, 0, 0, 1, 1, 65, //
+    5, 119, 111, 114, 107, 115, 0, 0, 0, 2, //
+    0, 0, 0, 0, 0, 0, 0, 0, 0, 0, 0, 5, 0, 0, 0, 0, 0, 0, 0, 9, //
+    0, 0, 0, 2, 0, 0, 0, 0, 0, 0, 0, 5, 0, 0, 0, 0, 0, 0, 0, 9,
 ];
 
 /// Line 3 of client `Az` frees entry 7, under the number 2.
@@ -96,8 +104,13 @@ fn the_example_is_a_hold(rt: HostRuntime) -> Result<(), Fail> {
     assert_eq!(rt; entry.owner.as_bytes(), b"A".as_slice());
     assert_eq!(rt; entry.number, 1);
     assert_eq!(rt; entry.line, 1);
-    let Deed::Hold(claim) = &entry.deed else {
+    let Deed::Hold(claims, reason) = &entry.deed else {
         return Err("the example is a hold".into());
+    };
+    assert!(rt; reason.as_bytes().is_empty());
+    assert_eq!(rt; claims.len(), 1);
+    let Some(claim) = claims.get(0) else {
+        return Err("one claim".into());
     };
     assert_eq!(rt; claim.zone, 1);
     assert_eq!(rt; claim.span.from, 38);
@@ -107,18 +120,22 @@ fn the_example_is_a_hold(rt: HostRuntime) -> Result<(), Fail> {
 }
 
 #[test]
-fn the_example_is_written(rt: HostRuntime) -> Result<(), Fail> {
-    let owner = Name::from_bytes(rt.alloc(), b"A").ok().ok_or("no memory")?;
-    let span = Span { from: 38, to: 50 };
-    let entry = Entry {
-        owner,
-        number: 1,
-        line: 1,
-        deed: Deed::Hold(Claim { zone: 1, span }),
+fn a_hold_with_a_reason_has_the_fields_of_its_body(rt: HostRuntime) -> Result<(), Fail> {
+    let entry = read(rt.alloc(), &REASONED)
+        .ok()
+        .ok_or("a hold with a reason")?;
+    assert_eq!(rt; body_len(&entry), 65);
+    let Deed::Hold(claims, reason) = &entry.deed else {
+        return Err("a hold with a reason".into());
     };
-    let mut body = Buffer::new(rt.alloc());
-    write(&entry, &mut body).ok().ok_or("no memory")?;
-    assert_eq!(rt; body.as_slice(), HOLD.as_slice());
+    assert_eq!(rt; reason.as_bytes(), b"works".as_slice());
+    assert_eq!(rt; claims.len(), 2);
+    let Some(claim) = claims.get(1) else {
+        return Err("two claims".into());
+    };
+    assert_eq!(rt; claim.zone, 2);
+    assert_eq!(rt; claim.span.from, 5);
+    assert_eq!(rt; claim.span.to, 9);
     Ok(())
 }
 
@@ -170,7 +187,8 @@ fn kinds_names_and_spans_of_a_hold_are_right_or_wrong_in_their_place(
 ) -> Result<(), Fail> {
     let cases = [
         wrong(0, &[0], 0),
-        wrong(0, &[5], 0),
+        wrong(0, &[6], 0),
+        wrong(0, &[5], 15),
         wrong(1, &[128, 0, 0, 0, 0, 0, 0, 0], 1),
         right(1, &[127, 255, 255, 255, 255, 255, 255, 255]),
         right(9, &[0, 0, 0, 0]),
@@ -202,6 +220,48 @@ fn kinds_names_and_spans_of_a_hold_are_right_or_wrong_in_their_place(
         ),
     ];
     check_all(rt.alloc(), &HOLD, &cases)
+}
+
+#[test]
+fn reasons_and_claims_of_a_hold_are_right_or_wrong_in_their_place(
+    rt: HostRuntime,
+) -> Result<(), Fail> {
+    let cases = [
+        wrong(0, &[1], 19),
+        wrong(15, &[0], 15),
+        right(16, &[0, 255, 46, 32, 10]),
+        wrong(15, &[255], 65),
+        wrong(21, &[0, 0, 0, 0], 21),
+        wrong(21, &[0, 0, 0, 65], 21),
+        wrong(21, &[255, 255, 255, 255], 21),
+        wrong(21, &[0, 0, 0, 64], 65),
+        wrong(21, &[0, 0, 0, 3], 65),
+        wrong(21, &[0, 0, 0, 1], 45),
+        right(25, &[0, 0, 0, 1]),
+        wrong(25, &[0, 0, 0, 3], 45),
+        wrong(25, &[0, 0, 0, 2], 49),
+        wrong(29, &[0, 0, 0, 0, 0, 1, 134, 161], 29),
+        right(29, &[255, 255, 255, 255, 255, 254, 121, 96]),
+        wrong(29, &[255, 255, 255, 255, 255, 254, 121, 95], 29),
+        wrong(37, &[0, 0, 0, 0, 0, 0, 0, 5], 37),
+        right(37, &[0, 0, 0, 0, 0, 0, 0, 6]),
+        wrong(37, &[0, 0, 0, 0, 0, 1, 134, 161], 37),
+        wrong(45, &[0, 0, 0, 0], 49),
+        wrong(
+            45,
+            &[0, 0, 0, 0, 0, 0, 0, 0, 0, 0, 0, 9, 0, 0, 0, 0, 0, 0, 0, 12],
+            49,
+        ),
+        right(
+            45,
+            &[0, 0, 0, 0, 0, 0, 0, 0, 0, 0, 0, 10, 0, 0, 0, 0, 0, 0, 0, 12],
+        ),
+        right(45, &[255, 255, 255, 255]),
+        wrong(49, &[0, 0, 0, 0, 0, 1, 134, 161], 49),
+        wrong(57, &[0, 0, 0, 0, 0, 0, 0, 5], 57),
+        right(57, &[0, 0, 0, 0, 0, 1, 134, 160]),
+    ];
+    check_all(rt.alloc(), &REASONED, &cases)
 }
 
 #[test]
@@ -308,6 +368,7 @@ fn check_ends(alloc: Global, body: &[u8]) -> Result<(), Fail> {
 #[test]
 fn a_body_ends_with_its_last_field(rt: HostRuntime) -> Result<(), Fail> {
     check_ends(rt.alloc(), &HOLD)?;
+    check_ends(rt.alloc(), &REASONED)?;
     check_ends(rt.alloc(), &FREE)?;
     check_ends(rt.alloc(), &PINNED)?;
     check_ends(rt.alloc(), &ASKED)

@@ -1,15 +1,18 @@
 //! An entry's body written.
 
-ghost use Rattle.std.specs.Prelude.{◌≡◌, ◌+◌, ◌*◌, ◌^◌, ◌<◌, ◌≤◌, ◌++◌, ◌∷◌, [], length, All, OnOk, OnErr, IsOk};
+ghost use Rattle.rail_types.specs.declared.paths.Claim.{Claim as claim_type};
+ghost use Rattle.rail_types.specs.declared.entries.Deed.TheVariants.{Hold};
+ghost use Rattle.std.specs.Prelude.{◌≡◌, List as list_of, ◌+◌, ◌*◌, ◌^◌, ◌<◌, ◌≤◌, ◌++◌, ◌∷◌, [], length, All, OnOk, OnErr, IsOk};
 ghost use Rattle.std.specs.List.{flat_map};
 ghost use Rattle.std.specs.Int.{w32, w64, to_be_bytes};
 ghost use Rattle.byte_fields.specs.Unread.{signed_bytes};
-ghost use Rattle.entry_codec.specs.Body.{body_of, flag_byte, kind_byte, deed_text, name_text, train_text, claim_text, window_text, wish_text, stop_text, run_text, list_text};
-ghost use Rattle.entry_codec.specs.Within.{HasBody, IsFourBytes, IsWishOfItsTypes, IsDeedOfItsTypes, IsEntryWithinLimits, IsDeedWithinLimits};
+ghost use Rattle.entry_codec.specs.Body.{body_of, flag_byte, kind_byte, deed_text, hold_text, name_text, train_text, claim_text, window_text, wish_text, stop_text, run_text, list_text};
+ghost use Rattle.rail_types.specs.Limits.{IsEntryWithinLimits, IsDeedWithinLimits, IsHoldWithinLimits};
+ghost use Rattle.entry_codec.specs.Within.{HasBody, IsFourBytes, IsWishOfItsTypes, IsDeedOfItsTypes};
 
 use byte_fields::{Buffer, put_bytes, put_i64, put_u8, put_u32, put_u64};
 use no_memory::NoMemory;
-use rail_types::{Claim, Deed, Entry, Name, Request, Run, Stop, Tick, Train, Wanted, Window};
+use rail_types::{Claim, Deed, Entry, List, Name, Request, Run, Stop, Tick, Train, Wanted, Window};
 
 // The calls below find the room that `write` makes first, so that none takes memory.
 
@@ -178,6 +181,46 @@ fn add_wish(to: &mut Buffer, request: &Request)
     add_stops(to, request.stops.as_slice());
 }
 
+fn add_claims(to: &mut Buffer, claims: &[Claim])
+    requires { 20 * length claims.now ≤ to.old.spare }
+    ensures held { to.new.held ≡ to.old.held ++ flat_map claim_text claims.now }
+    ensures spare { to.old.spare ≤ to.new.spare + 20 * length claims.now }
+    ensures typed { All (λ claim. IsFourBytes claim.zone) claims.now }
+{
+    for claim in claims {
+        add_claim(to, claim);
+    }
+}
+
+fn hold_len(claims: &List<Claim>, reason: &Name) -> usize
+    requires { IsHoldWithinLimits claims.now reason.now }
+    ensures length { result ≡ length (hold_text claims.now reason.now) }
+    ensures small { result < 2 ^ 16 }
+{
+    let reason = reason.as_bytes();
+    if reason.is_empty() {
+        20 * claims.len()
+    } else {
+        5 + reason.len() + 20 * claims.len()
+    }
+}
+
+fn add_hold(to: &mut Buffer, claims: &List<Claim>, reason: &Name)
+    requires limits { IsHoldWithinLimits claims.now reason.now }
+    requires room { length (hold_text claims.now reason.now) ≤ to.old.spare }
+    ensures held { to.new.held ≡ to.old.held ++ hold_text claims.now reason.now }
+    ensures spare { to.old.spare ≤ to.new.spare + length (hold_text claims.now reason.now) }
+    ensures typed { All (λ claim. IsFourBytes claim.zone) claims.now }
+{
+    if reason.as_bytes().is_empty() {
+        add_claims(to, claims.as_slice());
+    } else {
+        add_name(to, reason);
+        add_number(to, claims.len() as u32);
+        add_claims(to, claims.as_slice());
+    }
+}
+
 #[tactic(auto, using(crate::proofs::Appends::deed_lengths))]
 fn deed_len(deed: &Deed) -> usize
     requires { IsDeedWithinLimits deed.now }
@@ -185,7 +228,7 @@ fn deed_len(deed: &Deed) -> usize
     ensures small { result < 2 ^ 40 }
 {
     match deed {
-        Deed::Hold(_) => 20,
+        Deed::Hold(claims, reason) => hold_len(claims, reason),
         Deed::Grant(Wanted::Asked(request), path) => {
             69 + path.train.name.as_bytes().len() + 8 * request.stops.len() + 21 * path.runs.len()
         }
@@ -205,7 +248,7 @@ fn add_deed(to: &mut Buffer, deed: &Deed)
     ensures typed { IsDeedOfItsTypes deed.now }
 {
     match deed {
-        Deed::Hold(claim) => add_claim(to, claim),
+        Deed::Hold(claims, reason) => add_hold(to, claims, reason),
         Deed::Grant(Wanted::Asked(request), path) => {
             add_train(to, &path.train);
             add_wish(to, request);
@@ -219,12 +262,20 @@ fn add_deed(to: &mut Buffer, deed: &Deed)
     }
 }
 
+// What a body's first byte says of a hold for a reason.
+fn hold_kind(reason: &Name) -> u8
+    ensures { (claims : list_of claim_type) → result ≡ kind_byte (Hold claims reason.now) }
+{
+    let plain = reason.as_bytes().is_empty();
+    if plain { 1 } else { 5 }
+}
+
 // What a body's first byte says of the deed.
 fn kind(deed: &Deed) -> u8
     ensures { result ≡ kind_byte deed.now }
 {
     match deed {
-        Deed::Hold(_) => 1,
+        Deed::Hold(_, reason) => hold_kind(reason),
         Deed::Grant(Wanted::Asked(_), _) => 2,
         Deed::Grant(Wanted::Pinned, _) => 3,
         Deed::Free(_) => 4,

@@ -4,14 +4,14 @@ use Rattle.std.specs.List.{prefix_len, position_or_len, list_any}
 use Rattle.std.specs.Cmp.Lexicographic.{bytes_decides}
 use Rattle.std.specs.Str.{bytes_eq}
 use Rattle.std.proofs.lemmas.Bool.Decides.{nat_tests, Decides-and, Decides-like, Decides-eqb, same_from_decides}
-use Rattle.std.proofs.lemmas.List.{take_at, length-map}
+use Rattle.std.proofs.lemmas.List.{take_at, length-map, map-append}
 use Rattle.std.proofs.lemmas.Bool.{cases_Bool}
 use Rattle.indexmap.specs.IndexSet.{insert_key}
 use Rattle.rail_types.specs.declared.entries.Entry.{Entry}
 use Rattle.grant_log.specs.declared.keys.EntryKey.{EntryKey}
 use Rattle.grant_log.specs.contracts.keys.EntryKeyPartialEq.TheImpl.{eq-value}
 use Rattle.grant_log.specs.Verdict.{bears, place_of}
-use Rattle.grant_log.specs.Index.{key_for, key_of}
+use Rattle.grant_log.specs.Inside.{key_for, key_of}
 
 -- whether two keys are equal, as the table of keys asks
 abbrev pub same_key : EntryKey → EntryKey → Bool
@@ -73,3 +73,9 @@ module _ (entries : List Entry) (owner : List ℕ) (number : ℕ) where
   key_is_new none =
       let absent : list_any (same_key (key_for owner number)) (map key_of entries) ≡ false = any_map (same_key (key_for owner number)) (bears owner number) key_of (same_key_bears owner number) entries ∙ none_passes (bears owner number) entries none in
       rw absent refl
+
+-- the keys of all entries but the last
+pub keys_front : (whole front : List Entry) (last : Entry) → whole ≡ front ++ last ∷ [] → take (length front) (map key_of whole) ≡ map key_of front
+keys_front whole front last parts =
+    ap (λ entries. take (length front) (map key_of entries)) parts
+    ∙ (ap (take (length front)) (map-append key_of front (last ∷ [])) ∙ take_at (map key_of front) (key_of last ∷ []) (length front) (length-map front key_of))

@@ -1,12 +1,15 @@
-mod ClaimTests
-mod Firsts
-mod Positions
-mod Lives
-mod Clashings
-mod Fresh
-mod Slices
+pub mod Positions
+pub mod Slices
+pub mod Freed
+pub mod Lives
+pub mod SameContents
+pub mod Places
+pub mod Sayings
 pub mod Legals
-pub mod Clashless
-mod Indexed
-mod Judged
-mod Following
+pub mod Followed
+pub mod OnNetwork
+pub mod Joinings
+pub mod Indexed
+pub mod Marks
+pub mod Repeats
+pub mod HeldAlike

@@ -31,3 +31,12 @@ module _ {X : Type 0} where
 
   pub is_contained : (xs : List X) (at : ℕ) (x : X) → slice_get xs at ≡ Some x → Contains xs x
   is_contained xs at x here = (at, slice_get_within xs at x here, get_or_from_slice_get xs at x x here)
+
+  pub slice_get_kept : (xs : List X) (y : X) (at : ℕ) (x : X) → slice_get xs at ≡ Some x → slice_get (xs ++ y ∷ []) at ≡ Some x
+  slice_get_kept [] y at x here = let wrong : ◌≡◌ {A = Option X} None (Some x) = here in cc
+  slice_get_kept (z ∷ zs) y zero x here = here
+  slice_get_kept (z ∷ zs) y (suc at) x here = slice_get_kept zs y at x here
+
+  pub slice_get_last : (xs : List X) (y : X) → slice_get (xs ++ y ∷ []) (length xs) ≡ Some y
+  slice_get_last [] y = refl
+  slice_get_last (z ∷ zs) y = slice_get_last zs y

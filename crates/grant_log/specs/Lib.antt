@@ -1,5 +1,7 @@
 pub mod Live
+pub mod Content
 pub mod Verdict
+pub mod Meanings
 pub mod Legal
-pub mod Index
-pub mod Firsts
+pub mod Following
+pub mod Inside

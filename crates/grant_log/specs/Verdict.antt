@@ -1,31 +1,17 @@
 -- What a history says of a new entry.
-use Rattle.std.specs.Prelude.{ℕ, Bool, false, ◌&&◌, ◌||◌, not, List, [], ◌∷◌, Option, Some, None, position, find, filter, nat_eq, nat_lt, int_lt, slice_get, bytes_eq, if◌then◌else◌}
-use Rattle.std.specs.List.{list_any, list_all}
-use Rattle.std.specs.Ordering.{int_eq}
-use Rattle.rail_types.specs.declared.paths.Claim.{Claim}
+use Rattle.std.specs.Prelude.{ℕ, Bool, true, false, ◌&&◌, List, Option, Some, None, position, nat_eq, slice_get, bytes_eq, if◌then◌else◌}
 use Rattle.rail_types.specs.declared.entries.Entry.{Entry}
 use Rattle.rail_types.specs.declared.entries.Deed.{Deed}
 use Rattle.rail_types.specs.declared.entries.Deed.TheVariants.{Hold, Grant, Free}
-use Rattle.rail_types.specs.declared.entries.Owner.{Owner}
+use Rattle.rail_types.specs.FirstClash.{first_clash}
+use Rattle.rail_types.specs.Occupation.{HeldClaim}
+use Rattle.rail_types.specs.Timetables.{Timetable}
+use Rattle.blocking_time.specs.declared.rules.Broken.{Broken}
+use Rattle.blocking_time.specs.Broken.{broken}
 use Rattle.grant_log.specs.declared.verdicts.Verdict.{Verdict}
-use Rattle.grant_log.specs.declared.verdicts.Verdict.TheVariants.{NotYet, Kept, Gone, Other, Taken, Fresh}
-use Rattle.grant_log.specs.Live.{freed_by, live_claims}
-
--- whether two claims are on one zone and each begins before the other ends
-abbrev pub clashes : Claim → Claim → Bool
-clashes a b = nat_eq a.zone b.zone && (int_lt a.span.from b.span.to && int_lt b.span.from a.span.to)
-
--- whether a claim is on a lower zone than another, or on the same zone and begins before it
-abbrev pub is_before : Claim → Claim → Bool
-is_before a b = nat_lt a.zone b.zone || (nat_eq a.zone b.zone && int_lt a.span.from b.span.from)
-
--- the live claims that clash with a claim of this list
-abbrev pub clashing : List (Claim × Owner) → List Claim → List (Claim × Owner)
-clashing live claims = filter (λ held. list_any (clashes held.0) claims) live
-
--- of these, one that none of them is before
-abbrev pub first_clashing : List (Claim × Owner) → List Claim → Option (Claim × Owner)
-first_clashing live claims = find (λ held. list_all (λ other. not (is_before other.0 held.0)) (clashing live claims)) (clashing live claims)
+use Rattle.grant_log.specs.declared.verdicts.Verdict.TheVariants.{Kept, Gone, Other, BreaksRequest, Taken, Unknown, NotYours, AlreadyFreed, Fresh}
+use Rattle.grant_log.specs.Content.{has_same_content}
+use Rattle.grant_log.specs.Live.{claims_of, freed_by, live_claims}
 
 -- whether an entry bears this owner's name and this number
 abbrev pub bears : List ℕ → ℕ → Entry → Bool
@@ -35,42 +21,79 @@ bears owner number entry = bytes_eq entry.owner owner && nat_eq entry.number num
 abbrev pub place_of : List Entry → List ℕ → ℕ → Option ℕ
 place_of entries owner number = position (bears owner number) entries
 
--- whether two claims are equal
-abbrev pub is_same_claim : Claim → Claim → Bool
-is_same_claim a b = nat_eq a.zone b.zone && (int_eq a.span.from b.span.from && int_eq a.span.to b.span.to)
-
--- whether a deed holds this claim
-abbrev pub holds : Claim → Deed → Bool
-holds claim (Hold other) = is_same_claim other claim
-holds claim (Grant wanted path) = false
-holds claim (Free at) = false
-
--- what is told of an entry that stands with this content, by the entry that frees it
 abbrev pub kept_or_gone : ℕ → Option ℕ → Verdict
 kept_or_gone at None = Kept at
 kept_or_gone at (Some freer) = Gone at freer
 
--- what a hold is told whose number stands at this position
-abbrev pub repeated : List Entry → Claim → ℕ → Option Entry → Verdict
-repeated entries claim at None = Other at
-repeated entries claim at (Some entry) = if holds claim entry.deed then kept_or_gone at (freed_by entries at) else Other at
+-- a number that stands with another content is told so; else whether the entry there was freed
+abbrev pub verdict_on_repeat : List Entry → Deed → ℕ → Option Entry → Verdict
+verdict_on_repeat entries deed at None = Other at
+verdict_on_repeat entries deed at (Some stands) =
+    if has_same_content stands.deed deed then kept_or_gone at (freed_by entries at) else Other at
 
--- what a hold is told whose number is new, by the first live claim that clashes
-abbrev pub taken_or_fresh : Option (Claim × Owner) → Verdict
+-- what an entry with this deed is told whose owner's number stands at this position
+abbrev pub repeat_at : List Entry → Deed → ℕ → Verdict
+repeat_at entries deed at = verdict_on_repeat entries deed at (slice_get entries at)
+
+-- the position that a Free names
+abbrev pub freed_position : Deed → Option ℕ
+freed_position (Free at) = Some at
+freed_position deed = None
+
+-- the first rule of its request that the path of a grant breaks; a hold and a Free break none
+abbrev pub breaks : Timetable → Deed → Option Broken
+breaks timetable (Grant wanted path) = broken timetable.net timetable.settings path wanted
+breaks timetable (Hold claims reason) = None
+breaks timetable (Free at) = None
+
+-- the first live claim that clashes with a claim of this deed, by zone, then by begin
+abbrev pub first_taken : Timetable → List Entry → Deed → Option HeldClaim
+first_taken timetable entries deed =
+    first_clash (live_claims timetable entries) (claims_of timetable deed)
+
+abbrev pub taken_or_fresh : Option HeldClaim → Verdict
 taken_or_fresh None = Fresh
 taken_or_fresh (Some held) = Taken held.0 held.1
 
--- what a hold is told, by the place at which its owner's number stands
-abbrev pub hold_verdict : List Entry → Claim → Option ℕ → Verdict
-hold_verdict entries claim None = taken_or_fresh (first_clashing (live_claims entries) (claim ∷ []))
-hold_verdict entries claim (Some at) = repeated entries claim at (slice_get entries at)
+abbrev pub broken_or_else : Option Broken → Verdict → Verdict
+broken_or_else None other = other
+broken_or_else (Some rule) other = BreaksRequest rule
 
--- what an entry with this deed is told
-abbrev pub deed_verdict : List Entry → Entry → Deed → Verdict
-deed_verdict entries entry (Hold claim) = hold_verdict entries claim (place_of entries entry.owner entry.number)
-deed_verdict entries entry (Grant wanted path) = NotYet
-deed_verdict entries entry (Free at) = NotYet
+abbrev pub already_or_fresh : Option ℕ → Verdict
+already_or_fresh None = Fresh
+already_or_fresh (Some freer) = AlreadyFreed freer
 
--- what a new entry is told by the history of these entries
-abbrev pub verdict_on : List Entry → Entry → Verdict
-verdict_on entries entry = deed_verdict entries entry entry.deed
+abbrev pub verdict_on_freed : List ℕ → List ℕ → Option ℕ → Verdict
+verdict_on_freed owner other freer =
+    if bytes_eq other owner then already_or_fresh freer else NotYours other
+
+-- whether a deed takes zones: a hold and a grant do
+abbrev pub takes : Deed → Bool
+takes (Hold claims reason) = true
+takes (Grant wanted path) = true
+takes (Free at) = false
+
+-- what stands there must be a hold or a grant, of the owner who frees it, and not be freed
+abbrev pub verdict_on_free : List ℕ → Option Entry → Option ℕ → Verdict
+verdict_on_free owner None freer = Unknown
+verdict_on_free owner (Some stands) freer =
+    if takes stands.deed then verdict_on_freed owner stands.owner freer else Unknown
+
+-- a Free is told what stands at the position that it names; a hold or a grant the first rule of its request that its
+-- path breaks, and else the first live claim that clashes
+abbrev pub verdict_on_deed : Timetable → List Entry → List ℕ → Deed → Verdict
+verdict_on_deed timetable entries owner (Free at) =
+    verdict_on_free owner (slice_get entries at) (freed_by entries at)
+verdict_on_deed timetable entries owner deed =
+    broken_or_else (breaks timetable deed) (taken_or_fresh (first_taken timetable entries deed))
+
+-- what an entry is told whose owner's number stands at a position, or nowhere
+abbrev pub verdict_by_place : Timetable → List Entry → Entry → Option ℕ → Verdict
+verdict_by_place timetable entries entry (Some at) = repeat_at entries entry.deed at
+verdict_by_place timetable entries entry None =
+    verdict_on_deed timetable entries entry.owner entry.deed
+
+-- what a new entry is told by the history of these entries: first of its number, then of its deed
+abbrev pub verdict_on : Timetable → List Entry → Entry → Verdict
+verdict_on timetable entries entry =
+    verdict_by_place timetable entries entry (place_of entries entry.owner entry.number)

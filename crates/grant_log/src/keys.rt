@@ -2,7 +2,7 @@
 
 ghost use Rattle.std.specs.Prelude.{◌≡◌, ◌≤◌, length};
 ghost use Rattle.rail_types.specs.declared.limits.TheConstants.{MAX_OWNER_BYTES};
-ghost use Rattle.grant_log.specs.Index.{key_for};
+ghost use Rattle.grant_log.specs.Inside.{key_for};
 
 use rail_types::{MAX_OWNER_BYTES, Name};
 

@@ -1,17 +1,18 @@
 -- What holds of the claims of all zones, by what holds of those of each.
-use Rattle.std.proofs.Common.{◌≡◌, ◌⊎◌, ◌<ℤ◌, ℕ, zero, suc, ◌+◌, ◌^◌, ◌<◌, List, [], ◌∷◌, ◌++◌, length, get_or, set, Option, IfSome, sym, ap, subst, inl, inr, refl, arith, All, Contains, AllPairs, IsPermutation, ◌∙◌, append-nil, take}
+use Rattle.std.proofs.Common.{◌≡◌, ℕ, zero, suc, ◌+◌, ◌^◌, ◌<◌, List, [], ◌∷◌, ◌++◌, length, map, get_or, set, Option, Some, None, IfSome, IsNone, ◌↔◌, sym, ap, subst, inl, inr, refl, arith, All, Contains, AllPairs, IsPermutation, ◌∙◌, append-nil, take}
 use Rattle.std.specs.List.{flat_map}
 use Rattle.std.proofs.lemmas.List.Concat.{flat_map-append}
 use Rattle.std.proofs.lemmas.Bool.{cases_eq}
 use Rattle.std.proofs.lemmas.Int.{ints}
-use Rattle.std.proofs.lemmas.Option.{IfSome_then}
 use Rattle.std.proofs.lemmas.List.{get_or_default, get_or-set_same, get_or-set_other, get_or-map, length-map, length-set, map_more}
-use Rattle.std.proofs.lemmas.List.Elements.{All-nil, All-head, All-tail, All-append, All-contains, Contains-append_left, Contains-append_right, All-contains_itself, All-weaker}
+use Rattle.std.proofs.lemmas.List.Elements.{All-nil, All-head, All-tail, All-append, All-contains, Contains-append_left, Contains-append_right, All-contains_itself, All-map, All-weaker}
 use Rattle.std.proofs.lemmas.List.Sorted.{IsPermutation-append_left, IsPermutation-append_right, IsPermutation-middle, IsPermutation-sym, IsPermutation-trans}
 use Rattle.rail_types.specs.declared.paths.Claim.{Claim}
-use Rattle.rail_types.specs.Occupation.{Clash}
-use Rattle.occupation_book.specs.Zones.{Zone, HeldClaim}
-use Rattle.occupation_book.specs.Held.{claims_by_zone, held, zone_at, AreInOrder, IsBook, IsFree, IsFirstClash, AreApart, ComesBefore}
+use Rattle.rail_types.specs.Limits.{IsNearSpan}
+use Rattle.rail_types.specs.Occupation.{Clash, Fits, HasTicks, HeldClaim}
+use Rattle.rail_types.specs.FirstClash.{AreApart, ClashesWith, first_clash, IsBefore, IsFirstClash}
+use Rattle.occupation_book.specs.Zones.{Zone}
+use Rattle.occupation_book.specs.Held.{claims_by_zone, held, zone_at, AreInOrder, AreNear, IsBook, IsFree, HasEndedBefore}
 use Rattle.occupation_book.proofs.Orders.{order_of_none}
 use Rattle.occupation_book.proofs.Pairs.{all_pairs_nil, all_pairs_append, all_pairs_weaker}
 
@@ -51,15 +52,31 @@ module _ (book : List Zone) (is_book : IsBook book) (claim : Claim) (within : cl
   pub free_of_zone : IsFree (held book) claim → IsFree (zone_at book claim.zone).claims claim
   free_of_zone free = all_of_zone (λ other. ¬ Clash other.0 claim) book claim.zone within free
 
-  pub first_by_zone : (found : HeldClaim) → IsFirstClash (zone_at book claim.zone).claims claim found → IsFirstClash (held book) claim found
+  -- a claim that clashes with the list of one clashes with that one
+  clash_of_one : (one : HeldClaim) → ClashesWith (claim ∷ []) one → Clash one.0 claim
+  clash_of_one one (zero, other, in_range, same, clash) = subst (λ claim. Clash one.0 claim) (sym same) clash
+  clash_of_one one (suc k, other, in_range, same, clash) = absurd (omega arith)
+
+  with_one : (one : HeldClaim) → Clash one.0 claim → ClashesWith (claim ∷ []) one
+  with_one one clash = (0, claim, omega arith, refl, clash)
+
+  pub first_by_zone : (found : HeldClaim) → IsFirstClash (zone_at book claim.zone).claims (claim ∷ []) found → IsFirstClash (held book) (claim ∷ []) found
   first_by_zone found first = record {
     is_held = is_held book claim.zone found within first.is_held;
     clashes = first.clashes;
-    others_later = others_apart (λ other. (other ≡ found) ⊎ (found.0.span.from <ℤ other.0.span.from)) first.others_later;
+    others = λ k other in_range clashes.
+        others_apart (λ other. ¬ IsBefore other.0 found.0) (λ k other in_zone clash. first.others k other in_zone (with_one (get_or (zone_at book claim.zone).claims k other) clash)) k other in_range (clash_of_one (get_or (held book) k other) clashes);
   }
 
-  pub first_of_all : (found : Option HeldClaim) → IfSome found (IsFirstClash (zone_at book claim.zone).claims claim) → IfSome found (IsFirstClash (held book) claim)
-  first_of_all found first = IfSome_then found first first_by_zone
+  -- nothing that is held clashes with the list of this one
+  pub free_fits : IsFree (held book) claim → Fits (claim ∷ []) (map (λ one. one.0) (held book))
+  free_fits free zero d in_range = All-map (λ other. ¬ Clash claim other) (λ one. one.0) (held book) (λ k other in_held clash. free k other in_held (sym clash.0, (clash.1.1, clash.1.0)))
+  free_fits free (suc k) d in_range = absurd (omega arith)
+
+  -- what a zone tells is what all zones tell, by what the first clash is
+  pub first_of_all : (none : Fits (claim ∷ []) (map (λ one. one.0) (held book)) → first_clash (held book) (claim ∷ []) ≡ None) (some : (first : HeldClaim) → IsFirstClash (held book) (claim ∷ []) first → first_clash (held book) (claim ∷ []) ≡ Some first) (found : Option HeldClaim) → IfSome found (IsFirstClash (zone_at book claim.zone).claims (claim ∷ [])) → (IsNone found ↔ IsFree (zone_at book claim.zone).claims claim) → found ≡ first_clash (held book) (claim ∷ [])
+  first_of_all none some None first free = sym (none (free_fits (free_by_zone (free.0 refl))))
+  first_of_all none some (Some found) first free = sym (some found (first_by_zone found first))
 
 -- zones that are numbered from `first` on, each in order
 abbrev AreNumbered : ℕ → List Zone → Type 0
@@ -72,27 +89,33 @@ numbered_head : (first : ℕ) (zone : Zone) (zones : List Zone) → AreNumbered 
 numbered_head first zone zones numbered = subst (λ n. AreInOrder n zone.claims) {x = first + 0} (omega arith) (numbered 0 (omega arith))
 
 -- the held claims are by zone, then by begin
-sorted_from : (first : ℕ) (zones : List Zone) → AreNumbered first zones → AllPairs ComesBefore (held zones)
-sorted_from first [] numbered = all_pairs_nil ComesBefore
+sorted_from : (first : ℕ) (zones : List Zone) → AreNumbered first zones → AllPairs HasEndedBefore (held zones)
+sorted_from first [] numbered = all_pairs_nil HasEndedBefore
 sorted_from first (zone ∷ zones) numbered =
     let rest = numbered_tail first zone zones numbered in
     let here = numbered_head first zone zones numbered in
     let beyond : All (λ other. first < other.0.zone) (held zones) = all_held (λ other. first < other.0.zone) zones (λ number within k other in_range. omega (arith, (rest number within).on_zone k other in_range)) in
-    all_pairs_append ComesBefore zone.claims (held zones)
+    all_pairs_append HasEndedBefore zone.claims (held zones)
     (λ i j other before within. inr (here.on_zone i other (omega arith) ∙ sym (here.on_zone j other within), here.sorted i j other before within))
     (sorted_from (suc first) zones rest)
-    (λ k other within. All-weaker (λ later. first < later.0.zone) (ComesBefore (get_or zone.claims k other)) (λ later behind. inl (subst (λ n. n < later.0.zone) (sym (here.on_zone k other within)) behind)) (held zones) beyond)
+    (λ k other within. All-weaker (λ later. first < later.0.zone) (HasEndedBefore (get_or zone.claims k other)) (λ later behind. inl (subst (λ n. n < later.0.zone) (sym (here.on_zone k other within)) behind)) (held zones) beyond)
 
-pub held_sorted : (book : List Zone) → IsBook book → AllPairs ComesBefore (held book)
+pub held_sorted : (book : List Zone) → IsBook book → AllPairs HasEndedBefore (held book)
 held_sorted book is_book = sorted_from 0 book (λ number within. subst (λ n. AreInOrder n (zone_at book number).claims) {x = number} (omega arith) (is_book.in_order number within))
 
 -- a claim that comes before another does not clash with it
-apart_when_before : (one later : HeldClaim) → ComesBefore one later → ¬ Clash one.0 later.0
+apart_when_before : (one later : HeldClaim) → HasEndedBefore one later → ¬ Clash one.0 later.0
 apart_when_before one later (inl lower) clash = let same = clash.0 in omega arith
 apart_when_before one later (inr ended) clash = let begins = clash.1.1 in let ends = ended.1 in omega (arith, ints)
 
+pub held_near : (book : List Zone) → IsBook book → AreNear (held book)
+held_near book is_book = all_held (λ one. IsNearSpan one.0.span) book (λ number within. (is_book.in_order number within).near)
+
 pub held_apart : (book : List Zone) → IsBook book → AreApart (held book)
-held_apart book is_book = all_pairs_weaker ComesBefore (λ one other. ¬ Clash one.0 other.0) apart_when_before (held book) (held_sorted book is_book)
+held_apart book is_book = record {
+  ticks = all_held (λ one. HasTicks one.0.span) book (λ number within. (is_book.in_order number within).ticks);
+  apart = all_pairs_weaker HasEndedBefore (λ one other. ¬ Clash one.0 other.0) apart_when_before (held book) (held_sorted book is_book);
+}
 
 -- one zone of a book, changed
 module _ (new : Zone) where

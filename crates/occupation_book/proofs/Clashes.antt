@@ -1,14 +1,14 @@
 -- What the claims of a zone, in order, say about the first that ends after a new claim begins.
-use Rattle.std.proofs.Common.{◌≡◌, ℕ, ◌<◌, ◌≤◌, ◌<ℤ◌, ◌≤ℤ◌, ℤ, int_le, true, false, List, length, get_or, sym, subst, inl, inr, arith}
+use Rattle.std.proofs.Common.{◌≡◌, ℕ, ◌<◌, ◌≤◌, ◌<ℤ◌, ◌≤ℤ◌, ℤ, int_le, true, false, zero, suc, List, [], ◌∷◌, length, get_or, sym, subst, inl, inr, refl, arith}
 use borrow.Author.Differences.{le-true, le-false}
 use Rattle.std.specs.List.{AllWithin}
 use Rattle.std.specs.List.Sorted.{IsPartitionedBy}
 use Rattle.std.proofs.lemmas.Bool.{cases_order, cases_Bool}
 use Rattle.std.proofs.lemmas.Int.{by_lt_z, ints}
 use Rattle.rail_types.specs.declared.paths.Claim.{Claim}
-use Rattle.rail_types.specs.Occupation.{Clash}
-use Rattle.occupation_book.specs.Zones.{HeldClaim}
-use Rattle.occupation_book.specs.Held.{AreInOrder, IsFree, IsFirstClash}
+use Rattle.rail_types.specs.Occupation.{Clash, HeldClaim}
+use Rattle.rail_types.specs.FirstClash.{ClashesWith, IsBefore, IsFirstClash}
+use Rattle.occupation_book.specs.Held.{AreInOrder, IsFree}
 
 -- a test of two ticks, as a fact
 pub ended : (a b : ℤ) → int_le a b ≡ true → a ≤ℤ b
@@ -69,15 +69,28 @@ module _ (claims : List HeldClaim) (claim : Claim) (at : ℕ) (order : AreInOrde
     ]
   ]
 
-  pub first_clash_here : (found : HeldClaim) → at < length claims → ((other : HeldClaim) → get_or claims at other ≡ found) → Clash found.0 claim → IsFirstClash claims claim found
-  first_clash_here found within here clashes = record {
+  -- a claim that clashes with the list of one clashes with that one
+  clash_of_one : (one : HeldClaim) → ClashesWith (claim ∷ []) one → Clash one.0 claim
+  clash_of_one one (zero, other, within, same, clash) = subst (λ claim. Clash one.0 claim) (sym same) clash
+  clash_of_one one (suc k, other, within, same, clash) = absurd (omega arith)
+
+  pub first_clash_here : (found : HeldClaim) → at < length claims → ((other : HeldClaim) → get_or claims at other ≡ found) → Clash found.0 claim → IsFirstClash claims (claim ∷ []) found
+  first_clash_here found within here clash = record {
     is_held = (at, within, here found);
-    clashes = clashes;
-    others_later = λ k other in_range clash. elim (cases_order k at) [
-      | inl same ↦ inl (subst (λ q. get_or claims q other ≡ found) (sym same) (here other))
+    clashes = (0, claim, omega arith, refl, clash);
+    others = λ k other in_range clashes before. elim (cases_order k at) [
+      | inl same ↦ not_before_itself found (subst (λ one. IsBefore one.0 found.0) (subst (λ q. get_or claims q other ≡ found) (sym same) (here other)) before)
       | inr differs ↦ elim differs [
-        | inl ahead ↦ absurd (ends_before k other ahead clash)
-        | inr behind ↦ inr (subst (λ one. one.0.span.from <ℤ (get_or claims k other).0.span.from) (here other) (begins_later k other behind in_range))
+        | inl ahead ↦ ends_before k other ahead (clash_of_one (get_or claims k other) clashes)
+        | inr behind ↦ not_behind other k within in_range (subst (λ one. one.0.span.from <ℤ (get_or claims k other).0.span.from) (here other) (begins_later k other behind in_range)) (subst (λ one. one.0.zone ≡ claim.zone) (here other) (order.on_zone at other within)) before
       ]
     ];
   }
+    where
+      not_before_itself : (one : HeldClaim) → ¬ IsBefore one.0 one.0
+      not_before_itself one (inl lower) = omega arith
+      not_before_itself one (inr same) = let begins = same.1 in omega (arith, ints)
+
+      not_behind : (other : HeldClaim) (k : ℕ) → at < length claims → k < length claims → found.0.span.from <ℤ (get_or claims k other).0.span.from → found.0.zone ≡ claim.zone → ¬ IsBefore (get_or claims k other).0 found.0
+      not_behind other k _ in_range later zone (inl lower) = let level = order.on_zone k other in_range in omega arith
+      not_behind other k _ in_range later zone (inr same) = let begins = same.1 in omega (arith, ints)

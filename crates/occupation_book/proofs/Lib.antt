@@ -3,3 +3,4 @@ mod Clashes
 mod Orders
 mod AllZones
 mod Removals
+mod TakenOut

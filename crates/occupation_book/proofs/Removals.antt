@@ -5,28 +5,28 @@ use Rattle.std.proofs.lemmas.Bool.{cases_eq}
 use Rattle.std.proofs.lemmas.List.{get_or_default, get_or-set_same, get_or-set_other, length-set, take_all}
 use Rattle.std.proofs.lemmas.List.Elements.{filter-append}
 use Rattle.rail_types.specs.declared.entries.Owner.{Owner}
-use Rattle.occupation_book.specs.Zones.{Zone, HeldClaim}
-use Rattle.occupation_book.specs.Held.{claims_by_zone, held, zone_at, claims_of, claims_of_others, is_same_owner, AreInOrder, IsBook}
+use Rattle.rail_types.specs.Occupation.{HeldClaim}
+use Rattle.occupation_book.specs.Zones.{Zone}
+use Rattle.occupation_book.specs.Held.{claims_by_zone, held, zone_at, claims_of, claims_of_others, is_same_owner, AreInOrder, IsBook, IsWithout}
 use Rattle.occupation_book.proofs.Orders.{order_of_some}
 use Rattle.occupation_book.proofs.AllZones.{at_zone, held_more}
 
 -- the owner's claims are out of the zones below a number, and counted
 pub record IsRemovedBelow (owner : Owner) (old now : List Zone) (number count : ℕ) : Type 0 where
   pub long : length now ≡ length old
-  pub done : (k : ℕ) → k < number → (zone_at now k).claims ≡ claims_of_others owner (zone_at old k).claims
+  pub done : (k : ℕ) → k < number → IsWithout owner (zone_at old k) (zone_at now k)
   pub left : (k : ℕ) → number ≤ k → zone_at now k ≡ zone_at old k
-  pub room : (k : ℕ) → k < number → (zone_at now k).spare ≡ (zone_at old k).spare + length (claims_of owner (zone_at old k).claims)
   pub counted : count ≡ min (length (claims_of owner (held (take number old)))) 4294967295
 
 pub removed_none : (owner : Owner) (old : List Zone) → IsRemovedBelow owner old old 0 0
-removed_none owner old = record { long = refl; done = λ k below. absurd (omega arith); left = λ k from. refl; room = λ k below. absurd (omega arith); counted = refl }
+removed_none owner old = record { long = refl; done = λ k below. absurd (omega arith); left = λ k from. refl; counted = refl }
 
 -- sums that stop at a limit
 counts_add : (whole part rest count more sum : ℕ) → whole ≡ part + rest → count ≡ min part 4294967295 → more ≡ min rest 4294967295 → sum ≡ min (count + more) 4294967295 → sum ≡ min whole 4294967295
 counts_add whole part rest count more sum joined counted counts saturates = omega arith
 
-pub removed_more : (owner : Owner) (old now : List Zone) (number count : ℕ) (zone new : Zone) (more sum : ℕ) → IsRemovedBelow owner old now number count → number < length now → zone ≡ get_or now number zone → new.claims ≡ claims_of_others owner zone.claims → more ≡ min (length (claims_of owner zone.claims)) 4294967295 → new.spare ≡ zone.spare + length (claims_of owner zone.claims) → sum ≡ min (count + more) 4294967295 → IsRemovedBelow owner old (set now number new) (number + 1) sum
-removed_more owner old now number count zone new more sum removed within read taken counts room saturates =
+pub removed_more : (owner : Owner) (old now : List Zone) (number count : ℕ) (zone new : Zone) (more sum : ℕ) → IsRemovedBelow owner old now number count → number < length now → zone ≡ get_or now number zone → IsWithout owner zone new → more ≡ min (length (claims_of owner zone.claims)) 4294967295 → sum ≡ min (count + more) 4294967295 → IsRemovedBelow owner old (set now number new) (number + 1) sum
+removed_more owner old now number count zone new more sum removed within read without counts saturates =
     let here : zone ≡ zone_at old number = at_zone now number zone within read ∙ removed.left number (omega arith) in
     let within_old : number < length old = omega (arith, removed.long) in
     let more_counted : length (claims_of owner (held (take (number + 1) old))) ≡ length (claims_of owner (held (take number old))) + length (claims_of owner zone.claims) =
@@ -36,14 +36,10 @@ removed_more owner old now number count zone new more sum removed within read ta
     record {
       long = simp length-set removed.long;
       done = λ k below. elim (cases_eq k number) [
-        | inl same ↦ rw (same, at_new, taken) (ap (λ one. claims_of_others owner one.claims) here)
+        | inl same ↦ rw (same, at_new, ← here) without
         | inr differs ↦ rw (get_or-set_other now number k new _ differs) (removed.done k (omega arith))
       ];
       left = λ k from. let differs : k ≡ number → ⊥ = λ same. omega arith in rw (get_or-set_other now number k new _ differs) (removed.left k (omega arith));
-      room = λ k below. elim (cases_eq k number) [
-        | inl same ↦ rw (same, at_new, ← here) room
-        | inr differs ↦ rw (get_or-set_other now number k new _ differs) (removed.room k (omega arith))
-      ];
       counted = counts_add _ _ _ count more sum more_counted removed.counted counts saturates;
     }
 
@@ -62,20 +58,21 @@ pub others_of_each : (owner : Owner) (each : List (List HeldClaim)) → flat_map
 others_of_each owner [] = refl
 others_of_each owner (claims ∷ each) = ap (λ rest. claims_of_others owner claims ++ rest) (others_of_each owner each) ∙ sym (filter-append (λ one. not (is_same_owner one.1 owner)) claims (flat_map (λ one. one) each))
 
-module _ (owner : Owner) (old now : List Zone) (number count : ℕ) (removed : IsRemovedBelow owner old now number count) (all : length old ≤ number) where
-  pub removed_by_zone : claims_by_zone now ≡ map (claims_of_others owner) (claims_by_zone old)
-  removed_by_zone = claims_by_index owner old now removed.long (λ k within. removed.done k (omega arith))
+-- the owner's claims are out of each zone
+module _ (owner : Owner) (old now : List Zone) (long : length now ≡ length old) (each : (k : ℕ) → k < length old → IsWithout owner (zone_at old k) (zone_at now k)) where
+  pub out_by_zone : claims_by_zone now ≡ map (claims_of_others owner) (claims_by_zone old)
+  out_by_zone = claims_by_index owner old now long (λ k within. (each k within).claims)
 
-  pub removed_held : held now ≡ claims_of_others owner (held old)
-  removed_held = ap (flat_map (λ claims. claims)) removed_by_zone ∙ others_of_each owner (claims_by_zone old)
+  pub out_of_held : held now ≡ claims_of_others owner (held old)
+  out_of_held = ap (flat_map (λ claims. claims)) out_by_zone ∙ others_of_each owner (claims_by_zone old)
 
-  pub removed_count : count ≡ min (length (claims_of owner (held old))) 4294967295
-  removed_count = removed.counted ∙ ap (λ zones. min (length (claims_of owner (held zones))) 4294967295) (take_all number old all)
-
-  pub removed_book : IsBook old → IsBook now
-  removed_book is_book = record {
-    counted = omega (arith, removed.long, is_book.counted);
+  pub book_without : IsBook old → IsBook now
+  book_without is_book = record {
+    counted = omega (arith, long, is_book.counted);
     in_order = λ k within.
-        let within_old : k < length old = omega (arith, removed.long) in
-        subst (AreInOrder k) (sym (removed.done k (omega arith))) (order_of_some k (λ one. not (is_same_owner one.1 owner)) (zone_at old k).claims (is_book.in_order k within_old));
+        let within_old : k < length old = omega (arith, long) in
+        subst (AreInOrder k) (sym (each k within_old).claims) (order_of_some k (λ one. not (is_same_owner one.1 owner)) (zone_at old k).claims (is_book.in_order k within_old));
   }
+
+pub removed_count : (owner : Owner) (old now : List Zone) (number count : ℕ) → IsRemovedBelow owner old now number count → length old ≤ number → count ≡ min (length (claims_of owner (held old))) 4294967295
+removed_count owner old now number count removed all = removed.counted ∙ ap (λ zones. min (length (claims_of owner (held zones))) 4294967295) (take_all number old all)

@@ -1,11 +1,6 @@
 -- A zone as contracts see it.
 use Rattle.std.specs.Prelude.{ℕ, List}
-use Rattle.rail_types.specs.declared.paths.Claim.{Claim}
-use Rattle.rail_types.specs.declared.entries.Owner.{Owner}
-
--- a claim, then who holds it
-abbrev pub HeldClaim : Type 0
-HeldClaim = Claim × Owner
+use Rattle.rail_types.specs.Occupation.{HeldClaim}
 
 -- the claims on a zone, and for how many more there is room
 pub record Zone : Type 0 where

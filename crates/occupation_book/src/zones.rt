@@ -1,10 +1,12 @@
 //! The claims of one zone.
 
-ghost use Rattle.std.specs.Prelude.{◌≡◌, ◌+◌, ◌-◌, ◌<◌, ◌≤◌, ◌∷◌, ◌<ℤ◌, ◌≤ℤ◌, [], length, min, take, drop, All, IfOk, IfSome, IsNone, OnErr, OnOk, ◌↔◌, IsOk};
+ghost use Rattle.std.specs.Prelude.{◌≡◌, ◌+◌, ◌-◌, ◌<◌, ◌≤◌, ◌<ℤ◌, ◌≤ℤ◌, [], ◌∷◌, length, min, take, drop, IfOk, IfSome, IsNone, OnErr, OnOk, ◌↔◌, IsOk};
 ghost use Rattle.std.specs.List.{AllWithin};
 ghost use Rattle.std.specs.List.Sorted.{IsPermutation};
+ghost use Rattle.rail_types.specs.FirstClash.{IsFirstClash};
+ghost use Rattle.rail_types.specs.Limits.{IsNearSpan};
 ghost use Rattle.rail_types.specs.Occupation.{HasTicks};
-ghost use Rattle.occupation_book.specs.Held.{IsFree, IsFirstClash, AreInOrder, claims_of, claims_of_others, is_same_owner as same_owner};
+ghost use Rattle.occupation_book.specs.Held.{AreInOrder, claims_of, claims_of_others, is_same_owner as same_owner, IsFree, IsWithout};
 
 use no_memory::NoMemory;
 use rail_types::{Claim, Owner};
@@ -23,7 +25,10 @@ impl Model for ZoneClaims {
 
     ghost Value = { Zone };
 
-    ghost view = { λ a. record { claims = a.claims.items; spare = vec_capacity a.claims - vec_len a.claims } };
+    ghost view = { λ a. record {
+      claims = a.claims.items;
+      spare = vec_capacity a.claims - vec_len a.claims;
+    } };
 }
 
 impl ZoneClaims {
@@ -64,6 +69,7 @@ impl ZoneClaims {
     pub(crate) fn insert(&mut self, claim: Claim, owner: Owner)
         requires order { AreInOrder claim.zone self.old.claims }
         requires ticks { HasTicks claim.span }
+        requires near { IsNearSpan claim.span }
         requires free { IsFree self.old.claims claim }
         requires room { 0 < self.old.spare }
         ensures order { AreInOrder claim.zone self.new.claims }
@@ -76,9 +82,8 @@ impl ZoneClaims {
     }
 
     pub(crate) fn remove(&mut self, owner: Owner) -> u32
-        ensures claims { self.new.claims ≡ claims_of_others owner self.old.claims }
+        ensures without { IsWithout owner self.old self.new }
         ensures count { result ≡ min (length (claims_of owner self.old.claims)) u32.MAX }
-        ensures room { self.new.spare ≡ self.old.spare + length (claims_of owner self.old.claims) }
     {
         let before = self.claims.len();
         self.claims.retain(|one| !is_same_owner(&one.1, &owner));
@@ -90,7 +95,7 @@ impl ZoneClaims {
 // The first of a zone's claims that clashes with this one.
 pub(crate) fn first_clashing_of(claims: &[(Claim, Owner)], claim: &Claim) -> Option<(Claim, Owner)>
     requires order { AreInOrder claim.now.zone claims.now }
-    ensures found { IfSome result (IsFirstClash claims.now claim.now) }
+    ensures found { IfSome result (IsFirstClash claims.now (claim.now ∷ [])) }
     ensures free { IsNone result ↔ IsFree claims.now claim.now }
 {
     let at = first_ending_after(claims, claim);
@@ -105,7 +110,8 @@ fn first_ending_after(claims: &[(Claim, Owner)], claim: &Claim) -> usize
     requires { AreInOrder claim.now.zone claims.now }
     ensures bound { result ≤ length claims.now }
     ensures before { AllWithin (λ one. one.0.span.to ≤ℤ claim.now.span.from) claims.now 0 result }
-    ensures after { AllWithin (λ one. claim.now.span.from <ℤ one.0.span.to) claims.now result (length claims.now) }
+    ensures after { AllWithin (λ one. claim.now.span.from <ℤ one.0.span.to) claims.now
+        result (length claims.now) }
 {
     claims.partition_point(|one| one.0.span.to <= claim.span.from)
 }

@@ -1,9 +1,12 @@
 -- What the lines of one client are told.
-use Rattle.std.specs.Prelude.{◌≡◌, ◌⊎◌, ℕ, ◌+◌, List, [], ◌∷◌, ◌++◌, length, take, Some, Result, Ok, Err, slice_get}
+use Rattle.std.specs.Prelude.{◌≡◌, ◌⊎◌, ℕ, false, ◌+◌, List, [], ◌∷◌, ◌++◌, length, take, Some, Result, Ok, Err, slice_get}
 use Rattle.rail_types.specs.declared.entries.Entry.{Entry}
 use Rattle.rail_types.specs.declared.entries.Deed.TheVariants.{Hold}
+use Rattle.rail_types.specs.declared.entries.Settings.{Settings}
+use Rattle.rail_types.specs.Examples.{bare}
+use Rattle.rail_types.specs.Timetables.{Timetable}
 use Rattle.grant_log.specs.declared.verdicts.Verdict.{Verdict}
-use Rattle.grant_log.specs.declared.verdicts.Verdict.TheVariants.{NotYet, Kept, Gone, Other, Taken as taken_by, Fresh}
+use Rattle.grant_log.specs.declared.verdicts.Verdict.TheVariants.{Kept, Gone, Other, Taken as taken_by, Fresh}
 use Rattle.grant_log.specs.Verdict.{verdict_on}
 use Rattle.osrd_stdcm.specs.declared.lines.HoldLine.{HoldLine}
 use Rattle.osrd_stdcm.specs.declared.lines.BadField.{BadField}
@@ -21,23 +24,39 @@ pub record Standing : Type 0 where
   pub caller : Caller
   pub entries : List Entry
 
--- the entry for which a line of this number asks
-abbrev pub entry_for : Caller → ℕ → HoldLine → Entry
-entry_for caller line_number hold = record { owner = caller.name; number = hold.number; line = line_number; deed = Hold hold.claim }
+-- the settings of a timetable that no file gives
+abbrev pub settings_of_no_file : Settings
+settings_of_no_file = record {
+  tick_s = 10;
+  setting = 1;
+  release = 1;
+  horizon = 17280;
+  journal_bytes = 268435456;
+  speed_loss = false;
+}
 
--- the reply that a verdict gives, where so many entries stand; a number that stands already is the line's second field
+-- the timetable of these zones, without blocks and without planned trains
+abbrev pub timetable_for : ℕ → Timetable
+timetable_for zones = record { net = bare zones; settings = settings_of_no_file; base = [] }
+
+-- the entry for which a line of this number asks: a hold of one claim, without a reason
+abbrev pub entry_for : Caller → ℕ → HoldLine → Entry
+entry_for caller line_number hold = record { owner = caller.name; number = hold.number; line = line_number; deed = Hold (hold.claim ∷ []) [] }
+
+-- the reply that a verdict gives, where so many entries stand; a number that stands already is the line's second field;
+-- the other verdicts are told to grants and Frees alone, whose words are not served
 abbrev pub verdict_reply : ℕ → HoldLine → Verdict → Reply
 verdict_reply front hold Fresh = Held hold.number front (front + 1)
 verdict_reply front hold (taken_by claim owner) = Taken hold.number claim.zone owner front
 verdict_reply front hold (Kept at) = Bad 2
 verdict_reply front hold (Gone at freer) = Bad 2
 verdict_reply front hold (Other at) = Bad 2
-verdict_reply front hold NotYet = Bad 1
+verdict_reply front hold other = Bad 1
 
 -- the reply to what was read of a line, where these entries stand
 abbrev pub reply_to : Caller → List Entry → ℕ → Result HoldLine BadField → Reply
 reply_to caller entries line_number (Err bad) = Bad bad.field
-reply_to caller entries line_number (Ok hold) = verdict_reply (length entries) hold (verdict_on entries (entry_for caller line_number hold))
+reply_to caller entries line_number (Ok hold) = verdict_reply (length entries) hold (verdict_on (timetable_for caller.zones) entries (entry_for caller line_number hold))
 
 -- the answer to a line, where these entries stand
 abbrev pub answer : Caller → List Entry → ℕ → List ℕ → Reply

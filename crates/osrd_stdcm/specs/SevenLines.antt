@@ -14,11 +14,11 @@ client_a = record { zones = 3; name = codes "A" }
 
 -- the entry for the line `hold 1 1 38 50`
 abbrev pub entry_0 : Entry
-entry_0 = record { owner = codes "A"; number = 1; line = 1; deed = Hold (record { zone = 1; span = record { from = pos 38; to = pos 50 } }) }
+entry_0 = record { owner = codes "A"; number = 1; line = 1; deed = Hold (record { zone = 1; span = record { from = pos 38; to = pos 50 } } ∷ []) [] }
 
 -- the entry for the line `hold 2 1 37 38`
 abbrev pub entry_1 : Entry
-entry_1 = record { owner = codes "A"; number = 2; line = 2; deed = Hold (record { zone = 1; span = record { from = pos 37; to = pos 38 } }) }
+entry_1 = record { owner = codes "A"; number = 2; line = 2; deed = Hold (record { zone = 1; span = record { from = pos 37; to = pos 38 } } ∷ []) [] }
 
 -- the text of the reply to this line, where these entries stand
 abbrev pub told : List Entry → ℕ → List ℕ → List ℕ

@@ -4,14 +4,14 @@ ghost use Rattle.std.specs.Prelude.{◌≡◌, ◌≤◌, ◌++◌, [], IfOk, Ok
 ghost use Rattle.rail_types.specs.Limits.{IsClientName};
 ghost use Rattle.rail_types.specs.declared.limits.TheConstants.{MAX_OBJECTS};
 ghost use Rattle.osrd_stdcm.specs.HoldLine.{IsHoldWithin, read_hold};
-ghost use Rattle.osrd_stdcm.specs.Session.{accepted, IsTold, reply_to};
+ghost use Rattle.osrd_stdcm.specs.Session.{accepted, entry_for, IsTold, reply_to};
 
 use crate::lines::{HoldLine, read_line};
 use crate::replies::Reply;
-use grant_log::{History, Verdict, held_claims_follow};
+use grant_log::{History, Verdict, fresh_claims_are_free, live_claims_follow};
 use no_memory::NoMemory;
 use occupation_book::Occupations;
-use rail_types::{Deed, Entry, List, Name, Network, Owner, Settings};
+use rail_types::{Base, Deed, Entry, List, Name, Network, Owner, Settings};
 use std::alloc::Global;
 use std::marker::Model;
 
@@ -22,6 +22,7 @@ const SETTINGS: Settings = Settings {
     release: 1,
     horizon: 17_280,
     journal_bytes: 268_435_456,
+    speed_loss: false,
 };
 
 /// A client, and the history that its lines make, with the occupations that are live in it.
@@ -39,7 +40,7 @@ impl Model for Desk {
 
     ghost Value = { Standing };
 
-    ghost view = { λ a. record { caller = record { zones = a.history.net.zones; name = a.owner }; entries = a.history.entries } };
+    ghost view = { λ a. record { caller = record { zones = a.history.timetable.net.zones; name = a.owner }; entries = a.history.entries } };
 
     ghost invariant = { λ a. IsDesk a.owner a.history a.occupations };
 }
@@ -58,10 +59,15 @@ impl Desk {
             stops: 0,
             blocks: List::new(alloc),
         };
+        let base = Base {
+            settings: SETTINGS,
+            claims: List::new(alloc),
+        };
+        live_claims_follow();
         Ok(Desk {
             alloc,
             owner: owner.copy(alloc)?,
-            history: History::new(alloc, net, SETTINGS),
+            history: History::new(alloc, net, base),
             occupations: Occupations::new(alloc, zones)?,
         })
     }
@@ -81,6 +87,20 @@ impl Desk {
         }
     }
 
+    // The entry for which a line asks.
+    fn entry_for(&self, line_number: u32, hold: &HoldLine) -> Result<Entry, NoMemory>
+        ensures { IfOk result (λ entry. entry ≡ entry_for self.now.caller line_number hold.now) }
+    {
+        let mut claims = List::new(self.alloc);
+        claims.push(hold.claim)?;
+        Ok(Entry {
+            owner: self.owner.copy(self.alloc)?,
+            number: hold.number,
+            line: line_number,
+            deed: Deed::Hold(claims, Name::from_bytes(self.alloc, &[])?),
+        })
+    }
+
     // Judges a hold, and takes it where it is fresh.
     fn hold(&mut self, line_number: u32, hold: &HoldLine) -> Result<Reply, NoMemory>
         requires { IsHoldWithin self.old.caller.zones hold.now }
@@ -89,18 +109,17 @@ impl Desk {
         ensures ok { IfOk result (λ reply. self.new.entries ≡ self.old.entries ++ accepted self.old.caller line_number (Ok hold.now) reply) }
         ensures err { OnErr result (self.new.entries ≡ self.old.entries) }
     {
-        let entry = Entry {
-            owner: self.owner.copy(self.alloc)?,
-            number: hold.number,
-            line: line_number,
-            deed: Deed::Hold(hold.claim),
-        };
+        let entry = self.entry_for(line_number, hold)?;
         self.history.reserve()?;
         self.occupations.reserve(hold.claim.zone, 1)?;
         let front = self.history.front();
         // These laws show that the occupations stay those that are live.
-        held_claims_follow();
-        match self.history.judge_by(&self.occupations, &entry) {
+        live_claims_follow();
+        fresh_claims_are_free();
+        let verdict = self
+            .history
+            .judge_by(&self.occupations, &entry, &[hold.claim])?;
+        match verdict {
             Verdict::Fresh => {
                 self.history.push(entry);
                 self.occupations.insert(hold.claim, Owner::Entry(front));
@@ -119,7 +138,7 @@ impl Desk {
             Verdict::Kept(_) | Verdict::Gone(_, _) | Verdict::Other(_) => Ok(Reply::Bad {
                 field: 2,
             }),
-            Verdict::NotYet => Ok(Reply::Bad { field: 1 }),
+            _ => Ok(Reply::Bad { field: 1 }),
         }
     }
 }

@@ -1,33 +1,10 @@
 //! Laws of the definitions, each on a function that does nothing.
 
 ghost use Rattle.std.specs.Prelude.{◌≡◌, ℕ, ◌≤◌, List, [], ◌∷◌, ◌++◌, All, Err, Ok, codes, pos, take};
-ghost use Rattle.rail_types.specs.declared.limits.TheConstants.{
-  MAX_ACCEL_MM_S2,
-  MAX_ALLOWANCE_PERCENT,
-  MAX_BLOCK_LENGTH_M,
-  MAX_CELLS,
-  MAX_DWELL,
-  MAX_HORIZON,
-  MAX_JOURNAL_BYTES,
-  MAX_NUMBER,
-  MAX_OBJECTS,
-  MAX_OWNER_BYTES,
-  MAX_PINNED_RUNS,
-  MAX_RELEASE,
-  MAX_SETTING,
-  MAX_SIGHT_M,
-  MAX_SPEED_MM_S,
-  MAX_STOPS,
-  MAX_TICK,
-  MAX_TICK_S,
-  MAX_TRAIN_LENGTH_M,
-  MAX_TRAIN_NAME_BYTES,
-  MIN_JOURNAL_BYTES,
-};
+ghost use Rattle.rail_types.specs.declared.limits.TheConstants.{MAX_OBJECTS};
 ghost use Rattle.osrd_stdcm.specs.declared.lines.TheConstants.{MAX_AMOUNT};
 ghost use Rattle.osrd_stdcm.specs.declared.streams.TheConstants.{MAX_LINES, MAX_LINE_BYTES};
 ghost use Rattle.osrd_stdcm.specs.declared.lines.HoldLine.{HoldLine as hold_type};
-ghost use Rattle.rail_types.specs.Examples.{bare};
 ghost use Rattle.rail_types.specs.Limits.{IsClientName};
 ghost use Rattle.grant_log.specs.Legal.{IsLegal, NoneClash};
 ghost use Rattle.grant_log.specs.Live.{live_claims};
@@ -36,8 +13,11 @@ ghost use Rattle.osrd_stdcm.specs.Fitting.{FieldFits, IsFirstWrong};
 ghost use Rattle.osrd_stdcm.specs.HoldLine.{fields_of, IsHoldWithin, read_hold};
 ghost use Rattle.osrd_stdcm.specs.HoldText.{hold_text};
 ghost use Rattle.osrd_stdcm.specs.Lines.{ended, HasNoEnd, lines_of, unless_empty};
-ghost use Rattle.osrd_stdcm.specs.Session.{Caller as caller_type, IsSession, standing};
+ghost use Rattle.osrd_stdcm.specs.Session.{Caller as caller_type, IsSession, standing, timetable_for};
 ghost use Rattle.osrd_stdcm.specs.SevenLines.{client_a, ended_text, entry_0, entry_1, lines_of_a, replies_to_a, told};
+
+use grant_log::legal_histories_never_clash;
+use rail_types::flaws_are_told_apart;
 
 /// The text of a hold within its limits asks for that hold, and a line that asks for a hold is the text of it.
 pub fn lines_spell_their_holds()
@@ -59,38 +39,20 @@ pub fn inputs_are_cut_at_line_ends()
 {}
 
 /// The entries that stand behind any lines and replies of a session are a legal history of the client's zones; so no two
-/// of their live claims clash.
+/// of their live claims of different owners clash.
 pub fn sessions_are_legal()
-    ensures legal { (caller : caller_type) (lines : List (List ℕ)) (replies : List reply_type) → IsClientName caller.name → caller.zones ≤ MAX_OBJECTS → IsSession caller lines replies → IsLegal (bare caller.zones) (standing caller lines replies) }
-    ensures apart { (caller : caller_type) (lines : List (List ℕ)) (replies : List reply_type) (count : ℕ) → IsClientName caller.name → caller.zones ≤ MAX_OBJECTS → IsSession caller lines replies → NoneClash (live_claims (standing caller (take count lines) (take count replies))) }
-{}
+    ensures legal { (caller : caller_type) (lines : List (List ℕ)) (replies : List reply_type) → IsClientName caller.name → caller.zones ≤ MAX_OBJECTS → IsSession caller lines replies → IsLegal (timetable_for caller.zones) (standing caller lines replies) }
+    ensures apart { (caller : caller_type) (lines : List (List ℕ)) (replies : List reply_type) (count : ℕ) → IsClientName caller.name → caller.zones ≤ MAX_OBJECTS → IsSession caller lines replies → NoneClash (live_claims (timetable_for caller.zones) (standing caller (take count lines) (take count replies))) }
+{
+    legal_histories_never_clash();
+    flaws_are_told_apart();
+}
 
-/// The limits of lines, numbers, networks, trains, timetables and journals.
+/// The limits of sessions and of what their lines spell.
 pub fn limits_are_these()
     ensures lines { MAX_LINES ≡ 100000 }
     ensures line_bytes { MAX_LINE_BYTES ≡ 65536 }
     ensures amount { MAX_AMOUNT ≡ 100000 }
-    ensures tick { MAX_TICK ≡ pos 100000 }
-    ensures number { MAX_NUMBER ≡ 9223372036854775807 }
-    ensures owner_bytes { MAX_OWNER_BYTES ≡ 32 }
-    ensures objects { MAX_OBJECTS ≡ 65536 }
-    ensures cells { MAX_CELLS ≡ 1048576 }
-    ensures block_length_m { MAX_BLOCK_LENGTH_M ≡ 10000000 }
-    ensures sight_m { MAX_SIGHT_M ≡ 100000 }
-    ensures speed_mm_s { MAX_SPEED_MM_S ≡ 200000 }
-    ensures train_length_m { MAX_TRAIN_LENGTH_M ≡ 5000 }
-    ensures accel_mm_s2 { MAX_ACCEL_MM_S2 ≡ 10000 }
-    ensures allowance_percent { MAX_ALLOWANCE_PERCENT ≡ 1000 }
-    ensures train_name_bytes { MAX_TRAIN_NAME_BYTES ≡ 255 }
-    ensures tick_s { MAX_TICK_S ≡ 3600 }
-    ensures setting { MAX_SETTING ≡ 1000 }
-    ensures release { MAX_RELEASE ≡ 1000 }
-    ensures horizon { MAX_HORIZON ≡ 17280 }
-    ensures least_journal_bytes { MIN_JOURNAL_BYTES ≡ 77 }
-    ensures journal_bytes { MAX_JOURNAL_BYTES ≡ 268435456 }
-    ensures stops { MAX_STOPS ≡ 16 }
-    ensures dwell { MAX_DWELL ≡ 17280 }
-    ensures pinned_runs { MAX_PINNED_RUNS ≡ 4096 }
 {}
 
 /// The replies to seven lines of client A, who may speak of the zones 0, 1 and 2, each where the entries stand that

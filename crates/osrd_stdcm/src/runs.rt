@@ -3,6 +3,7 @@
 ghost use Rattle.std.specs.Prelude.{◌≡◌, ◌≢◌, ◌≤◌, ◌⊎◌, map, string_bytes};
 ghost use Rattle.outside_io.specs.Faults.{Rose};
 ghost use Rattle.outside_io.specs.Openings.{Undisturbed};
+ghost use Rattle.outside_io.specs.Places.{Untouched};
 ghost use Rattle.osrd_stdcm.specs.declared.sessions.Why.TheVariants.{Input, Memory as memory_end};
 ghost use Rattle.osrd_stdcm.specs.Ends.{Ends, streams};
 ghost use Rattle.osrd_stdcm.specs.Run.{caller_of, Refuses, Serves, ServesBadly, Unchanged, under};
@@ -72,6 +73,10 @@ pub fn run<R: AllocGlobal, O: Outside>(rt: &R, words: &[String], outside: &mut O
     ensures later { O.faults outside.old ≤ O.faults outside.new }
     // Where a call that opens a name failed, the status is Opening.
     ensures quiet { result ≢ Status.Opening → O.faults outside.new ≡ O.faults outside.old }
+
+    // No disk is touched, and no report is written.
+    ensures disks { Untouched (O.disks outside.old) (O.disks outside.new) }
+    ensures report { O.reported outside.new ≡ O.reported outside.old }
 {
     let alloc = rt.alloc();
     match read_words(alloc, words) {
@@ -89,6 +94,8 @@ fn serve_command<O: Outside>(alloc: Global, serve: &Serve, outside: &mut O) -> S
     ensures back { Undisturbed (O.standing outside.old) (O.standing outside.new) }
     ensures later { O.faults outside.old ≤ O.faults outside.new }
     ensures quiet { result ≢ Status.Opening → O.faults outside.new ≡ O.faults outside.old }
+    ensures disks { Untouched (O.disks outside.old) (O.disks outside.new) }
+    ensures report { O.reported outside.new ≡ O.reported outside.old }
 {
     let input = serve.client.input.as_str();
     let output = serve.client.output.as_str();

@@ -23,20 +23,27 @@ neighbours numbers = zip numbers (drop 1 numbers)
 
 -- whether no number is less than the one before it, and none exceeds `most`
 abbrev pub ascends : ℕ → List ℕ → Bool
-ascends most numbers = list_all (λ pair. nat_le pair.0 pair.1) (neighbours numbers) && list_all (λ number. nat_le number most) numbers
+ascends most numbers =
+    list_all (λ pair. nat_le pair.0 pair.1) (neighbours numbers)
+    && list_all (λ number. nat_le number most) numbers
 
 -- whether each number exceeds the one before it, and all are below `end`
 abbrev pub climbs : ℕ → List ℕ → Bool
-climbs end numbers = list_all (λ pair. nat_lt pair.0 pair.1) (neighbours numbers) && list_all (λ number. nat_lt number end) numbers
+climbs end numbers =
+    list_all (λ pair. nat_lt pair.0 pair.1) (neighbours numbers)
+    && list_all (λ number. nat_lt number end) numbers
 
 -- whether a block of the network has a flaw of this kind
 abbrev pub has_flaw : Network → Block → NetFlaw → Bool
 has_flaw net block Range = list_any (λ cell. nat_le net.zones cell.zone) block.cells
-has_flaw net block CellOrder = not (ascends block.length_m (map (λ cell. cell.release_m) block.cells))
+has_flaw net block CellOrder =
+    not (ascends block.length_m (map (λ cell. cell.release_m) block.cells))
 has_flaw net block EmptyBlock = nat_eq block.length_m 0 || is_empty block.cells
 has_flaw net block Point = nat_le net.points block.from_point || nat_le net.points block.to_point
 has_flaw net block Serves = not (climbs net.stops block.serves)
-has_flaw net block Limit = is_outside 1 MAX_BLOCK_LENGTH_M block.length_m || is_outside 1 MAX_SPEED_MM_S block.speed || nat_lt MAX_SIGHT_M block.sight_m
+has_flaw net block Limit =
+    is_outside 1 MAX_BLOCK_LENGTH_M block.length_m || is_outside 1 MAX_SPEED_MM_S block.speed
+    || nat_lt MAX_SIGHT_M block.sight_m
 
 -- the kinds of flaws, in the order in which they are told
 abbrev pub kinds : List NetFlaw
@@ -54,12 +61,17 @@ or_else (Some flaw) other = Some flaw
 -- the first flaw of the first block that has one
 abbrev pub flaw_of_blocks : Network → List Block → Option NetFlaw
 flaw_of_blocks net [] = None
-flaw_of_blocks net (block ∷ blocks) = or_else (flaw_of_block net block) (flaw_of_blocks net blocks)
+flaw_of_blocks net (block ∷ blocks) =
+    or_else (flaw_of_block net block) (flaw_of_blocks net blocks)
 
 -- whether the network as a whole has more of something than its limit
 abbrev pub exceeds_limits : Network → Bool
-exceeds_limits net = nat_lt MAX_OBJECTS net.zones || (nat_lt MAX_OBJECTS net.points || (nat_lt MAX_OBJECTS net.stops || (nat_lt MAX_OBJECTS (length net.blocks) || nat_lt MAX_CELLS (sum (map (λ block. length block.cells) net.blocks)))))
+exceeds_limits net =
+    nat_lt MAX_OBJECTS net.zones || (nat_lt MAX_OBJECTS net.points
+    || (nat_lt MAX_OBJECTS net.stops || (nat_lt MAX_OBJECTS (length net.blocks)
+    || nat_lt MAX_CELLS (sum (map (λ block. length block.cells) net.blocks)))))
 
 -- the first flaw of the network, None where it has none
 abbrev pub first_flaw : Network → Option NetFlaw
-first_flaw net = or_else (flaw_of_blocks net net.blocks) (if exceeds_limits net then Some Limit else None)
+first_flaw net =
+    or_else (flaw_of_blocks net net.blocks) (if exceeds_limits net then Some Limit else None)

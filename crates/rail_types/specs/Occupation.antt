@@ -1,7 +1,8 @@
 -- When two trains want one zone at once.
-use Rattle.std.specs.Prelude.{◌≡◌, List, All, ◌<ℤ◌, ◌≤ℤ◌, ℤ}
+use Rattle.std.specs.Prelude.{◌≡◌, ◌⊎◌, ◌<◌, ◌<ℤ◌, ◌≤ℤ◌, ℤ, List, All, AllPairs}
 use Rattle.rail_types.specs.declared.paths.Span.{Span}
 use Rattle.rail_types.specs.declared.paths.Claim.{Claim}
+use Rattle.rail_types.specs.declared.entries.Owner.{Owner}
 
 -- each span begins before the other ends
 abbrev pub Overlap : Span → Span → Type 0
@@ -22,3 +23,17 @@ IsTickOf a tick = (a.from ≤ℤ tick) × (tick <ℤ a.to)
 -- a span with a tick in it
 abbrev pub HasTicks : Span → Type 0
 HasTicks a = a.from <ℤ a.to
+
+-- on a lower zone, or on the same one and ended before the other begins
+abbrev pub EndsBefore : Claim → Claim → Type 0
+EndsBefore one later =
+    (one.zone < later.zone) ⊎ ((one.zone ≡ later.zone) × (one.span.to <ℤ later.span.from))
+
+-- claims by zone, then by begin, of which no two of one zone overlap or touch
+pub record AreJoined (claims : List Claim) : Type 0 where
+  pub ticks : All (λ claim. HasTicks claim.span) claims
+  pub apart : AllPairs EndsBefore claims
+
+-- a claim, then who holds it
+abbrev pub HeldClaim : Type 0
+HeldClaim = Claim × Owner

@@ -2,7 +2,7 @@
 
 ghost use Rattle.std.specs.Prelude.{◌≡◌, ◌↔◌, IfOk, IsTrue};
 
-use crate::{Claim, Name, Path, Request};
+use crate::{Claim, List, Name, Path, Request};
 use no_memory::NoMemory;
 use std::alloc::Global;
 
@@ -20,10 +20,11 @@ pub enum Wanted {
     Pinned,
 }
 
-/// What an entry does: holds a claim, grants a path, or frees the entry at a position.
+/// What an entry does: holds claims for a reason, grants a path, or frees the entry at a position. The claims of a hold
+/// stand by zone, then by begin; one without a reason has one claim.
 #[derive(Debug, Drop)]
 pub enum Deed {
-    Hold(Claim),
+    Hold(List<Claim>, Name),
     Grant(Wanted, Path),
     Free(u64),
 }
@@ -39,7 +40,7 @@ pub struct Entry {
 }
 
 /// The settings of a timetable: seconds a tick, ticks for setting a route and for releasing a zone, the last tick,
-/// and the bytes that its journal may take.
+/// the bytes that its journal may take, and whether a train loses time where the next block has another speed.
 #[derive(Clone, Copy, Debug, PartialEq, Eq)]
 pub struct Settings {
     pub tick_s: u32,
@@ -47,6 +48,7 @@ pub struct Settings {
     pub release: u32,
     pub horizon: u32,
     pub journal_bytes: u64,
+    pub speed_loss: bool,
 }
 
 impl Wanted {
@@ -78,7 +80,7 @@ impl Deed {
         ensures { IfOk result (λ deed. deed ≡ self.now) }
     {
         match self {
-            Deed::Hold(claim) => Ok(Deed::Hold(*claim)),
+            Deed::Hold(claims, reason) => Ok(Deed::Hold(claims.copy(alloc)?, reason.copy(alloc)?)),
             Deed::Grant(wanted, path) => Ok(Deed::Grant(wanted.copy(alloc)?, path.copy(alloc)?)),
             Deed::Free(entry) => Ok(Deed::Free(*entry)),
         }
@@ -89,7 +91,10 @@ impl Deed {
         ensures { IsTrue result ↔ (self.now ≡ other.now) }
     {
         match (self, other) {
-            (Deed::Hold(a), Deed::Hold(b)) => a == b,
+            (Deed::Hold(claims, reason), Deed::Hold(other_claims, other_reason)) => {
+                same_claims(claims.as_slice(), other_claims.as_slice())
+                    && reason.is_same(other_reason)
+            }
             (Deed::Grant(wanted, path), Deed::Grant(other_wanted, other_path)) => {
                 wanted.is_same(other_wanted) && path.is_same(other_path)
             }
@@ -111,4 +116,10 @@ impl Entry {
             deed: self.deed.copy(alloc)?,
         })
     }
+}
+
+fn same_claims(a: &[Claim], b: &[Claim]) -> bool
+    ensures { IsTrue result ↔ (a.now ≡ b.now) }
+{
+    a == b
 }

@@ -2,6 +2,19 @@
 
 use crate::Tick;
 
+/// Longest network file, in bytes.
+pub const MAX_NETWORK_FILE_BYTES: u64 = 67_108_864;
+/// Longest base file and longest train file, in bytes.
+pub const MAX_TIMETABLE_FILE_BYTES: u64 = 16_777_216;
+/// Longest id of a file, in bytes of UTF-8; the shortest has 1.
+pub const MAX_ID_BYTES: usize = 255;
+/// Longest track, in metres; the shortest has 1.
+pub const MAX_TRACK_LENGTH_M: u32 = 1_000_000;
+/// Most trains of a train file.
+pub const MAX_TRAINS: u32 = 65_536;
+/// Most claims of a base file.
+pub const MAX_BASE_CLAIMS: u32 = 262_144;
+
 /// Most zones, most points, most stops and most blocks of a network, each for itself.
 pub const MAX_OBJECTS: u32 = 65_536;
 /// Most cells over all blocks of a network.
@@ -37,6 +50,10 @@ pub const MAX_JOURNAL_BYTES: u64 = 268_435_456;
 /// Greatest tick of a claim, a window or an entry; the least is its negative.
 pub const MAX_TICK: Tick = 100_000;
 
+/// A bound on the ticks of all claims that are held: those of paths lie within the horizon, but for setting, the
+/// longest sight distance at the least speed, and release.
+pub const FAR_TICK: Tick = 1_099_511_627_776;
+
 /// Greatest number of a line, and greatest position of an entry.
 pub const MAX_NUMBER: u64 = 9_223_372_036_854_775_807;
 /// Longest name of a client, in bytes; the shortest has 1.
@@ -47,3 +64,9 @@ pub const MAX_STOPS: u32 = 16;
 pub const MAX_DWELL: u32 = 17_280;
 /// Most runs of a path that a client gives; the fewest is 1.
 pub const MAX_PINNED_RUNS: u32 = 4_096;
+/// Most claims of a hold; the fewest is 1.
+pub const MAX_HOLD_CLAIMS: u32 = 64;
+/// Longest reason of a hold, in bytes.
+pub const MAX_REASON_BYTES: usize = 255;
+/// Most places of a request.
+pub const MAX_PLACES: u32 = 65_536;

@@ -1,6 +1,7 @@
 //! Ticks, claims on zones, and paths.
 
-ghost use Rattle.std.specs.Prelude.{◌≡◌, ◌↔◌, IfOk, IsTrue};
+ghost use Rattle.std.specs.Prelude.{◌≡◌, ◌↔◌, ◌⊎◌, ◌<◌, ◌<ℤ◌, IfOk, IsTrue};
+ghost use Rattle.rail_types.specs.FirstClash.{IsBefore};
 ghost use Rattle.rail_types.specs.Occupation.{Clash};
 
 use crate::{List, Train};
@@ -18,7 +19,7 @@ pub struct Span {
 }
 
 /// The ticks from `from` to `to`, both among them; none where `from` is greater.
-#[derive(Clone, Copy, Debug, PartialEq, Eq)]
+#[derive(Clone, Copy, Debug, PartialEq, Eq, PartialOrd, Ord)]
 pub struct Window {
     pub from: Tick,
     pub to: Tick,
@@ -37,6 +38,13 @@ impl Claim {
         ensures { IsTrue result ↔ Clash self.now other.now }
     {
         self.zone == other.zone && self.span.from < other.span.to && other.span.from < self.span.to
+    }
+
+    /// Whether this claim is on a lower zone than the other, or on the same one and begins before it.
+    pub fn comes_before(&self, other: &Claim) -> bool
+        ensures { IsTrue result ↔ IsBefore self.now other.now }
+    {
+        self.zone < other.zone || (self.zone == other.zone && self.span.from < other.span.from)
     }
 }
 

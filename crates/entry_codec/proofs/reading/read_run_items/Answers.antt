@@ -7,11 +7,11 @@ use Rattle.entry_codec.proofs.reading.read_run_items.Goals as goal
 pub returns-in_err-item : goal.returns-in_err-item
 returns-in_err-item c =
     let p = err_from_is_err_and c.from_residual-in_err-item.result c.from_residual-in_err-item.ensures.1 in
-    rw (p.1, p.2) (ends run_field c.in_err-item.field-0.0 c.loop.runs.items c.args.count c.loop.counter c.loop.fields (items_field run_field c.args.count c.args.fields.now) c.loop-test.true c.in_err-item.ensures c.loop.invariant)
+    rw (p.1, p.2) (ends run_field c.in_err-item.field-0.0.at c.loop.runs.items c.args.count c.loop.counter c.loop.fields (items_field run_field c.args.count c.args.fields.now) c.loop-test.true c.in_err-item.ensures c.loop.invariant)
 
 pub loop-preserved : goal.loop-preserved
 loop-preserved c =
-    rw c.in_ok-push.ensures.items (goes_on run_field c.loop.runs.items c.args.count c.loop.counter c.loop.fields c.read_run.new.fields c.in_ok-item.item (items_field run_field c.args.count c.args.fields.now) c.loop-test.true c.in_ok-item.ensures c.loop.invariant)
+    rw c.in_ok-push.ensures.items (goes_on run_field c.loop.runs.items c.args.count c.loop.counter c.loop.fields c.find_run.new.fields c.in_ok-item.item (items_field run_field c.args.count c.args.fields.now) c.loop-test.true c.in_ok-item.ensures c.loop.invariant)
 
 pub returns : goal.returns
 returns c =

@@ -1,8 +1,9 @@
-use Rattle.std.proofs.Common.{take}
-use Rattle.rail_types.specs.Examples.{bare}
-use Rattle.grant_log.proofs.Clashless.{never_clash}
-use Rattle.osrd_stdcm.specs.Session.{standing}
-use Rattle.osrd_stdcm.proofs.Legality.{legal_session, legal_to}
+use Rattle.std.proofs.Common.{length, take, arith, subst}
+use Rattle.std.proofs.lemmas.List.{take_all}
+use Rattle.grant_log.specs.Legal.{NoneClash}
+use Rattle.grant_log.specs.Live.{live_claims}
+use Rattle.osrd_stdcm.specs.Session.{standing, timetable_for}
+use Rattle.osrd_stdcm.proofs.Legality.{is_timetable, legal_session, legal_to}
 use Rattle.osrd_stdcm.proofs.laws.sessions_are_legal.Goals as goal
 
 pub returns-clause-legal : goal.returns-clause-legal
@@ -10,4 +11,6 @@ returns-clause-legal c = legal_session
 
 pub returns-clause-apart : goal.returns-clause-apart
 returns-clause-apart c caller lines replies count name few session =
-    never_clash (bare caller.zones) (standing caller (take count lines) (take count replies)) (legal_to caller lines replies name few session count)
+    let entries = standing caller (take count lines) (take count replies) in
+    subst (λ front. NoneClash (live_claims (timetable_for caller.zones) front)) (take_all (length entries) entries (omega arith))
+    (c.legal_histories_never_clash.ensures.none (timetable_for caller.zones) entries (length entries) (is_timetable caller.zones (c.flaws_are_told_apart.ensures.few caller.zones few)) (legal_to caller lines replies name few session count))

@@ -1,6 +1,6 @@
-use Rattle.std.proofs.Common.{◌<◌, length, sym, subst}
+use Rattle.std.proofs.Common.{◌<◌, ◌∷◌, [], length, sym, subst}
 use Rattle.occupation_book.specs.Held.{IsFree, held}
-use Rattle.occupation_book.proofs.AllZones.{claims_at, free_by_zone, free_of_zone, first_of_all}
+use Rattle.occupation_book.proofs.AllZones.{claims_at, free_by_zone, free_of_zone, first_of_all, held_apart}
 use Rattle.occupation_book.proofs.books.Occupations.first_clashing.Goals as goal
 
 pub first_clashing_of-requires : goal.first_clashing_of-requires
@@ -9,12 +9,18 @@ first_clashing_of-requires c =
     let read = claims_at c.self.inside.zones.items c.args.claim.now.zone _ _ within c.index-claims.ensures c.as_slice.ensures in
     record { order = rw read (c.self.invariant.in_order c.args.claim.now.zone within) }
 
-pub returns-clause-found : goal.returns-clause-found
-returns-clause-found c =
-    let within : c.args.claim.now.zone < length c.self.inside.zones.items = rw c.self.view_is c.requires in
-    let read = claims_at c.self.inside.zones.items c.args.claim.now.zone _ _ within c.index-claims.ensures c.as_slice.ensures in
+pub returns-clause-first : goal.returns-clause-first
+returns-clause-first c =
+    let all = c.self.inside.zones.items in
+    let within : c.args.claim.now.zone < length all = rw c.self.view_is c.requires in
+    let read = claims_at all c.args.claim.now.zone _ _ within c.index-claims.ensures c.as_slice.ensures in
     let found = rw read at c.first_clashing_of.ensures.found in
-    rw (← c.self.view_is) (first_of_all c.self.inside.zones.items c.self.invariant c.args.claim.now within _ found)
+    let free = rw read at c.first_clashing_of.ensures.free in
+    let law = c.first_clashes_are_first.ensures in
+    rw (← c.self.view_is) (first_of_all all c.self.invariant c.args.claim.now within
+    (λ fits. (law.none (held all) (c.args.claim.now ∷ [])).1 fits)
+    (λ first. law.apart (held all) (c.args.claim.now ∷ []) first (held_apart all c.self.invariant))
+    c.first_clashing_of.result found free)
 
 pub returns-clause-free : goal.returns-clause-free
 returns-clause-free c =

@@ -1,0 +1,14 @@
+mod Suffixes
+mod Pairs
+mod Unions
+mod Finding
+mod Telling
+mod Ranks
+mod Leading
+mod Searching
+mod Passing
+mod Horizons
+mod Hulls
+mod Sharing
+mod Lasting
+mod Legging

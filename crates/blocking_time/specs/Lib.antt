@@ -1,0 +1,13 @@
+pub mod Runs
+pub mod Paths
+pub mod Rules
+pub mod Broken
+pub mod Firsts
+pub mod Stairway
+pub mod Ticks
+pub mod Joined
+pub mod Possible
+pub mod Laws
+pub mod Passages
+pub mod Legs
+pub mod Indexed

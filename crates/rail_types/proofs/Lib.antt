@@ -1,0 +1,7 @@
+mod Pairs
+mod Ascents
+mod FlawKinds
+mod SoundNets
+mod ClaimTests
+mod Firsts
+mod Clashings
