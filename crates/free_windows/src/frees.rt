@@ -1,0 +1,167 @@
+//! The ticks at which claims are free.
+
+ghost use Rattle.std.specs.Prelude.{◌≡◌, ℕ, ◌≤◌, ◌<◌, ℤ, pos, ◌+ℤ◌, ◌-ℤ◌, ◌<ℤ◌, ◌≤ℤ◌, ◌↔◌, All, AllPairs, IfOk, IfSome, IsNone, length};
+ghost use Rattle.std.specs.Int.{int_min};
+ghost use Rattle.std.specs.List.{AllWithin};
+ghost use Rattle.rail_types.specs.declared.limits.TheConstants.{FAR_TICK};
+ghost use Rattle.rail_types.specs.Limits.{IsNear, IsNearSpan};
+ghost use Rattle.rail_types.specs.Occupation.{HasTicks};
+ghost use Rattle.occupation_book.specs.Held.{AreInOrder, held};
+ghost use Rattle.free_windows.specs.Free.{Fits, Holds, IsFreeOf, moved};
+ghost use Rattle.free_windows.specs.Starts.{IsPiece, IsNearWindow, IsStretch, IsNextWindow, AreWindowsOf};
+
+use no_memory::NoMemory;
+use occupation_book::Occupations;
+use rail_types::{Claim, Owner, Span, Window};
+use std::alloc::Global;
+
+// The first ticks of a window, all of which are free or none.
+#[derive(Clone, Copy, Debug)]
+struct Stretch {
+    free: bool,
+    ticks: Window,
+}
+
+/// The ticks of a window to which claims can be moved, that stand here for tick 0, so that each of them is free:
+/// ascending windows that neither overlap nor touch.
+pub fn starts(
+    alloc: Global,
+    pieces: &[Claim],
+    book: &Occupations,
+    within: &Window,
+) -> Result<Vec<Window>, NoMemory>
+    requires pieces { All (IsPiece (length book.now)) pieces.now }
+    requires within { IsNearWindow within.now }
+    ensures { IfOk result (λ windows.
+        AreWindowsOf (Fits (held book.now) pieces.now) within.now windows.items) }
+{
+    let mut windows = Vec::new(alloc);
+    let mut rest = *within;
+    while let Some(next) = next_start(pieces, book, &rest) {
+        windows.push(next)?;
+        rest = behind(&rest, &next);
+    }
+    Ok(windows)
+}
+
+/// The first free ticks of a window, as many as follow one another.
+pub fn next_start(pieces: &[Claim], book: &Occupations, within: &Window) -> Option<Window>
+    requires pieces { All (IsPiece (length book.now)) pieces.now }
+    requires within { IsNearWindow within.now }
+    ensures found { IfSome result (IsNextWindow (Fits (held book.now) pieces.now) within.now) }
+    ensures none { IsNone result → (tick : ℤ) → Holds within.now tick → ¬ Fits (held book.now) pieces.now tick }
+{
+    let mut rest = *within;
+    while rest.from <= rest.to {
+        let stretch = stretch_of_all(pieces, book, &rest);
+        if stretch.free {
+            return Some(stretch.ticks);
+        }
+        rest = behind(&rest, &stretch.ticks);
+    }
+    None
+}
+
+fn stretch_of_all(pieces: &[Claim], book: &Occupations, within: &Window) -> Stretch
+    requires pieces { All (IsPiece (length book.now)) pieces.now }
+    requires within { IsNearWindow within.now }
+    requires some { within.now.from ≤ℤ within.now.to }
+    ensures { IsStretch (Fits (held book.now) pieces.now) within.now result.free result.ticks }
+{
+    let mut ticks = *within;
+    for piece in pieces {
+        let stretch = stretch_of(book.of_zone(piece.zone), piece, &ticks);
+        if !stretch.free {
+            return stretch;
+        }
+        ticks = stretch.ticks;
+    }
+    Stretch { free: true, ticks }
+}
+
+fn stretch_of(kept: &[(Claim, Owner)], piece: &Claim, within: &Window) -> Stretch
+    requires zone { AreInOrder piece.now.zone kept.now }
+    requires near { IsNearSpan piece.now.span }
+    requires ticks { HasTicks piece.now.span }
+    requires within { IsNearWindow within.now }
+    requires some { within.now.from ≤ℤ within.now.to }
+    ensures { IsStretch (IsFreeOf kept.now piece.now) within.now result.free result.ticks }
+{
+    let start = at_start(piece, within);
+    let at = first_ending_after(kept, piece.zone, &start);
+    let Some(next) = kept.get(at) else {
+        return Stretch {
+            free: true,
+            ticks: *within,
+        };
+    };
+    let next = &next.0.span;
+    if next.from < start.to {
+        Stretch {
+            free: false,
+            ticks: until_it_ends(next, piece, within),
+        }
+    } else {
+        Stretch {
+            free: true,
+            ticks: until_it_begins(next, piece, within),
+        }
+    }
+}
+
+fn at_start(piece: &Claim, within: &Window) -> Span
+    requires near { IsNearSpan piece.now.span }
+    requires within { IsNearWindow within.now }
+    requires some { within.now.from ≤ℤ within.now.to }
+    ensures from { result.from ≡ within.now.from +ℤ piece.now.span.from }
+    ensures to { result.to ≡ within.now.from +ℤ piece.now.span.to }
+{
+    Span {
+        from: within.from + piece.span.from,
+        to: within.from + piece.span.to,
+    }
+}
+
+fn until_it_ends(next: &Span, piece: &Claim, within: &Window) -> Window
+    requires near { IsNear piece.now.span.from × IsNear next.now.to }
+    ensures from { result.from ≡ within.now.from }
+    ensures to { result.to ≡ int_min within.now.to ((next.now.to -ℤ piece.now.span.from) -ℤ pos 1) }
+{
+    Window {
+        from: within.from,
+        to: within.to.min(next.to - piece.span.from - 1),
+    }
+}
+
+fn until_it_begins(next: &Span, piece: &Claim, within: &Window) -> Window
+    requires near { IsNear piece.now.span.to × IsNear next.now.from }
+    ensures from { result.from ≡ within.now.from }
+    ensures to { result.to ≡ int_min within.now.to (next.now.from -ℤ piece.now.span.to) }
+{
+    Window {
+        from: within.from,
+        to: within.to.min(next.from - piece.span.to),
+    }
+}
+
+// What is left of a window behind its first ticks.
+fn behind(window: &Window, ticks: &Window) -> Window
+    requires near { ticks.now.to ≤ℤ FAR_TICK }
+    ensures from { result.from ≡ ticks.now.to +ℤ pos 1 }
+    ensures to { result.to ≡ window.now.to }
+{
+    Window {
+        from: ticks.to + 1,
+        to: window.to,
+    }
+}
+
+// How many of a zone's spans end before this one begins.
+fn first_ending_after(kept: &[(Claim, Owner)], zone: u32, span: &Span) -> usize
+    requires { AreInOrder zone kept.now }
+    ensures bound { result ≤ length kept.now }
+    ensures before { AllWithin (λ one. one.0.span.to ≤ℤ span.now.from) kept.now 0 result }
+    ensures after { AllWithin (λ one. span.now.from <ℤ one.0.span.to) kept.now result (length kept.now) }
+{
+    kept.partition_point(|one| one.0.span.to <= span.from)
+}

@@ -1,0 +1,9 @@
+//! The ticks at which claims are free.
+#![tactic(auto)]
+
+mod frees;
+
+pub use frees::{next_start, starts};
+
+#[cfg(test)]
+mod tests;
