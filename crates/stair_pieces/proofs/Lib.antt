@@ -1,0 +1,14 @@
+mod Covering
+mod Tails
+mod Moments
+mod Joining
+mod Walks
+mod Fitting
+mod Sound
+mod Runs
+mod Stairs
+mod Keeping
+mod Asked
+mod Made
+mod Requests
+mod Paths

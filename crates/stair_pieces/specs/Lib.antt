@@ -1,0 +1,7 @@
+pub mod Places
+pub mod Pieces
+pub mod Joining
+pub mod Fitting
+pub mod Moves
+pub mod Steps
+pub mod Alike

@@ -1,0 +1,26 @@
+-- What is asked of a network and of a request.
+use Rattle.std.specs.Prelude.{◌≡◌, ◌<◌, ◌≤◌, length, All, None}
+use Rattle.rail_types.specs.declared.tracks.Network.{Network}
+use Rattle.rail_types.specs.declared.trains.Request.{Request}
+use Rattle.rail_types.specs.declared.limits.TheConstants.{MAX_OBJECTS, MAX_STOPS}
+use Rattle.rail_types.specs.Flaws.{first_flaw}
+use Rattle.rail_types.specs.Limits.{IsBlockWithinLimits, IsTrainWithinLimits}
+
+-- the blocks begin and end at points of the network
+pub record HasPoints (net : Network) : Type 0 where
+  pub begins : All (λ block. block.from_point < net.points) net.blocks
+  pub ends : All (λ block. block.to_point < net.points) net.blocks
+  pub count : length net.blocks ≤ MAX_OBJECTS
+
+-- a request within its limits on a network within its own
+pub record IsAsked (net : Network) (request : Request) : Type 0 where
+  pub points : HasPoints net
+  pub blocks : All IsBlockWithinLimits net.blocks
+  pub train : IsTrainWithinLimits request.train
+  pub stops : length request.stops ≤ MAX_STOPS
+
+-- a request within its limits may be asked of a network without a flaw
+abbrev pub SoundNetworksAreAsked : Type 0
+SoundNetworksAreAsked =
+    (net : Network) (request : Request) → first_flaw net ≡ None
+    → IsTrainWithinLimits request.train → length request.stops ≤ MAX_STOPS → IsAsked net request

@@ -1,0 +1,78 @@
+-- Inside the listing of places: what is known on the way.
+use Rattle.std.specs.Prelude.{◌≡◌, ◌⊎◌, ℕ, ◌<◌, ◌≤◌, true, List, [], ◌∷◌, ◌++◌, length, All, Contains, Option, Some, None, slice_get}
+use Rattle.rail_types.specs.declared.tracks.Network.{Network}
+use Rattle.rail_types.specs.declared.trains.Request.{Request}
+use Rattle.rail_types.specs.declared.trains.Stop.{Stop}
+use Rattle.rail_types.specs.declared.limits.TheConstants.{MAX_PLACES}
+use Rattle.running_time.specs.declared.edges.Edge.{Edge}
+use Rattle.blocking_time.specs.Runs.{block_at}
+use Rattle.stair_pieces.specs.declared.places.Place.{Place}
+use Rattle.stair_pieces.specs.declared.places.Step.{Step}
+use Rattle.stair_pieces.specs.Places.{start_place}
+use Rattle.stair_pieces.specs.Steps.{IsTailIn}
+use Rattle.stair_pieces.specs.Moves.{Reaches, IsMove, IsPlace}
+use Rattle.tail_states.specs.declared.moves.Move.{Move}
+use Rattle.tail_states.specs.Listed.{HasNoneTwice, IsListedMove, HasStep, AreMovesFrom}
+
+-- the operational point of a stop, or else the destination
+abbrev pub stop_or : ℕ → Option Stop → ℕ
+stop_or destination (Some stop) = stop.stop
+stop_or destination None = destination
+
+-- where the train may stop next, so many named stops being made
+abbrev pub next_stop : Request → ℕ → ℕ
+next_stop request made = stop_or request.destination (slice_get request.stops made)
+
+-- the start place, or a place of the request
+pub record IsPlaceFrom (net : Network) (request : Request) (place : Place) : Type 0 where
+  pub from : (place ≡ start_place) ⊎ IsPlace net request place
+  pub tail : IsTailIn net request.train place.tail
+  pub begins : place.tail ≡ [] → place.standing ≡ true
+  pub made : place.made ≤ length request.stops
+
+-- places of the request, each once, no more than are listed
+pub record AreFound (net : Network) (request : Request) (members : List Place) : Type 0 where
+  pub sound : All (IsPlace net request) members
+  pub distinct : HasNoneTwice members
+  pub few : length members ≤ MAX_PLACES
+
+-- the places keep their numbers
+abbrev pub Grows : List Place → List Place → Type 0
+Grows old new = (more : List Place) × (new ≡ old ++ more)
+
+-- the blocks that a train may enter from behind these
+pub record AreNextBlocks (net : Network) (request : Request) (tail : List ℕ) (blocks : List ℕ) : Type 0 where
+  pub sound : (block : ℕ) → Contains blocks block → (block < length net.blocks) × Reaches net request tail (block_at net block)
+  pub whole : (block : ℕ) → block < length net.blocks → Reaches net request tail (block_at net block) → Contains blocks block
+
+-- a step is put behind the moves, with where it leads
+abbrev pub AddsMove : Network → Request → List Place → Place → Step → List Move → List Move → Type 0
+AddsMove net request members place step old new = (one : Move) × (new ≡ old ++ one ∷ []) × (one.step ≡ step) × IsListedMove net request members place one
+
+-- exactly the moves onto a block are among these
+pub record AreMovesOnto (net : Network) (request : Request) (members : List Place) (place : Place) (block : ℕ) (moves : List Move) : Type 0 where
+  pub sound : All (IsListedMove net request members place) moves
+  pub whole : (exit : Edge) → IsMove net request place (record { block = block; exit = exit }) → HasStep moves (record { block = block; exit = exit })
+
+-- the moves onto a block are put behind the moves
+abbrev pub AddsMoves : Network → Request → List Place → Place → ℕ → List Move → List Move → Type 0
+AddsMoves net request members place block old new = (more : List Move) × (new ≡ old ++ more) × AreMovesOnto net request members place block more
+
+-- exactly the moves onto these blocks
+pub record AreMovesOver (net : Network) (request : Request) (members : List Place) (place : Place) (blocks : List ℕ) (moves : List Move) : Type 0 where
+  pub sound : All (IsListedMove net request members place) moves
+  pub whole : (step : Step) → IsMove net request place step → Contains blocks step.block → HasStep moves step
+
+-- of the first blocks, so many, those that serve the origin
+pub record AreFirstBlocks (net : Network) (request : Request) (count : ℕ) (blocks : List ℕ) : Type 0 where
+  pub sound : (block : ℕ) → Contains blocks block → (block < count) × Contains (block_at net block).serves request.origin
+  pub whole : (block : ℕ) → block < count → Contains (block_at net block).serves request.origin → Contains blocks block
+
+-- the moves from the first places, so many
+pub record AreFirstMoves (net : Network) (request : Request) (members : List Place) (moves : List (List Move)) : Type 0 where
+  pub count : length moves ≤ length members
+  pub moves_are : (number : ℕ) (place : Place) (own : List Move) → slice_get members number ≡ Some place → slice_get moves number ≡ Some own → AreMovesFrom net request members place own
+
+-- the moves from the place that has this number among the old places
+abbrev pub AreMovesAt : Network → Request → List Place → ℕ → List Place → List Move → Type 0
+AreMovesAt net request old number new moves = (place : Place) → slice_get old number ≡ Some place → AreMovesFrom net request new place moves

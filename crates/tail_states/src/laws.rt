@@ -1,0 +1,24 @@
+//! Laws of places and of closed members, each on a function that calls other laws alone.
+
+ghost use Rattle.tail_states.specs.Asked.{SoundNetworksAreAsked};
+ghost use Rattle.tail_states.specs.Closing.{ExcludesAllPaths, ExcludesEarlierPaths};
+
+use rail_types::networks_without_flaws;
+use stair_pieces::{a_path_fits_run_by_run, a_path_is_a_list_of_moves};
+
+/// A request within its limits may be asked of a network without a flaw.
+pub fn sound_networks_are_asked()
+    ensures { SoundNetworksAreAsked }
+{
+    networks_without_flaws();
+}
+
+/// Where members are closed below a tick, each path that could be granted ends at that tick or
+/// later; and where they are closed, no path could be granted.
+pub fn closed_members_exclude_paths()
+    ensures earlier { ExcludesEarlierPaths }
+    ensures all { ExcludesAllPaths }
+{
+    a_path_is_a_list_of_moves();
+    a_path_fits_run_by_run();
+}
