@@ -1,0 +1,108 @@
+//! One pass over a text, piece by piece.
+
+ghost use Rattle.std.specs.Prelude.{◌≡◌, ℕ, List, length, ◌<◌, ◌≤◌, IfOk, OnOk, OnErr, ◌++◌, IsTrue, ◌↔◌};
+ghost use Rattle.std.specs.List.{prefix_len};
+ghost use Rattle.decimal_quote.specs.Quoted.{AreCut, HaveLongestRuns, IsQuoted, piece_length, string_length, shown, needs_marks, is_number_byte};
+
+use crate::numbers::{is_number, is_short_whole};
+use no_memory::NoMemory;
+use std::alloc::Global;
+
+const MARK: u8 = b'"';
+
+const BACKSLASH: u8 = b'\\';
+
+/// The text with quotation marks round its numbers (RFC 8259, section 6), but for 0 and those of 1 to 18 digits, the
+/// first not 0, behind a minus or none. Strings stay as they are.
+pub fn quote(alloc: Global, text: &[u8]) -> Result<Vec<u8>, NoMemory>
+    ensures quoted { IfOk result (λ quoted. IsQuoted text.now quoted.items) }
+    ensures only { IfOk result (λ quoted. (other : List ℕ) → IsQuoted text.now other → other ≡ quoted.items) }
+{
+    let mut quoted = Vec::with_capacity(alloc, text.len().saturating_mul(2))?;
+    let mut rest = text;
+    'pieces: while !rest.is_empty() {
+        let (piece, behind) = rest.split_at(first_piece(rest));
+        push_piece(&mut quoted, piece)?;
+        rest = behind;
+    }
+    Ok(quoted)
+}
+
+/// A text is quoted in one way.
+pub fn one_quoted_text()
+    ensures { (text one other : List ℕ) → IsQuoted text one → IsQuoted text other → one ≡ other }
+{}
+
+/// Each text is quoted in some way.
+pub fn each_text_is_quoted()
+    ensures { (text : List ℕ) → (quoted : List ℕ) × IsQuoted text quoted }
+{}
+
+/// In a cut no byte of numbers stands behind a run of them.
+pub fn runs_are_longest()
+    ensures { (pieces : List (List ℕ)) → AreCut pieces → HaveLongestRuns pieces }
+{}
+
+/// How many bytes the first piece of a text takes.
+fn first_piece(text: &[u8]) -> usize
+    requires { 0 < length text.now }
+    ensures length { result ≡ piece_length text.now }
+    ensures some { 0 < result }
+    ensures within { result ≤ length text.now }
+{
+    let (_, rest) = text.split_at(1);
+    match text[0] {
+        MARK => 1 + bytes_of_string(rest),
+        byte if is_in_number(byte) => 1 + bytes_of_number(rest),
+        _ => 1,
+    }
+}
+
+/// How many bytes a string takes behind its first mark, its last mark included.
+fn bytes_of_string(text: &[u8]) -> usize
+    ensures bytes { result ≡ string_length text.now }
+    ensures within { result ≤ length text.now }
+{
+    let mut at = 0;
+    'bytes: while at < text.len() {
+        let byte = text[at];
+        if byte == MARK {
+            return at + 1;
+        }
+        at += if byte == BACKSLASH { 2 } else { 1 };
+    }
+    text.len()
+}
+
+/// How many bytes of numbers stand at the front.
+fn bytes_of_number(text: &[u8]) -> usize
+    ensures bytes { result ≡ prefix_len is_number_byte text.now }
+    ensures within { result ≤ length text.now }
+{
+    text.iter().take_while(|byte| is_in_number(**byte)).count()
+}
+
+fn is_in_number(byte: u8) -> bool
+    ensures { result ≡ is_number_byte byte }
+{
+    matches!(byte, b'0'..=b'9' | b'+' | b'-' | b'.' | b'e' | b'E')
+}
+
+fn push_piece(to: &mut Vec<u8>, piece: &[u8]) -> Result<(), NoMemory>
+    ensures ok { OnOk result (to.new.items ≡ to.old.items ++ shown piece.now) }
+{
+    if !is_to_be_marked(piece) {
+        to.extend_from_slice(piece)?;
+        return Ok(());
+    }
+    to.push(MARK)?;
+    to.extend_from_slice(piece)?;
+    to.push(MARK)?;
+    Ok(())
+}
+
+fn is_to_be_marked(piece: &[u8]) -> bool
+    ensures { result ≡ needs_marks piece.now }
+{
+    is_number(piece) && !is_short_whole(piece)
+}

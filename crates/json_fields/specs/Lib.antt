@@ -1,0 +1,6 @@
+pub mod Escapes
+pub mod Reading
+pub mod Texts
+pub mod Places
+pub mod Spots
+pub mod Numbers

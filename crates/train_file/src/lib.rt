@@ -1,0 +1,15 @@
+//! The file of trains: the bytes of a file of JSON, read to trains that are found by their names.
+#![tactic(auto)]
+
+mod faults;
+mod fields;
+mod files;
+mod names;
+mod objects;
+
+pub use faults::{TrainFault, What};
+pub use files::read_trains;
+pub use objects::Trains;
+
+#[cfg(test)]
+mod tests;
