@@ -1,0 +1,10 @@
+use Rattle.std.proofs.Common.{subst, map}
+use Rattle.serde_json.specs.View.{view}
+use Rattle.json_fields.specs.Places.{FilePlace}
+use Rattle.railjson_read.specs.Fields.{GivesNext}
+use Rattle.railjson_read.specs.Objects.{id_of_track}
+use Rattle.railjson_read.specs.Points.{id_of_point, point_in}
+use Rattle.railjson_read.proofs.point_lists.read_point.Goals as goal
+
+pub returns-clause-read : goal.returns-clause-read
+returns-clause-read c = subst (λ (p : FilePlace). GivesNext c.args.points.now c.push_point.new.points c.push_point.result (point_in p (map id_of_track c.args.tracks.now) (map id_of_point c.args.points.now) (view c.args.value.now))) c.of_element-place.ensures c.push_point.ensures.read

@@ -1,0 +1,15 @@
+use Rattle.std.proofs.Common.{◌≡◌, length, map, drop, []}
+use Rattle.std.specs.Prelude.{All, ◌<◌}
+use Rattle.serde_json.specs.View.{view}
+use Rattle.railjson_read.specs.Fields.{read_each, read_items}
+use Rattle.railjson_read.specs.Infras.{IsRoute}
+use Rattle.railjson_read.specs.Objects.{id_of_switch, id_of_placed}
+use Rattle.railjson_read.specs.Routes.{id_of_route, route_at}
+use Rattle.railjson_read.proofs.route_lists.read_routes.Given as goal
+
+abbrev pub invariant-objects : goal.invariant-objects
+invariant-objects l = record {
+  read : read_each id_of_route (route_at (map id_of_switch l.switches) (map id_of_placed l.detectors) (map id_of_placed l.buffer_stops)) l.routes (map view (drop l.value-index l.list)) ≡ read_each id_of_route (route_at (map id_of_switch l.switches) (map id_of_placed l.detectors) (map id_of_placed l.buffer_stops)) [] (map view l.list);
+  count : length l.routes ≡ l.value-index;
+  within : All (IsRoute (length l.switches) (length l.detectors) (length l.buffer_stops)) l.routes;
+}

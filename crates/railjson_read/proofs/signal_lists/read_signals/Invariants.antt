@@ -1,0 +1,15 @@
+use Rattle.std.proofs.Common.{◌≡◌, length, map, drop, []}
+use Rattle.std.specs.Prelude.{All, ◌<◌}
+use Rattle.serde_json.specs.View.{view}
+use Rattle.railjson_read.specs.Fields.{read_each, read_items}
+use Rattle.railjson_read.specs.Infras.{IsSignal}
+use Rattle.railjson_read.specs.Objects.{id_of_track}
+use Rattle.railjson_read.specs.Signals.{id_of_signal, signal_at}
+use Rattle.railjson_read.proofs.signal_lists.read_signals.Given as goal
+
+abbrev pub invariant-objects : goal.invariant-objects
+invariant-objects l = record {
+  read : read_each id_of_signal (signal_at (map id_of_track l.tracks)) l.signals (map view (drop l.value-index l.list)) ≡ read_each id_of_signal (signal_at (map id_of_track l.tracks)) [] (map view l.list);
+  count : length l.signals ≡ l.value-index;
+  within : All (IsSignal (length l.tracks)) l.signals;
+}

@@ -1,0 +1,12 @@
+use Rattle.std.proofs.Common.{◌≡◌, ◌<◌, length, map, drop, []}
+use Rattle.std.specs.Prelude.{All}
+use Rattle.serde_json.specs.View.{view}
+use Rattle.railjson_read.specs.Objects.{id_of_track, read_ports}
+use Rattle.railjson_read.proofs.switch_lists.read_ports.Given as goal
+
+abbrev pub invariant-ports : goal.invariant-ports
+invariant-ports l = record {
+  read : read_ports l.place (map id_of_track l.tracks) (view l.value) l.ports (drop l.name-index l.names) ≡ read_ports l.place (map id_of_track l.tracks) (view l.value) [] l.names;
+  count : length l.ports ≡ l.name-index;
+  within : All (λ port. port.track < length l.tracks) l.ports;
+}

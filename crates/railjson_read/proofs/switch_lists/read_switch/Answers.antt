@@ -1,0 +1,9 @@
+use Rattle.std.proofs.Common.{subst, map}
+use Rattle.serde_json.specs.View.{view}
+use Rattle.json_fields.specs.Places.{FilePlace}
+use Rattle.railjson_read.specs.Fields.{GivesNext}
+use Rattle.railjson_read.specs.Objects.{id_of_track, id_of_switch, switch_in}
+use Rattle.railjson_read.proofs.switch_lists.read_switch.Goals as goal
+
+pub returns-clause-read : goal.returns-clause-read
+returns-clause-read c = subst (λ (p : FilePlace). GivesNext c.args.switches.now c.push_switch.new.switches c.push_switch.result (switch_in p (map id_of_track c.args.tracks.now) (map id_of_switch c.args.switches.now) (view c.args.value.now))) c.of_element-place.ensures c.push_switch.ensures.read

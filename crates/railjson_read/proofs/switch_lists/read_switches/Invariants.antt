@@ -1,0 +1,14 @@
+use Rattle.std.proofs.Common.{◌≡◌, length, map, drop, []}
+use Rattle.std.specs.Prelude.{All}
+use Rattle.serde_json.specs.View.{view}
+use Rattle.railjson_read.specs.Fields.{read_each}
+use Rattle.railjson_read.specs.Infras.{IsSwitch}
+use Rattle.railjson_read.specs.Objects.{id_of_track, id_of_switch, switch_at}
+use Rattle.railjson_read.proofs.switch_lists.read_switches.Given as goal
+
+abbrev pub invariant-objects : goal.invariant-objects
+invariant-objects l = record {
+  read : read_each id_of_switch (switch_at (map id_of_track l.tracks)) l.switches (map view (drop l.value-index l.list)) ≡ read_each id_of_switch (switch_at (map id_of_track l.tracks)) [] (map view l.list);
+  count : length l.switches ≡ l.value-index;
+  within : All (IsSwitch (length l.tracks)) l.switches;
+}

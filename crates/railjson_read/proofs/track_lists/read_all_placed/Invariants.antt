@@ -1,0 +1,14 @@
+use Rattle.std.proofs.Common.{◌≡◌, length, map, drop, []}
+use Rattle.std.specs.Prelude.{All}
+use Rattle.serde_json.specs.View.{view}
+use Rattle.railjson_read.specs.Fields.{read_each}
+use Rattle.railjson_read.specs.Infras.{IsPlaced}
+use Rattle.railjson_read.specs.Objects.{id_of_track, id_of_placed, placed_at}
+use Rattle.railjson_read.proofs.track_lists.read_all_placed.Given as goal
+
+abbrev pub invariant-objects : goal.invariant-objects
+invariant-objects l = record {
+  read : read_each id_of_placed (placed_at l.name (map id_of_track l.tracks)) l.found (map view (drop l.value-index l.list)) ≡ read_each id_of_placed (placed_at l.name (map id_of_track l.tracks)) [] (map view l.list);
+  count : length l.found ≡ l.value-index;
+  within : All (IsPlaced (length l.tracks)) l.found;
+}

@@ -1,0 +1,9 @@
+use Rattle.std.proofs.Common.{subst, map}
+use Rattle.serde_json.specs.View.{view}
+use Rattle.json_fields.specs.Places.{FilePlace}
+use Rattle.railjson_read.specs.Fields.{GivesNext}
+use Rattle.railjson_read.specs.Objects.{id_of_track, id_of_placed, placed_in}
+use Rattle.railjson_read.proofs.track_lists.read_placed.Goals as goal
+
+pub returns-clause-read : goal.returns-clause-read
+returns-clause-read c = subst (λ (p : FilePlace). GivesNext c.args.found.now c.push_placed.new.found c.push_placed.result (placed_in p (map id_of_track c.args.tracks.now) (map id_of_placed c.args.found.now) (view c.args.value.now))) c.of_element-place.ensures c.push_placed.ensures.read

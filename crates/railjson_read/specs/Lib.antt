@@ -1,0 +1,9 @@
+pub mod Infras
+pub mod Fields
+pub mod Words
+pub mod Objects
+pub mod Signals
+pub mod Routes
+pub mod Points
+pub mod Speeds
+pub mod Texts

@@ -1,0 +1,15 @@
+pub mod Links
+pub mod NeighbourRows
+pub mod Marking
+pub mod Spreads
+pub mod Numbers
+pub mod OneNumbering
+pub mod StandRows
+pub mod Sorting
+pub mod PortsNamed
+pub mod Maps
+pub mod Cuttings
+pub mod Offs
+pub mod Totals
+pub mod Wayfinding
+pub mod LaidOut

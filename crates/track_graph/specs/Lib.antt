@@ -1,0 +1,12 @@
+pub mod Layouts
+pub mod Stands
+pub mod Pieces
+pub mod Zones
+pub mod Ways
+pub mod Faults
+pub mod StandRows
+pub mod PieceRows
+pub mod Neighbours
+pub mod Marks
+pub mod Joints
+pub mod Graphs
