@@ -38,6 +38,13 @@ is_held (zone ∷ zones) (suc number) one within contains = Contains-append_righ
 pub all_of_zone : (P : HeldClaim → Type 0) (book : List Zone) (number : ℕ) → number < length book → All P (held book) → All P (zone_at book number).claims
 all_of_zone P book number within all k other in_range = All-contains P (held book) _ all (is_held book number _ within (All-contains_itself (zone_at book number).claims k other in_range))
 
+-- the held claims of a zone are the zone's
+pub all_on_zone : (book : List Zone) → IsBook book → (zone : ℕ) → zone < length book → All (λ one. one.0.zone ≡ zone → Contains (zone_at book zone).claims one) (held book)
+all_on_zone book is_book zone within = all_held (λ one. one.0.zone ≡ zone → Contains (zone_at book zone).claims one) book (λ number in_range. elim (cases_eq number zone) [
+  | inl same ↦ subst (λ n. All (λ one. one.0.zone ≡ zone → Contains (zone_at book zone).claims one) (zone_at book n).claims) (sym same) (λ k other in_zone on. All-contains_itself (zone_at book zone).claims k other in_zone)
+  | inr differs ↦ λ k other in_zone on. absurd (differs (sym ((is_book.in_order number in_range).on_zone k other in_zone) ∙ on))
+])
+
 module _ (book : List Zone) (is_book : IsBook book) (claim : Claim) (within : claim.zone < length book) where
   -- the claims of other zones do not clash
   others_apart : (P : HeldClaim → Type 0) → All (λ other. Clash other.0 claim → P other) (zone_at book claim.zone).claims → All (λ other. Clash other.0 claim → P other) (held book)

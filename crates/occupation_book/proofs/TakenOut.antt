@@ -1,9 +1,9 @@
 -- The claims of an owner are taken out of the zones of a list of claims.
-use Rattle.std.proofs.Common.{◌≡◌, ◌⊎◌, ℕ, ◌+◌, ◌-◌, ◌<◌, ◌≤◌, Bool, true, not, List, [], ◌∷◌, length, filter, get_or, set, sym, ap, subst, inl, inr, refl, arith, nat_eq, ◌∙◌, Any, Contains}
+use Rattle.std.proofs.Common.{◌≡◌, ◌⊎◌, ℕ, ◌+◌, ◌-◌, ◌<◌, ◌≤◌, Bool, true, not, List, [], ◌∷◌, length, filter, get_or, set, sym, ap, subst, inl, inr, refl, arith, nat_eq, ◌∙◌, Any, Contains, zero, suc, min, ◌++◌, length-append}
 use Rattle.std.proofs.lemmas.Bool.{cases_Bool, cases_eq}
 use Rattle.std.proofs.lemmas.Bool.Decides.{nat_tests}
 use Rattle.std.proofs.lemmas.List.{get_or-set_same, get_or-set_other, length-set, get_or_default}
-use Rattle.std.proofs.lemmas.List.Elements.{All-contains, All-contains_itself, All-filter, filter_passes}
+use Rattle.std.proofs.lemmas.List.Elements.{All-contains, All-contains_itself, All-filter, filter_passes, filter-append}
 use Rattle.rail_types.specs.declared.paths.Claim.{Claim}
 use Rattle.rail_types.specs.declared.entries.Owner.{Owner}
 use Rattle.rail_types.specs.declared.entries.Owner.TheVariants.{Base, Entry}
@@ -51,6 +51,48 @@ same_owner (Base a) (Entry b) test = cc
 same_owner (Entry a) (Base b) test = cc
 
 module _ (owner : Owner) where
+  -- how many of these claims the owner holds
+  abbrev pub count_own : List HeldClaim → ℕ
+  count_own claims = length (claims_of owner claims)
+
+  own_append : (some others : List HeldClaim) → count_own (some ++ others) ≡ count_own some + count_own others
+  own_append some others =
+      ap length (filter-append (λ one. is_same_owner one.1 owner) some others) ∙ length-append (claims_of owner some) (claims_of owner others)
+
+  -- a zone without the owner's claims in the place of one
+  own_less : (book : List Zone) (number : ℕ) (new : Zone) → number < length book → claims_of owner new.claims ≡ [] → count_own (held (set book number new)) + count_own (zone_at book number).claims ≡ count_own (held book)
+  own_less [] number new within none = absurd (omega arith)
+  own_less (zone ∷ zones) zero new within none =
+      omega (arith, own_append new.claims (held zones), own_append zone.claims (held zones), ap length none)
+  own_less (zone ∷ zones) (suc number) new within none =
+      omega (arith, own_append zone.claims (held (set zones number new)), own_append zone.claims (held zones), own_less zones number new (omega arith) none)
+
+  -- what is taken out so far and what is left are what there was
+  pub record AreCounted (old now : List Zone) (count : ℕ) : Type 0 where
+    pub sum : min (count + count_own (held now)) 4294967295 ≡ min (count_own (held old)) 4294967295
+    pub most : count ≤ 4294967295
+
+  pub counted_none : (old : List Zone) → AreCounted old old 0
+  counted_none old = record { sum = omega arith; most = omega arith }
+
+  adds : (count here left before all more sum : ℕ) → left + here ≡ before → min (count + before) 4294967295 ≡ min all 4294967295 → more ≡ min here 4294967295 → sum ≡ min (count + more) 4294967295 → min (sum + left) 4294967295 ≡ min all 4294967295
+  adds count here left before all more sum parts known counts saturates = omega (arith, parts, known, counts, saturates)
+
+  pub counted_more : (old now : List Zone) (number count : ℕ) (zone new : Zone) (more sum : ℕ) → AreCounted old now count → number < length now → zone ≡ get_or now number zone → IsWithout owner zone new → more ≡ min (count_own zone.claims) 4294967295 → sum ≡ min (count + more) 4294967295 → AreCounted old (set now number new) sum
+  counted_more old now number count zone new more sum counted within read without counts saturates =
+      let here : zone ≡ zone_at now number = at_zone now number zone within read in
+      let none : claims_of owner new.claims ≡ [] = ap (claims_of owner) without.claims ∙ none_left (λ one. is_same_owner one.1 owner) zone.claims in
+      let parts : count_own (held (set now number new)) + count_own zone.claims ≡ count_own (held now) = rw here (own_less now number new within none) in
+      record {
+        sum = adds count (count_own zone.claims) (count_own (held (set now number new))) (count_own (held now)) (count_own (held old)) more sum parts counted.sum counts saturates;
+        most = omega (arith, saturates);
+      }
+
+  pub all_counted : (old now : List Zone) (count : ℕ) → AreCounted old now count → held now ≡ claims_of_others owner (held old) → count ≡ min (count_own (held old)) 4294967295
+  all_counted old now count counted out =
+      let none : claims_of owner (held now) ≡ [] = ap (claims_of owner) out ∙ none_left (λ one. is_same_owner one.1 owner) (held old) in
+      omega (arith, counted.sum, counted.most, ap length none)
+
   -- taken out twice is taken out
   without_twice : (a b c : Zone) → IsWithout owner a b → IsWithout owner b c → IsWithout owner a c
   without_twice a b c first again =

@@ -1,6 +1,6 @@
 //! The claims of all zones.
 
-ghost use Rattle.std.specs.Prelude.{◌≡◌, ◌≢◌, ℕ, ◌+◌, ◌-◌, ◌<◌, ◌≤◌, ◌∷◌, ◌↔◌, [], false, length, map, min, option_map, slice_index_or, All, AllPairs, Contains, IfOk, IsNone, IsOk, IsTrue, OnErr, OnOk};
+ghost use Rattle.std.specs.Prelude.{◌≡◌, ◌≢◌, ℕ, ◌+◌, ◌-◌, ◌<◌, ◌≤◌, ◌∷◌, ◌↔◌, [], false, length, map, min, option_map, slice_index_or, All, AllPairs, Contains, IfOk, IsNone, IsOk, IsTrue, OnErr, OnOk, ◌⊎◌};
 ghost use Rattle.std.specs.List.Sorted.{IsPermutation};
 ghost use Rattle.rail_types.specs.declared.paths.Claim.{Claim as claim_type};
 ghost use Rattle.rail_types.specs.FirstClash.{AreApart, first_clash as first_of};
@@ -92,6 +92,7 @@ impl Occupations {
         ensures claims { result.now ≡ (zone_at self.now zone).claims }
         ensures order { AreInOrder zone result.now }
         ensures among { All (Contains (held self.now)) result.now }
+        ensures all { All (λ one. one.0.zone ≡ zone → Contains result.now one) (held self.now) }
         ensures free { (claim : claim_type) → claim.zone ≡ zone
             → IsFree result.now claim ↔ IsFree (held self.now) claim }
     {
@@ -124,6 +125,8 @@ impl Occupations {
         requires free { IsFree (held self.old) claim }
         requires room { 0 < (zone_at self.old claim.zone).spare }
         ensures gained { IsPermutation ((claim, owner) ∷ held self.old) (held self.new) }
+        ensures here { IsPermutation ((claim, owner) ∷ (zone_at self.old claim.zone).claims)
+            (zone_at self.new claim.zone).claims }
         ensures zones { length self.new ≡ length self.old }
         ensures room { (zone_at self.new claim.zone).spare + 1
             ≡ (zone_at self.old claim.zone).spare }
@@ -134,25 +137,28 @@ impl Occupations {
         claims.insert(claim, owner);
     }
 
-    /// Takes out all claims of an owner, which are on the zones of these claims. It looks at those zones alone and
-    /// takes no memory.
-    pub fn take_out(&mut self, claims: &[Claim], owner: Owner)
+    /// Takes out all claims of an owner, which are on the zones of these claims, and counts them, up to the greatest
+    /// number of its kind. It looks at those zones alone and takes no memory.
+    pub fn take_out(&mut self, claims: &[Claim], owner: Owner) -> u32
         requires zones { All (λ claim. claim.zone < length self.old) claims.now }
         requires all { AreOnZonesOf owner (held self.old) claims.now }
         ensures claims { claims_by_zone self.new
             ≡ map (claims_of_others owner) (claims_by_zone self.old) }
         ensures held { held self.new ≡ claims_of_others owner (held self.old) }
         ensures zones { length self.new ≡ length self.old }
+        ensures count { result ≡ min (length (claims_of owner (held self.old))) u32.MAX }
         ensures each { (number : ℕ) → number < length self.old
             → IsWithout owner (zone_at self.old number) (zone_at self.new number) }
     {
+        let mut count = 0u32;
         for at in 0..claims.len() {
             // Claims of one zone mostly stand side by side, and one look at it is enough.
             if is_on_next_zone(claims, at) {
                 let zone = &mut self.zones[claims[at].zone as usize];
-                zone.remove(owner);
+                count = count.saturating_add(zone.remove(owner));
             }
         }
+        count
     }
 
     /// Takes out all claims of an owner and counts them, up to the greatest number of its kind. It looks at all zones:
@@ -202,8 +208,10 @@ impl Occupations {
 
 fn is_on_next_zone(claims: &[Claim], at: usize) -> bool
     requires { at < length claims.now }
-    ensures { (d : claim_type) → result ≡ false → (0 < at)
+    ensures same { (d : claim_type) → result ≡ false → (0 < at)
         × ((slice_index_or claims.now (at - 1) d).zone ≡ (slice_index_or claims.now at d).zone) }
+    ensures next { (d : claim_type) → IsTrue result → (at ≡ 0)
+        ⊎ ((slice_index_or claims.now (at - 1) d).zone ≢ (slice_index_or claims.now at d).zone) }
 {
     at == 0 || claims[at - 1].zone != claims[at].zone
 }

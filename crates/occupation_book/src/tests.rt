@@ -66,21 +66,21 @@ fn has_zones_of(claims: &[Claim], owner: &Owner, all: &[(Claim, Owner)]) -> bool
     true
 }
 
-// Whether the claims were taken out.
+// How many claims were taken out, None where the owner has others.
 fn take_out(
     alloc: Global,
     book: &mut Occupations,
     claims: &[Claim],
     owner: Owner,
-) -> Result<bool, NoMemory>
+) -> Result<Option<u32>, NoMemory>
     ensures { length book.new ≡ length book.old }
 {
     let all = book.claims(alloc)?;
     if !are_on_zones(claims, book.zones()) || !has_zones_of(claims, &owner, all.as_slice()) {
-        return Ok(false);
+        return Ok(None);
     }
-    book.take_out(claims, owner);
-    Ok(true)
+    let count = book.take_out(claims, owner);
+    Ok(Some(count))
 }
 
 // Expected values by hand.
@@ -140,8 +140,11 @@ fn taking_out_is_removing(rt: HostRuntime) -> Result<(), Fail> {
     }
     let own = [claim(0, 0, 5), claim(0, 9, 12), claim(2, 3, 7)];
     let mut other = book.copy(alloc)?;
-    assert!(rt; !take_out(alloc, &mut book, &own[..2], Owner::Entry(1))?);
-    assert!(rt; take_out(alloc, &mut book, &own, Owner::Entry(1))?);
+    assert_eq!(rt;
+        take_out(alloc, &mut book, &own[..2], Owner::Entry(1))?,
+        None
+    );
+    assert_eq!(rt; take_out(alloc, &mut book, &own, Owner::Entry(1))?, Some(3));
     assert_eq!(rt; other.remove(Owner::Entry(1)), 3);
     assert!(rt; book.claims(alloc)?.as_slice() == other.claims(alloc)?.as_slice());
     assert!(rt;

@@ -1,7 +1,7 @@
 use Rattle.std.proofs.Common.{◌≡◌, ◌<◌, length, sym, ap, subst, ◌∙◌, All, Contains}
 use Rattle.std.proofs.lemmas.List.Elements.{All-contains_itself}
 use Rattle.occupation_book.specs.Held.{AreInOrder, IsFree, held, zone_at}
-use Rattle.occupation_book.proofs.AllZones.{at_zone, free_by_zone, free_of_zone, all_of_zone}
+use Rattle.occupation_book.proofs.AllZones.{at_zone, free_by_zone, free_of_zone, all_of_zone, all_on_zone}
 use Rattle.occupation_book.proofs.books.Occupations.of_zone.Goals as goal
 
 inside : (c : goal.After-as_slice) → c.args.zone < length c.self.inside.zones.items
@@ -27,3 +27,8 @@ pub returns-clause-among : goal.returns-clause-among
 returns-clause-among c =
     subst (λ book. All (Contains (held book)) c.as_slice.result.now) c.self.view_is
     (subst (All (Contains (held c.self.inside.zones.items))) (sym (here c)) (all_of_zone (Contains (held c.self.inside.zones.items)) c.self.inside.zones.items c.args.zone (inside c) (All-contains_itself (held c.self.inside.zones.items))))
+
+pub returns-clause-all : goal.returns-clause-all
+returns-clause-all c =
+    subst (λ book. All (λ one. one.0.zone ≡ c.args.zone → Contains c.as_slice.result.now one) (held book)) c.self.view_is
+    (subst (λ claims. All (λ one. one.0.zone ≡ c.args.zone → Contains claims one) (held c.self.inside.zones.items)) (sym (here c)) (all_on_zone c.self.inside.zones.items c.self.invariant c.args.zone (inside c)))
