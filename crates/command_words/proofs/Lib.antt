@@ -1,0 +1,3 @@
+pub mod Canon
+pub mod Agreeing
+pub mod Commands
