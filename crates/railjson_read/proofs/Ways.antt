@@ -10,9 +10,9 @@ use Rattle.std.specs.declared.cmp.Ordering.{Ordering}
 use Rattle.std.specs.declared.cmp.Ordering.TheVariants.{Less, Equal, Greater}
 use Rattle.std.proofs.lemmas.List.Elements.{All-nil, All-cons, All-head, All-tail, All-map}
 use Rattle.std.proofs.lemmas.List.Kept.{AllPairs-cons}
-use Rattle.railjson_read.specs.declared.switches.Group.{Group}
-use Rattle.railjson_read.specs.declared.switches.Way.{Way}
-use Rattle.railjson_read.specs.Infras.{AreWays}
+use Rattle.infra_types.specs.declared.switches.Group.{Group}
+use Rattle.infra_types.specs.declared.switches.Way.{Way}
+use Rattle.infra_types.specs.Infras.{AreWays}
 use Rattle.std.proofs.Common.{ap, ◌∙◌, sym, Result, Ok, Err, String, Global, string_bytes}
 use Rattle.serde_json.specs.View.{view, members_view}
 use Rattle.serde_json.specs.declared.value.Value.{Value}

@@ -1,4 +1,3 @@
-pub mod Infras
 pub mod Fields
 pub mod Words
 pub mod Objects

@@ -1,29 +1,21 @@
 -- Objects of the lists of tracks, switches, detectors and buffer stops.
+use Rattle.infra_types.specs.Ids.{id_of_placed, id_of_switch, id_of_track}
 use Rattle.std.specs.Prelude.{ℕ, List, [], ◌∷◌, ◌++◌, length, map, codes, Result, Ok}
 use Rattle.serde_json.specs.Data.{Data}
 use Rattle.rail_types.specs.declared.limits.TheConstants.{MAX_TRACK_LENGTH_M}
 use Rattle.json_fields.specs.Places.{FilePlace, whole_file, element, part_of}
 use Rattle.json_fields.specs.Reading.{◌>>=◌, or_fault}
-use Rattle.railjson_read.specs.declared.ends.TrackEnd.{TrackEnd}
-use Rattle.railjson_read.specs.declared.tracks.Track.{Track}
-use Rattle.railjson_read.specs.declared.tracks.Placed.{Placed}
-use Rattle.railjson_read.specs.declared.switches.Switch.{Switch}
-use Rattle.railjson_read.specs.declared.switches.SwitchKind.{SwitchKind}
+use Rattle.infra_types.specs.declared.ends.TrackEnd.{TrackEnd}
+use Rattle.infra_types.specs.declared.tracks.Track.{Track}
+use Rattle.infra_types.specs.declared.tracks.Placed.{Placed}
+use Rattle.infra_types.specs.declared.switches.Switch.{Switch}
+use Rattle.infra_types.specs.declared.switches.SwitchKind.{SwitchKind}
 use Rattle.railjson_read.specs.declared.words.Port.{Port}
 use Rattle.railjson_read.specs.declared.faults.InfraFault.{InfraFault}
 use Rattle.railjson_read.specs.declared.faults.InfraFault.TheVariants.{SwitchType}
 use Rattle.railjson_read.specs.declared.faults.What.TheVariants as what
 use Rattle.railjson_read.specs.Fields.{object_at, found_at, text_at, new_id_at, number_at, metres_at, within, list_at, read_each}
 use Rattle.railjson_read.specs.Words.{kind_named, end_at, ports_of, port_name, port_within}
-
-abbrev pub id_of_track : Track → List ℕ
-id_of_track track = track.id
-
-abbrev pub id_of_switch : Switch → List ℕ
-id_of_switch switch = switch.id
-
-abbrev pub id_of_placed : Placed → List ℕ
-id_of_placed placed = placed.id
 
 -- ---- tracks, detectors, buffer stops
 

@@ -1,17 +1,14 @@
 -- Operational points.
+use Rattle.infra_types.specs.Ids.{id_of_point, id_of_track}
 use Rattle.std.specs.Prelude.{ℕ, List, [], length, map, codes, false, Result, Ok}
 use Rattle.serde_json.specs.Data.{Data}
 use Rattle.json_fields.specs.Places.{FilePlace, whole_file, element, item_of}
 use Rattle.json_fields.specs.Reading.{◌>>=◌}
-use Rattle.railjson_read.specs.declared.tracks.Track.{Track}
-use Rattle.railjson_read.specs.declared.tracks.Part.{Part}
-use Rattle.railjson_read.specs.declared.tracks.OperationalPoint.{OperationalPoint}
+use Rattle.infra_types.specs.declared.tracks.Track.{Track}
+use Rattle.infra_types.specs.declared.tracks.Part.{Part}
+use Rattle.infra_types.specs.declared.tracks.OperationalPoint.{OperationalPoint}
 use Rattle.railjson_read.specs.declared.faults.InfraFault.{InfraFault}
 use Rattle.railjson_read.specs.Fields.{object_at, new_id_at, number_at, rounded_at, list_at, read_items, read_each}
-use Rattle.railjson_read.specs.Objects.{id_of_track}
-
-abbrev pub id_of_point : OperationalPoint → List ℕ
-id_of_point point = point.id
 
 abbrev pub part_in : FilePlace → List (List ℕ) → Data → Result Part InfraFault
 part_in place tracks d = do

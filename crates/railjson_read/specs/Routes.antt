@@ -1,4 +1,5 @@
 -- Routes.
+use Rattle.infra_types.specs.Ids.{id_of_placed, id_of_route, id_of_switch}
 use Rattle.std.specs.Prelude.{ℕ, List, [], ◌∷◌, ◌++◌, map, length, codes, if◌then◌else◌, Option, Some, None, Result, Ok, Err}
 use Rattle.std.specs.BTreeMap.{insert_entry}
 use Rattle.std.specs.Ordering.{nat_cmp}
@@ -8,21 +9,17 @@ use Rattle.serde_json.specs.Find.{get, as_object}
 use Rattle.json_fields.specs.Escapes.{escaped}
 use Rattle.json_fields.specs.Places.{FilePlace, whole_file, element, part_of, item_of, spot_of}
 use Rattle.json_fields.specs.Reading.{◌>>=◌, or_fault}
-use Rattle.railjson_read.specs.declared.routes.Route.{Route}
-use Rattle.railjson_read.specs.declared.routes.RoutePoint.{RoutePoint}
-use Rattle.railjson_read.specs.declared.routes.RoutePoint.TheVariants.{Detector, BufferStop}
-use Rattle.railjson_read.specs.declared.switches.Group.{Group}
-use Rattle.railjson_read.specs.declared.switches.Switch.{Switch}
-use Rattle.railjson_read.specs.declared.switches.Way.{Way}
-use Rattle.railjson_read.specs.declared.tracks.Placed.{Placed}
+use Rattle.infra_types.specs.declared.routes.Route.{Route}
+use Rattle.infra_types.specs.declared.routes.RoutePoint.{RoutePoint}
+use Rattle.infra_types.specs.declared.routes.RoutePoint.TheVariants.{Detector, BufferStop}
+use Rattle.infra_types.specs.declared.switches.Group.{Group}
+use Rattle.infra_types.specs.declared.switches.Switch.{Switch}
+use Rattle.infra_types.specs.declared.switches.Way.{Way}
+use Rattle.infra_types.specs.declared.tracks.Placed.{Placed}
 use Rattle.railjson_read.specs.declared.faults.InfraFault.{InfraFault}
 use Rattle.railjson_read.specs.declared.faults.InfraFault.TheVariants.{Kind}
 use Rattle.railjson_read.specs.Fields.{object_at, found_at, text_of, text_at, limited_id, new_id_at, known_number, number_at, list_at, read_items, read_each}
-use Rattle.railjson_read.specs.Objects.{id_of_switch, id_of_placed}
 use Rattle.railjson_read.specs.Words.{direction_at, group_named}
-
-abbrev pub id_of_route : Route → List ℕ
-id_of_route route = route.id
 
 -- ---- entry and exit
 

@@ -1,4 +1,5 @@
 -- Signals.
+use Rattle.infra_types.specs.Ids.{id_of_signal, id_of_track}
 use Rattle.std.specs.Prelude.{ℕ, List, [], length, map, codes, Bool, false, true, if◌then◌else◌, Option, Some, None, option_and_then, Result, Ok}
 use Rattle.std.specs.List.{list_any}
 use Rattle.std.specs.Str.{bytes_eq}
@@ -7,17 +8,13 @@ use Rattle.serde_json.specs.Find.{get, as_array, as_str}
 use Rattle.rail_types.specs.declared.limits.TheConstants.{MAX_SIGHT_M}
 use Rattle.json_fields.specs.Places.{FilePlace, whole_file, element}
 use Rattle.json_fields.specs.Reading.{◌>>=◌}
-use Rattle.railjson_read.specs.declared.tracks.Track.{Track}
-use Rattle.railjson_read.specs.declared.signals.Bal.{Bal}
-use Rattle.railjson_read.specs.declared.signals.Signal.{Signal}
+use Rattle.infra_types.specs.declared.tracks.Track.{Track}
+use Rattle.infra_types.specs.declared.signals.Bal.{Bal}
+use Rattle.infra_types.specs.declared.signals.Signal.{Signal}
 use Rattle.railjson_read.specs.declared.faults.InfraFault.{InfraFault}
 use Rattle.railjson_read.specs.declared.faults.What.TheVariants as what
 use Rattle.railjson_read.specs.Fields.{object_at, new_id_at, number_at, metres_at, rounded_at, within, list_of, list_at, read_each}
-use Rattle.railjson_read.specs.Objects.{id_of_track}
 use Rattle.railjson_read.specs.Words.{direction_at}
-
-abbrev pub id_of_signal : Signal → List ℕ
-id_of_signal signal = signal.id
 
 abbrev pub is_text : List ℕ → Option (List ℕ) → Bool
 is_text word None = false

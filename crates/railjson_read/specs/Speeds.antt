@@ -1,4 +1,5 @@
 -- Speed sections.
+use Rattle.infra_types.specs.Ids.{id_of_speed, id_of_track}
 use Rattle.std.specs.Prelude.{ℕ, pos, min, List, [], map, length, codes, Bool, true, false, if◌then◌else◌, nat_eq, is_some, slice_index_or, Option, Some, None, Result, Ok, Err}
 use Rattle.serde_json.specs.Data.{Data}
 use Rattle.serde_json.specs.Find.{get, as_null}
@@ -6,19 +7,15 @@ use Rattle.rail_types.specs.declared.limits.TheConstants.{MAX_SPEED_MM_S}
 use Rattle.json_fields.specs.Numbers.{scaled_value}
 use Rattle.json_fields.specs.Places.{FilePlace, whole_file, element, item_of, spot_of}
 use Rattle.json_fields.specs.Reading.{◌>>=◌}
-use Rattle.railjson_read.specs.declared.tracks.Track.{Track}
-use Rattle.railjson_read.specs.declared.tracks.Range.{Range}
-use Rattle.railjson_read.specs.declared.tracks.SpeedSection.{SpeedSection}
+use Rattle.infra_types.specs.declared.tracks.Track.{Track}
+use Rattle.infra_types.specs.declared.tracks.Range.{Range}
+use Rattle.infra_types.specs.declared.tracks.SpeedSection.{SpeedSection}
 use Rattle.railjson_read.specs.declared.faults.InfraFault.{InfraFault}
 use Rattle.railjson_read.specs.declared.faults.InfraFault.TheVariants.{Limit}
 use Rattle.railjson_read.specs.declared.faults.What.TheVariants as what
 use Rattle.railjson_read.specs.Fields.{object_at, new_id_at, number_at, number_read, natural, rounded_at, list_at, read_items, read_each}
-use Rattle.railjson_read.specs.Infras.{lengths_of}
-use Rattle.railjson_read.specs.Objects.{id_of_track}
+use Rattle.infra_types.specs.Infras.{lengths_of}
 use Rattle.railjson_read.specs.Words.{applies_at}
-
-abbrev pub id_of_speed : SpeedSection → List ℕ
-id_of_speed section = section.id
 
 -- a limit in millimetres a second: 0 is none, and a greater one counts as the greatest speed
 abbrev pub counted : ℕ → Result ℕ InfraFault

@@ -4,16 +4,16 @@ use Rattle.std.specs.Str.{bytes_eq}
 use Rattle.serde_json.specs.Data.{Data}
 use Rattle.json_fields.specs.Places.{FilePlace, spot_of}
 use Rattle.json_fields.specs.Reading.{◌>>=◌, or_fault}
-use Rattle.railjson_read.specs.declared.ends.Direction.{Direction}
-use Rattle.railjson_read.specs.declared.ends.Direction.TheVariants as directions
-use Rattle.railjson_read.specs.declared.ends.End.{End}
-use Rattle.railjson_read.specs.declared.ends.End.TheVariants as ends
-use Rattle.railjson_read.specs.declared.ends.Applies.{Applies}
-use Rattle.railjson_read.specs.declared.ends.Applies.TheVariants as applying
-use Rattle.railjson_read.specs.declared.switches.SwitchKind.{SwitchKind}
-use Rattle.railjson_read.specs.declared.switches.SwitchKind.TheVariants.{Point, Link, Crossing, DoubleSlip}
-use Rattle.railjson_read.specs.declared.switches.Group.{Group}
-use Rattle.railjson_read.specs.declared.switches.Group.TheVariants.{AB1, AB2, A1B1, A1B2, A2B1, A2B2, Other}
+use Rattle.infra_types.specs.declared.ends.Direction.{Direction}
+use Rattle.infra_types.specs.declared.ends.Direction.TheVariants as directions
+use Rattle.infra_types.specs.declared.ends.End.{End}
+use Rattle.infra_types.specs.declared.ends.End.TheVariants as ends
+use Rattle.infra_types.specs.declared.ends.Applies.{Applies}
+use Rattle.infra_types.specs.declared.ends.Applies.TheVariants as applying
+use Rattle.infra_types.specs.declared.switches.SwitchKind.{SwitchKind}
+use Rattle.infra_types.specs.declared.switches.SwitchKind.TheVariants.{Point, Link, Crossing, DoubleSlip}
+use Rattle.infra_types.specs.declared.switches.Group.{Group}
+use Rattle.infra_types.specs.declared.switches.Group.TheVariants.{AB1, AB2, A1B1, A1B2, A2B1, A2B2, Other}
 use Rattle.railjson_read.specs.declared.words.Port.{Port}
 use Rattle.railjson_read.specs.declared.words.Port.TheVariants as port
 use Rattle.railjson_read.specs.declared.faults.InfraFault.{InfraFault}

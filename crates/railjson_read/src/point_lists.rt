@@ -1,12 +1,12 @@
 //! Operational points of a file.
 
+ghost use Rattle.infra_types.specs.Ids.{id_of_point, id_of_track};
 ghost use Rattle.std.specs.Prelude.{◌≡◌, ◌<◌, ◌≤◌, [], codes, length, map, All, IfOk, OnOk};
 ghost use Rattle.serde_json.specs.View.{view};
 ghost use Rattle.rail_types.specs.declared.limits.TheConstants.{MAX_OBJECTS};
 ghost use Rattle.railjson_read.specs.Fields.{Gives, GivesNext, read_each, read_items};
-ghost use Rattle.railjson_read.specs.Infras.{IsPoint};
-ghost use Rattle.railjson_read.specs.Objects.{id_of_track};
-ghost use Rattle.railjson_read.specs.Points.{points_in, id_of_point, point_at, point_in, parts_at, part_at, part_in};
+ghost use Rattle.infra_types.specs.Infras.{IsPoint};
+ghost use Rattle.railjson_read.specs.Points.{points_in, point_at, point_in, parts_at, part_at, part_in};
 
 use crate::faults::InfraFault;
 use crate::fields::{list, new_id, number, object, rounded};
@@ -16,12 +16,6 @@ use json_fields::Place;
 use rail_types::{List, Name};
 use serde_json::Value;
 use std::alloc::Global;
-
-impl HasId for OperationalPoint {
-    ghost use Rattle.railjson_read.specs.Points.{id_of_point};
-
-    ghost id = { id_of_point };
-}
 
 /// The operational points of a file.
 pub(crate) fn points_of<'a>(

@@ -1,12 +1,12 @@
 //! Routes of a file.
 
+ghost use Rattle.infra_types.specs.Ids.{id_of_placed, id_of_route, id_of_switch};
 ghost use Rattle.std.specs.Prelude.{◌≡◌, ◌<◌, ◌≤◌, [], codes, length, map, All, IfOk, OnOk};
 ghost use Rattle.serde_json.specs.View.{view};
 ghost use Rattle.rail_types.specs.declared.limits.TheConstants.{MAX_OBJECTS};
 ghost use Rattle.railjson_read.specs.Fields.{Gives, GivesNext, read_each, read_items};
-ghost use Rattle.railjson_read.specs.Infras.{IsRoute, IsRoutePoint};
-ghost use Rattle.railjson_read.specs.Objects.{id_of_placed, id_of_switch};
-ghost use Rattle.railjson_read.specs.Routes.{routes_in, id_of_route, route_at, route_in, route_of, point_at, point_in, releases_at, release_at, release_in};
+ghost use Rattle.infra_types.specs.Infras.{IsRoute, IsRoutePoint};
+ghost use Rattle.railjson_read.specs.Routes.{routes_in, route_at, route_in, route_of, point_at, point_in, releases_at, release_at, release_in};
 
 use crate::faults::InfraFault;
 use crate::fields::{found, known, limited, list, new_id, number, object, text, text_in};
@@ -18,12 +18,6 @@ use json_fields::Place;
 use rail_types::{List, Name};
 use serde_json::Value;
 use std::alloc::Global;
-
-impl HasId for Route {
-    ghost use Rattle.railjson_read.specs.Routes.{id_of_route};
-
-    ghost id = { id_of_route };
-}
 
 /// The routes of a file.
 pub(crate) fn routes_of<'a>(

@@ -1,13 +1,13 @@
 //! Signals of a file.
 
+ghost use Rattle.infra_types.specs.Ids.{id_of_signal, id_of_track};
 ghost use Rattle.std.specs.Prelude.{◌≡◌, ◌<◌, ◌≤◌, [], codes, length, map, All, IfOk, IfSome, OnOk};
 ghost use Rattle.std.specs.List.{list_any};
 ghost use Rattle.serde_json.specs.View.{view};
 ghost use Rattle.rail_types.specs.declared.limits.TheConstants.{MAX_OBJECTS};
 ghost use Rattle.railjson_read.specs.Fields.{Gives, GivesNext, read_each};
-ghost use Rattle.railjson_read.specs.Infras.{IsSignal, IsBal};
-ghost use Rattle.railjson_read.specs.Objects.{id_of_track};
-ghost use Rattle.railjson_read.specs.Signals.{signals_in, id_of_signal, signal_at, signal_in, bal_at, bal_in, sight_at, is_block_signal, any_bal, is_bal};
+ghost use Rattle.infra_types.specs.Infras.{IsSignal, IsBal};
+ghost use Rattle.railjson_read.specs.Signals.{signals_in, signal_at, signal_in, bal_at, bal_in, sight_at, is_block_signal, any_bal, is_bal};
 
 use crate::faults::{InfraFault, What};
 use crate::fields::{limit, list, metres, new_id, number, object, rounded};
@@ -18,12 +18,6 @@ use json_fields::Place;
 use rail_types::{MAX_SIGHT_M, Name};
 use serde_json::Value;
 use std::alloc::Global;
-
-impl HasId for Signal {
-    ghost use Rattle.railjson_read.specs.Signals.{id_of_signal};
-
-    ghost id = { id_of_signal };
-}
 
 /// The signals of a file.
 pub(crate) fn signals_of<'a>(

@@ -1,13 +1,13 @@
 //! Speed sections of a file.
 
+ghost use Rattle.infra_types.specs.Ids.{id_of_speed};
 ghost use Rattle.std.specs.Prelude.{◌≡◌, ◌<◌, ◌≤◌, ◌^◌, [], codes, length, map, All, IfOk, IfSome, OnOk, min, slice_index_or};
 ghost use Rattle.serde_json.specs.View.{view};
 ghost use Rattle.rail_types.specs.declared.limits.TheConstants.{MAX_OBJECTS, MAX_SPEED_MM_S};
 ghost use Rattle.json_fields.specs.Places.{spot_of};
 ghost use Rattle.railjson_read.specs.Fields.{Gives, GivesNext, read_each, read_items};
-ghost use Rattle.railjson_read.specs.Infras.{IsSpeed, IsRange, lengths_of};
-ghost use Rattle.railjson_read.specs.Objects.{id_of_track};
-ghost use Rattle.railjson_read.specs.Speeds.{speeds_in, id_of_speed, speed_at, speed_in, limit_at, limit_found, mm_s_at, counted, ranges_at, range_at, range_in, clipped};
+ghost use Rattle.infra_types.specs.Infras.{IsSpeed, IsRange, lengths_of};
+ghost use Rattle.railjson_read.specs.Speeds.{speeds_in, speed_at, speed_in, limit_at, limit_found, mm_s_at, counted, ranges_at, range_at, range_in, clipped};
 
 use crate::faults::{InfraFault, What};
 use crate::fields::{list, new_id, not_negative, number, object, read, rounded};
@@ -18,12 +18,6 @@ use json_fields::{Place, scaled_in};
 use rail_types::{List, MAX_SPEED_MM_S, Name};
 use serde_json::Value;
 use std::alloc::Global;
-
-impl HasId for SpeedSection {
-    ghost use Rattle.railjson_read.specs.Speeds.{id_of_speed};
-
-    ghost id = { id_of_speed };
-}
 
 /// The speed sections of a file.
 pub(crate) fn speeds_of<'a>(

@@ -1,11 +1,12 @@
 //! Switches of a file.
 
+ghost use Rattle.infra_types.specs.Ids.{id_of_switch, id_of_track};
 ghost use Rattle.std.specs.Prelude.{◌≡◌, ◌<◌, ◌≤◌, [], codes, length, map, All, IfOk, OnOk};
 ghost use Rattle.serde_json.specs.View.{view};
 ghost use Rattle.rail_types.specs.declared.limits.TheConstants.{MAX_OBJECTS};
 ghost use Rattle.railjson_read.specs.Fields.{Gives, GivesNext, read_each};
-ghost use Rattle.railjson_read.specs.Infras.{IsSwitch, port_count};
-ghost use Rattle.railjson_read.specs.Objects.{switches_in, id_of_track, id_of_switch, switch_at, switch_in, kind_at, ports_at, read_ports, port_at, port_in};
+ghost use Rattle.infra_types.specs.Infras.{IsSwitch, port_count};
+ghost use Rattle.railjson_read.specs.Objects.{switches_in, switch_at, switch_in, kind_at, ports_at, read_ports, port_at, port_in};
 ghost use Rattle.railjson_read.specs.Words.{ports_of};
 
 use crate::faults::InfraFault;
@@ -17,12 +18,6 @@ use json_fields::Place;
 use rail_types::{List, Name};
 use serde_json::Value;
 use std::alloc::Global;
-
-impl HasId for Switch {
-    ghost use Rattle.railjson_read.specs.Objects.{id_of_switch};
-
-    ghost id = { id_of_switch };
-}
 
 /// The switches of a file.
 pub(crate) fn switches_of<'a>(

@@ -1,11 +1,12 @@
 //! Tracks, detectors and buffer stops of a file.
 
+ghost use Rattle.infra_types.specs.Ids.{id_of_placed, id_of_track};
 ghost use Rattle.std.specs.Prelude.{◌≡◌, ◌<◌, ◌≤◌, [], codes, length, map, All, IfOk, OnOk};
 ghost use Rattle.serde_json.specs.View.{view};
 ghost use Rattle.rail_types.specs.declared.limits.TheConstants.{MAX_OBJECTS};
 ghost use Rattle.railjson_read.specs.Fields.{Gives, GivesNext, read_each};
-ghost use Rattle.railjson_read.specs.Infras.{IsTrack, IsPlaced};
-ghost use Rattle.railjson_read.specs.Objects.{all_placed_in, tracks_in, id_of_track, id_of_placed, track_at, track_in, placed_at, placed_in, length_at};
+ghost use Rattle.infra_types.specs.Infras.{IsTrack, IsPlaced};
+ghost use Rattle.railjson_read.specs.Objects.{all_placed_in, tracks_in, track_at, track_in, placed_at, placed_in, length_at};
 
 use crate::faults::{InfraFault, What};
 use crate::fields::{limit, list, metres, new_id, number, object};
@@ -15,18 +16,6 @@ use json_fields::Place;
 use rail_types::{MAX_TRACK_LENGTH_M, Name};
 use serde_json::Value;
 use std::alloc::Global;
-
-impl HasId for Track {
-    ghost use Rattle.railjson_read.specs.Objects.{id_of_track};
-
-    ghost id = { id_of_track };
-}
-
-impl HasId for Placed {
-    ghost use Rattle.railjson_read.specs.Objects.{id_of_placed};
-
-    ghost id = { id_of_placed };
-}
 
 /// The tracks of a file.
 pub(crate) fn tracks_of<'a>(alloc: Global, file: &'a Value) -> Result<Listed<'a, Track>, InfraFault>

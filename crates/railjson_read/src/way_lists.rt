@@ -1,5 +1,6 @@
 //! The ways of a route across its switches.
 
+ghost use Rattle.infra_types.specs.Ids.{id_of_switch};
 ghost use Rattle.std.specs.Prelude.{◌≡◌, ◌<◌, ◌++◌, ◌∷◌, [], length, map, All, IfOk, OnOk, string_bytes};
 ghost use Rattle.std.specs.BTreeMap.{IsOrdered, insert_entry};
 ghost use Rattle.std.specs.Ordering.{nat_cmp};
@@ -7,8 +8,7 @@ ghost use Rattle.serde_json.specs.Data.{Members};
 ghost use Rattle.serde_json.specs.View.{view, members_view};
 ghost use Rattle.json_fields.specs.Places.{spot_of};
 ghost use Rattle.railjson_read.specs.Fields.{Gives};
-ghost use Rattle.railjson_read.specs.Infras.{AreWays};
-ghost use Rattle.railjson_read.specs.Objects.{id_of_switch};
+ghost use Rattle.infra_types.specs.Infras.{AreWays};
 ghost use Rattle.railjson_read.specs.Routes.{ways_at, ways_found, read_ways, way_in, way_field, ways_of};
 
 use crate::faults::InfraFault;

@@ -1,15 +1,15 @@
 -- What is wrong with the switches and positions of an infrastructure.
 use Rattle.std.specs.Prelude.{◌≡◌, ℕ, ◌<◌, ◌⊎◌, Bool, nat_lt, List, ◌++◌, map, find, Option, Some, None, option_map}
 use Rattle.std.specs.List.{flat_map, filter_map}
-use Rattle.railjson_read.specs.declared.ends.TrackEnd.{TrackEnd}
-use Rattle.railjson_read.specs.declared.infras.Infra.{Infra}
-use Rattle.railjson_read.specs.declared.signals.Bal.{Bal}
-use Rattle.railjson_read.specs.declared.signals.Signal.{Signal}
-use Rattle.railjson_read.specs.declared.switches.Switch.{Switch}
-use Rattle.railjson_read.specs.declared.tracks.OperationalPoint.{OperationalPoint}
-use Rattle.railjson_read.specs.declared.tracks.Part.{Part}
-use Rattle.railjson_read.specs.declared.tracks.Placed.{Placed}
-use Rattle.railjson_read.specs.declared.tracks.Track.{Track}
+use Rattle.infra_types.specs.declared.ends.TrackEnd.{TrackEnd}
+use Rattle.infra_types.specs.declared.infras.Infra.{Infra}
+use Rattle.infra_types.specs.declared.signals.Bal.{Bal}
+use Rattle.infra_types.specs.declared.signals.Signal.{Signal}
+use Rattle.infra_types.specs.declared.switches.Switch.{Switch}
+use Rattle.infra_types.specs.declared.tracks.OperationalPoint.{OperationalPoint}
+use Rattle.infra_types.specs.declared.tracks.Part.{Part}
+use Rattle.infra_types.specs.declared.tracks.Placed.{Placed}
+use Rattle.infra_types.specs.declared.tracks.Track.{Track}
 use Rattle.track_graph.specs.Pieces.{length_of}
 use Rattle.track_graph.specs.Ways.{HasPort}
 

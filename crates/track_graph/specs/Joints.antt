@@ -1,10 +1,10 @@
 -- *Inside*: for each end of a track the port that is there.
 use Rattle.std.specs.Prelude.{◌≡◌, ℕ, ◌+◌, ◌*◌, ◌<◌, List, length, slice_index_or, slice_set, Bool, true, false, Option, Some, None}
 use Rattle.std.specs.List.{All}
-use Rattle.railjson_read.specs.declared.ends.End.{End}
-use Rattle.railjson_read.specs.declared.ends.End.TheVariants as ends
-use Rattle.railjson_read.specs.declared.ends.TrackEnd.{TrackEnd}
-use Rattle.railjson_read.specs.declared.switches.Switch.{Switch}
+use Rattle.infra_types.specs.declared.ends.End.{End}
+use Rattle.infra_types.specs.declared.ends.End.TheVariants as ends
+use Rattle.infra_types.specs.declared.ends.TrackEnd.{TrackEnd}
+use Rattle.infra_types.specs.declared.switches.Switch.{Switch}
 use Rattle.track_graph.specs.declared.joints.Joint.{Joint}
 use Rattle.track_graph.specs.declared.ways.Junction.{Junction}
 use Rattle.track_graph.specs.Faults.{IsEarlier, IsFirstTwice}

@@ -1,9 +1,9 @@
 -- The layout of an infrastructure: its pieces and their zones.
 use Rattle.std.specs.Prelude.{◌≡◌, ℕ, ◌+◌, ◌↔◌, List, length, Option, Some, None, slice_get, slice_index, option_map}
 use Rattle.std.specs.List.{sum_by}
-use Rattle.railjson_read.specs.declared.ends.TrackEnd.{TrackEnd}
-use Rattle.railjson_read.specs.declared.infras.Infra.{Infra}
-use Rattle.railjson_read.specs.declared.switches.Group.{Group}
+use Rattle.infra_types.specs.declared.ends.TrackEnd.{TrackEnd}
+use Rattle.infra_types.specs.declared.infras.Infra.{Infra}
+use Rattle.infra_types.specs.declared.switches.Group.{Group}
 use Rattle.track_graph.specs.declared.faults.GraphFault.{GraphFault}
 use Rattle.track_graph.specs.declared.faults.GraphFault.TheVariants.{EndTwice, OffTrack, Memory}
 use Rattle.track_graph.specs.declared.pieces.Piece.{Piece}

@@ -1,10 +1,10 @@
 -- *Inside*: joins, and for each piece a row of those that are joined to it.
 use Rattle.std.specs.Prelude.{ℕ, ◌+◌, ◌-◌, ◌<◌, ◌⊎◌, ◌↔◌, List, [], ◌∷◌, ◌++◌, length, map, slice_index, slice_index_or, slice_set}
 use Rattle.std.specs.List.{All, Contains, flat_map}
-use Rattle.railjson_read.specs.declared.ends.End.{End}
-use Rattle.railjson_read.specs.declared.ends.End.TheVariants as ends
-use Rattle.railjson_read.specs.declared.ends.TrackEnd.{TrackEnd}
-use Rattle.railjson_read.specs.declared.switches.Switch.{Switch}
+use Rattle.infra_types.specs.declared.ends.End.{End}
+use Rattle.infra_types.specs.declared.ends.End.TheVariants as ends
+use Rattle.infra_types.specs.declared.ends.TrackEnd.{TrackEnd}
+use Rattle.infra_types.specs.declared.switches.Switch.{Switch}
 use Rattle.track_graph.specs.declared.neighbours.Join.{Join}
 
 -- A join of the list names these two, in either order.

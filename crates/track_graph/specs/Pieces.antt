@@ -2,10 +2,10 @@
 use Rattle.std.specs.Prelude.{◌≡◌, ℕ, ◌+◌, ◌-◌, ◌<◌, ◌≤◌, ◌↔◌, List, [], ◌∷◌, length, take, slice_get, slice_index_or, Option, Some, None}
 use Rattle.std.specs.List.{Contains, sum_by}
 use Rattle.std.specs.List.Sorted.{IsStrictlyIncreasing}
-use Rattle.railjson_read.specs.declared.tracks.Track.{Track}
-use Rattle.railjson_read.specs.declared.ends.End.{End}
-use Rattle.railjson_read.specs.declared.ends.End.TheVariants as ends
-use Rattle.railjson_read.specs.declared.ends.TrackEnd.{TrackEnd}
+use Rattle.infra_types.specs.declared.tracks.Track.{Track}
+use Rattle.infra_types.specs.declared.ends.End.{End}
+use Rattle.infra_types.specs.declared.ends.End.TheVariants as ends
+use Rattle.infra_types.specs.declared.ends.TrackEnd.{TrackEnd}
 use Rattle.track_graph.specs.declared.pieces.Piece.{Piece}
 use Rattle.track_graph.specs.declared.stands.Stand.{Stand}
 use Rattle.track_graph.specs.Stands.{stands_of}

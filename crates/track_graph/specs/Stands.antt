@@ -1,7 +1,7 @@
 -- The detectors and the buffer stops along each track.
 use Rattle.std.specs.Prelude.{◌≡◌, ℕ, ◌<◌, ◌⊎◌, ◌↔◌, List, [], length, slice_get, slice_index_or, Some}
 use Rattle.std.specs.List.{AllPairs, Contains, sum_by}
-use Rattle.railjson_read.specs.declared.tracks.Placed.{Placed}
+use Rattle.infra_types.specs.declared.tracks.Placed.{Placed}
 use Rattle.track_graph.specs.declared.stands.Stand.{Stand}
 
 -- Of the detectors, or of the buffer stops, that of this number is placed so.

@@ -1,11 +1,11 @@
 -- Where the ways across a switch lead.
 use Rattle.std.specs.Prelude.{◌≡◌, ℕ, nat_eq, List, [], ◌∷◌, slice_get, Option, Some, None, if◌then◌else◌}
-use Rattle.railjson_read.specs.declared.ends.TrackEnd.{TrackEnd}
-use Rattle.railjson_read.specs.declared.switches.Group.{Group}
-use Rattle.railjson_read.specs.declared.switches.Group.TheVariants.{AB1, AB2, A1B1, A1B2, A2B1, A2B2, Other}
-use Rattle.railjson_read.specs.declared.switches.Switch.{Switch}
-use Rattle.railjson_read.specs.declared.switches.SwitchKind.{SwitchKind}
-use Rattle.railjson_read.specs.declared.switches.SwitchKind.TheVariants.{Point, Link, Crossing, DoubleSlip}
+use Rattle.infra_types.specs.declared.ends.TrackEnd.{TrackEnd}
+use Rattle.infra_types.specs.declared.switches.Group.{Group}
+use Rattle.infra_types.specs.declared.switches.Group.TheVariants.{AB1, AB2, A1B1, A1B2, A2B1, A2B2, Other}
+use Rattle.infra_types.specs.declared.switches.Switch.{Switch}
+use Rattle.infra_types.specs.declared.switches.SwitchKind.{SwitchKind}
+use Rattle.infra_types.specs.declared.switches.SwitchKind.TheVariants.{Point, Link, Crossing, DoubleSlip}
 
 -- the ways of a point switch with the ports A, B1 and B2
 abbrev pub point_ways : Group → List (ℕ × ℕ)

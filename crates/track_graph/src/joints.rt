@@ -4,7 +4,7 @@ ghost use Rattle.std.specs.Prelude.{◌≡◌, ◌+◌, ◌*◌, ◌<◌, ◌^�
 ghost use Rattle.std.specs.List.{All};
 ghost use Rattle.track_graph.specs.Joints.{AreHeadings, AreJoints, Named, Took, heading_of, joint_at};
 
-use railjson_read::{End, Switch, TrackEnd};
+use infra_types::{End, Switch, TrackEnd};
 
 /// A port, by the number of its switch and its place in the order of the switch's ports.
 #[derive(Clone, Copy, Debug, PartialEq, Eq)]

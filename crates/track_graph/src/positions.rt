@@ -5,8 +5,8 @@ ghost use Rattle.std.specs.List.{list_any};
 ghost use Rattle.track_graph.specs.Faults.{first_off, is_part_off, off_among, placed_at, points_at, signals_at};
 ghost use Rattle.track_graph.specs.Pieces.{length_of};
 
+use infra_types::{Infra, OperationalPoint, Part, Placed, Signal, Track};
 use rail_types::Name;
-use railjson_read::{Infra, OperationalPoint, Part, Placed, Signal, Track};
 
 /// The name of the first position beyond its track.
 pub(crate) fn first_off(infra: &Infra) -> Option<&Name>

@@ -1,8 +1,8 @@
+use Rattle.infra_types.specs.Ids.{id_of_track}
 use Rattle.std.proofs.Common.{subst, map}
 use Rattle.serde_json.specs.View.{view}
 use Rattle.json_fields.specs.Places.{FilePlace}
 use Rattle.railjson_read.specs.Fields.{Gives}
-use Rattle.railjson_read.specs.Objects.{id_of_track}
 use Rattle.railjson_read.specs.Points.{part_in}
 use Rattle.railjson_read.proofs.point_lists.part_at.Goals as goal
 

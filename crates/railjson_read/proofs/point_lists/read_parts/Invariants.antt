@@ -1,9 +1,9 @@
+use Rattle.infra_types.specs.Ids.{id_of_track}
 use Rattle.std.proofs.Common.{◌≡◌, length, map, drop, []}
 use Rattle.std.specs.Prelude.{All, ◌<◌}
 use Rattle.serde_json.specs.View.{view}
 use Rattle.railjson_read.specs.Fields.{read_each, read_items}
-use Rattle.railjson_read.specs.Infras.{IsPoint}
-use Rattle.railjson_read.specs.Objects.{id_of_track}
+use Rattle.infra_types.specs.Infras.{IsPoint}
 use Rattle.railjson_read.specs.Points.{part_at}
 use Rattle.railjson_read.proofs.point_lists.read_parts.Given as goal
 

@@ -1,9 +1,9 @@
+use Rattle.infra_types.specs.Ids.{id_of_point, id_of_track}
 use Rattle.std.proofs.Common.{subst, map}
 use Rattle.serde_json.specs.View.{view}
 use Rattle.json_fields.specs.Places.{FilePlace}
 use Rattle.railjson_read.specs.Fields.{GivesNext}
-use Rattle.railjson_read.specs.Objects.{id_of_track}
-use Rattle.railjson_read.specs.Points.{id_of_point, point_in}
+use Rattle.railjson_read.specs.Points.{point_in}
 use Rattle.railjson_read.proofs.point_lists.read_point.Goals as goal
 
 pub returns-clause-read : goal.returns-clause-read

@@ -1,10 +1,10 @@
+use Rattle.infra_types.specs.Ids.{id_of_point, id_of_track}
 use Rattle.std.proofs.Common.{◌≡◌, length, map, drop, []}
 use Rattle.std.specs.Prelude.{All, ◌<◌}
 use Rattle.serde_json.specs.View.{view}
 use Rattle.railjson_read.specs.Fields.{read_each, read_items}
-use Rattle.railjson_read.specs.Infras.{IsPoint}
-use Rattle.railjson_read.specs.Objects.{id_of_track}
-use Rattle.railjson_read.specs.Points.{id_of_point, point_at}
+use Rattle.infra_types.specs.Infras.{IsPoint}
+use Rattle.railjson_read.specs.Points.{point_at}
 use Rattle.railjson_read.proofs.point_lists.read_points.Given as goal
 
 abbrev pub invariant-objects : goal.invariant-objects

@@ -1,6 +1,6 @@
 use Rattle.std.proofs.Common.{length}
 use Rattle.std.proofs.lemmas.List.Elements.{All-push}
-use Rattle.railjson_read.specs.Infras.{IsRoute}
+use Rattle.infra_types.specs.Infras.{IsRoute}
 use Rattle.railjson_read.proofs.route_lists.push_route.Goals as goal
 
 pub returns-clause-within : goal.returns-clause-within

@@ -1,9 +1,9 @@
+use Rattle.infra_types.specs.Ids.{id_of_placed}
 use Rattle.std.proofs.Common.{◌≡◌, length, map, drop, []}
 use Rattle.std.specs.Prelude.{All, ◌<◌}
 use Rattle.serde_json.specs.View.{view}
 use Rattle.railjson_read.specs.Fields.{read_each, read_items}
-use Rattle.railjson_read.specs.Infras.{IsRoute}
-use Rattle.railjson_read.specs.Objects.{id_of_placed}
+use Rattle.infra_types.specs.Infras.{IsRoute}
 use Rattle.railjson_read.specs.Routes.{release_at}
 use Rattle.railjson_read.proofs.route_lists.read_releases.Given as goal
 

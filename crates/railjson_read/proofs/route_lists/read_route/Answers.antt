@@ -1,9 +1,9 @@
+use Rattle.infra_types.specs.Ids.{id_of_placed, id_of_route, id_of_switch}
 use Rattle.std.proofs.Common.{subst, map}
 use Rattle.serde_json.specs.View.{view}
 use Rattle.json_fields.specs.Places.{FilePlace}
 use Rattle.railjson_read.specs.Fields.{GivesNext}
-use Rattle.railjson_read.specs.Objects.{id_of_switch, id_of_placed}
-use Rattle.railjson_read.specs.Routes.{id_of_route, route_in}
+use Rattle.railjson_read.specs.Routes.{route_in}
 use Rattle.railjson_read.proofs.route_lists.read_route.Goals as goal
 
 pub returns-clause-read : goal.returns-clause-read

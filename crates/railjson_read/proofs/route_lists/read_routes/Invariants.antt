@@ -1,10 +1,10 @@
+use Rattle.infra_types.specs.Ids.{id_of_placed, id_of_route, id_of_switch}
 use Rattle.std.proofs.Common.{◌≡◌, length, map, drop, []}
 use Rattle.std.specs.Prelude.{All, ◌<◌}
 use Rattle.serde_json.specs.View.{view}
 use Rattle.railjson_read.specs.Fields.{read_each, read_items}
-use Rattle.railjson_read.specs.Infras.{IsRoute}
-use Rattle.railjson_read.specs.Objects.{id_of_switch, id_of_placed}
-use Rattle.railjson_read.specs.Routes.{id_of_route, route_at}
+use Rattle.infra_types.specs.Infras.{IsRoute}
+use Rattle.railjson_read.specs.Routes.{route_at}
 use Rattle.railjson_read.proofs.route_lists.read_routes.Given as goal
 
 abbrev pub invariant-objects : goal.invariant-objects

@@ -1,8 +1,8 @@
+use Rattle.infra_types.specs.Ids.{id_of_placed}
 use Rattle.std.proofs.Common.{subst, map}
 use Rattle.serde_json.specs.View.{view}
 use Rattle.json_fields.specs.Places.{FilePlace}
 use Rattle.railjson_read.specs.Fields.{Gives}
-use Rattle.railjson_read.specs.Objects.{id_of_placed}
 use Rattle.railjson_read.specs.Routes.{release_in}
 use Rattle.railjson_read.proofs.route_lists.release_at.Goals as goal
 

@@ -1,9 +1,9 @@
+use Rattle.infra_types.specs.Ids.{id_of_signal, id_of_track}
 use Rattle.std.proofs.Common.{subst, map}
 use Rattle.serde_json.specs.View.{view}
 use Rattle.json_fields.specs.Places.{FilePlace}
 use Rattle.railjson_read.specs.Fields.{GivesNext}
-use Rattle.railjson_read.specs.Objects.{id_of_track}
-use Rattle.railjson_read.specs.Signals.{id_of_signal, signal_in}
+use Rattle.railjson_read.specs.Signals.{signal_in}
 use Rattle.railjson_read.proofs.signal_lists.read_signal.Goals as goal
 
 pub returns-clause-read : goal.returns-clause-read

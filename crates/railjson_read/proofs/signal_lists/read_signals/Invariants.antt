@@ -1,10 +1,10 @@
+use Rattle.infra_types.specs.Ids.{id_of_signal, id_of_track}
 use Rattle.std.proofs.Common.{◌≡◌, length, map, drop, []}
 use Rattle.std.specs.Prelude.{All, ◌<◌}
 use Rattle.serde_json.specs.View.{view}
 use Rattle.railjson_read.specs.Fields.{read_each, read_items}
-use Rattle.railjson_read.specs.Infras.{IsSignal}
-use Rattle.railjson_read.specs.Objects.{id_of_track}
-use Rattle.railjson_read.specs.Signals.{id_of_signal, signal_at}
+use Rattle.infra_types.specs.Infras.{IsSignal}
+use Rattle.railjson_read.specs.Signals.{signal_at}
 use Rattle.railjson_read.proofs.signal_lists.read_signals.Given as goal
 
 abbrev pub invariant-objects : goal.invariant-objects

@@ -2,7 +2,7 @@ use Rattle.std.proofs.Common.{◌≡◌, length, map, drop, []}
 use Rattle.std.specs.Prelude.{All, ◌<◌}
 use Rattle.serde_json.specs.View.{view}
 use Rattle.railjson_read.specs.Fields.{read_each, read_items}
-use Rattle.railjson_read.specs.Infras.{IsRange, lengths_of}
+use Rattle.infra_types.specs.Infras.{IsRange, lengths_of}
 use Rattle.railjson_read.specs.Speeds.{range_at}
 use Rattle.railjson_read.proofs.speed_lists.read_ranges.Given as goal
 

@@ -1,8 +1,9 @@
+use Rattle.infra_types.specs.Ids.{id_of_speed}
 use Rattle.std.proofs.Common.{subst, map}
 use Rattle.serde_json.specs.View.{view}
 use Rattle.json_fields.specs.Places.{FilePlace}
 use Rattle.railjson_read.specs.Fields.{GivesNext}
-use Rattle.railjson_read.specs.Speeds.{id_of_speed, speed_in}
+use Rattle.railjson_read.specs.Speeds.{speed_in}
 use Rattle.railjson_read.proofs.speed_lists.read_speed.Goals as goal
 
 pub returns-clause-read : goal.returns-clause-read

@@ -1,9 +1,10 @@
+use Rattle.infra_types.specs.Ids.{id_of_speed}
 use Rattle.std.proofs.Common.{◌≡◌, length, map, drop, []}
 use Rattle.std.specs.Prelude.{All, ◌<◌}
 use Rattle.serde_json.specs.View.{view}
 use Rattle.railjson_read.specs.Fields.{read_each, read_items}
-use Rattle.railjson_read.specs.Infras.{IsSpeed, lengths_of}
-use Rattle.railjson_read.specs.Speeds.{id_of_speed, speed_at}
+use Rattle.infra_types.specs.Infras.{IsSpeed, lengths_of}
+use Rattle.railjson_read.specs.Speeds.{speed_at}
 use Rattle.railjson_read.proofs.speed_lists.read_speeds.Given as goal
 
 abbrev pub invariant-objects : goal.invariant-objects

@@ -1,7 +1,8 @@
+use Rattle.infra_types.specs.Ids.{id_of_track}
 use Rattle.std.proofs.Common.{◌≡◌, ◌<◌, length, map, drop, []}
 use Rattle.std.specs.Prelude.{All}
 use Rattle.serde_json.specs.View.{view}
-use Rattle.railjson_read.specs.Objects.{id_of_track, read_ports}
+use Rattle.railjson_read.specs.Objects.{read_ports}
 use Rattle.railjson_read.proofs.switch_lists.read_ports.Given as goal
 
 abbrev pub invariant-ports : goal.invariant-ports

@@ -1,8 +1,9 @@
+use Rattle.infra_types.specs.Ids.{id_of_switch, id_of_track}
 use Rattle.std.proofs.Common.{subst, map}
 use Rattle.serde_json.specs.View.{view}
 use Rattle.json_fields.specs.Places.{FilePlace}
 use Rattle.railjson_read.specs.Fields.{GivesNext}
-use Rattle.railjson_read.specs.Objects.{id_of_track, id_of_switch, switch_in}
+use Rattle.railjson_read.specs.Objects.{switch_in}
 use Rattle.railjson_read.proofs.switch_lists.read_switch.Goals as goal
 
 pub returns-clause-read : goal.returns-clause-read

@@ -1,9 +1,10 @@
+use Rattle.infra_types.specs.Ids.{id_of_placed, id_of_track}
 use Rattle.std.proofs.Common.{◌≡◌, length, map, drop, []}
 use Rattle.std.specs.Prelude.{All}
 use Rattle.serde_json.specs.View.{view}
 use Rattle.railjson_read.specs.Fields.{read_each}
-use Rattle.railjson_read.specs.Infras.{IsPlaced}
-use Rattle.railjson_read.specs.Objects.{id_of_track, id_of_placed, placed_at}
+use Rattle.infra_types.specs.Infras.{IsPlaced}
+use Rattle.railjson_read.specs.Objects.{placed_at}
 use Rattle.railjson_read.proofs.track_lists.read_all_placed.Given as goal
 
 abbrev pub invariant-objects : goal.invariant-objects

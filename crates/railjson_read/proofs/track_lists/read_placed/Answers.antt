@@ -1,8 +1,9 @@
+use Rattle.infra_types.specs.Ids.{id_of_placed, id_of_track}
 use Rattle.std.proofs.Common.{subst, map}
 use Rattle.serde_json.specs.View.{view}
 use Rattle.json_fields.specs.Places.{FilePlace}
 use Rattle.railjson_read.specs.Fields.{GivesNext}
-use Rattle.railjson_read.specs.Objects.{id_of_track, id_of_placed, placed_in}
+use Rattle.railjson_read.specs.Objects.{placed_in}
 use Rattle.railjson_read.proofs.track_lists.read_placed.Goals as goal
 
 pub returns-clause-read : goal.returns-clause-read

@@ -1,9 +1,10 @@
+use Rattle.infra_types.specs.Ids.{id_of_track}
 use Rattle.std.proofs.Common.{◌≡◌, length, map, drop, []}
 use Rattle.std.specs.Prelude.{All}
 use Rattle.serde_json.specs.View.{view}
 use Rattle.railjson_read.specs.Fields.{read_each}
-use Rattle.railjson_read.specs.Infras.{IsTrack}
-use Rattle.railjson_read.specs.Objects.{id_of_track, track_at}
+use Rattle.infra_types.specs.Infras.{IsTrack}
+use Rattle.railjson_read.specs.Objects.{track_at}
 use Rattle.railjson_read.proofs.track_lists.read_tracks.Given as goal
 
 abbrev pub invariant-objects : goal.invariant-objects

@@ -1,5 +1,5 @@
+use Rattle.infra_types.specs.Ids.{id_of_switch}
 use Rattle.std.proofs.Common.{◌∙◌, sym, map, length}
-use Rattle.railjson_read.specs.Objects.{id_of_switch}
 use Rattle.railjson_read.proofs.Ways.{one_way, inserted}
 use Rattle.railjson_read.proofs.way_lists.read_groups.Goals as goal
 

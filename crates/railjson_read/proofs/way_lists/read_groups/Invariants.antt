@@ -1,7 +1,7 @@
+use Rattle.infra_types.specs.Ids.{id_of_switch}
 use Rattle.std.proofs.Common.{◌≡◌, length, map, []}
 use Rattle.std.specs.Prelude.{All, ◌<◌}
 use Rattle.serde_json.specs.View.{members_view}
-use Rattle.railjson_read.specs.Objects.{id_of_switch}
 use Rattle.railjson_read.specs.Routes.{read_ways}
 use Rattle.railjson_read.proofs.way_lists.read_groups.Given as goal
 

@@ -2,21 +2,22 @@
 use Rattle.std.specs.Prelude.{◌≡◌, ℕ, ◌<◌, ◌≤◌, List, map, length, slice_index_or, All, IfSome}
 use Rattle.std.specs.List.{AllPairs}
 use Rattle.rail_types.specs.declared.limits.TheConstants.{MAX_OBJECTS, MAX_TRACK_LENGTH_M, MAX_SIGHT_M, MAX_SPEED_MM_S}
-use Rattle.railjson_read.specs.declared.infras.Infra.{Infra}
-use Rattle.railjson_read.specs.declared.tracks.Track.{Track}
-use Rattle.railjson_read.specs.declared.tracks.Placed.{Placed}
-use Rattle.railjson_read.specs.declared.tracks.OperationalPoint.{OperationalPoint}
-use Rattle.railjson_read.specs.declared.tracks.Range.{Range}
-use Rattle.railjson_read.specs.declared.tracks.SpeedSection.{SpeedSection}
-use Rattle.railjson_read.specs.declared.switches.Switch.{Switch}
-use Rattle.railjson_read.specs.declared.switches.SwitchKind.{SwitchKind}
-use Rattle.railjson_read.specs.declared.switches.SwitchKind.TheVariants.{Point, Link, Crossing, DoubleSlip}
-use Rattle.railjson_read.specs.declared.switches.Way.{Way}
-use Rattle.railjson_read.specs.declared.signals.Bal.{Bal}
-use Rattle.railjson_read.specs.declared.signals.Signal.{Signal}
-use Rattle.railjson_read.specs.declared.routes.Route.{Route}
-use Rattle.railjson_read.specs.declared.routes.RoutePoint.{RoutePoint}
-use Rattle.railjson_read.specs.declared.routes.RoutePoint.TheVariants.{Detector, BufferStop}
+use Rattle.named_network.specs.Named.{IsId}
+use Rattle.infra_types.specs.declared.infras.Infra.{Infra}
+use Rattle.infra_types.specs.declared.tracks.Track.{Track}
+use Rattle.infra_types.specs.declared.tracks.Placed.{Placed}
+use Rattle.infra_types.specs.declared.tracks.OperationalPoint.{OperationalPoint}
+use Rattle.infra_types.specs.declared.tracks.Range.{Range}
+use Rattle.infra_types.specs.declared.tracks.SpeedSection.{SpeedSection}
+use Rattle.infra_types.specs.declared.switches.Switch.{Switch}
+use Rattle.infra_types.specs.declared.switches.SwitchKind.{SwitchKind}
+use Rattle.infra_types.specs.declared.switches.SwitchKind.TheVariants.{Point, Link, Crossing, DoubleSlip}
+use Rattle.infra_types.specs.declared.switches.Way.{Way}
+use Rattle.infra_types.specs.declared.signals.Bal.{Bal}
+use Rattle.infra_types.specs.declared.signals.Signal.{Signal}
+use Rattle.infra_types.specs.declared.routes.Route.{Route}
+use Rattle.infra_types.specs.declared.routes.RoutePoint.{RoutePoint}
+use Rattle.infra_types.specs.declared.routes.RoutePoint.TheVariants.{Detector, BufferStop}
 
 -- no list of objects is longer than its limit
 pub record AreFew (infra : Infra) : Type 0 where
@@ -95,6 +96,12 @@ pub record IsSpeed (lengths : List ℕ) (section : SpeedSection) : Type 0 where
   pub ranges : All (IsRange lengths) section.ranges
   pub count : length section.ranges ≤ MAX_OBJECTS
 
+-- the names of tracks, routes and operational points are ids
+pub record AreNamed (infra : Infra) : Type 0 where
+  pub tracks : All (λ track. IsId track.id) infra.tracks
+  pub routes : All (λ route. IsId route.id) infra.routes
+  pub points : All (λ point. IsId point.id) infra.points
+
 -- An infrastructure as a file gives it: each list within its limit, each object within these lists.
 pub record IsInfra (infra : Infra) : Type 0 where
   pub counts : AreFew infra
@@ -103,6 +110,9 @@ pub record IsInfra (infra : Infra) : Type 0 where
   pub detectors : All (IsPlaced (length infra.tracks)) infra.detectors
   pub buffer_stops : All (IsPlaced (length infra.tracks)) infra.buffer_stops
   pub signals : All (IsSignal (length infra.tracks)) infra.signals
-  pub routes : All (IsRoute (length infra.switches) (length infra.detectors) (length infra.buffer_stops)) infra.routes
+  pub routes : All
+      (IsRoute (length infra.switches) (length infra.detectors)
+      (length infra.buffer_stops)) infra.routes
   pub points : All (IsPoint (length infra.tracks)) infra.points
   pub speeds : All (IsSpeed (lengths_of infra.tracks)) infra.speeds
+  pub ids : AreNamed infra

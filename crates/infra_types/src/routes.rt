@@ -1,6 +1,7 @@
 //! Routes.
 
 use crate::{Direction, Way};
+use id_lists::HasId;
 use rail_types::{List, Name};
 
 /// Where a route begins or ends, by the number of the detector or the buffer stop.
@@ -20,4 +21,10 @@ pub struct Route {
     pub exit: RoutePoint,
     pub ways: List<Way>,
     pub releases: List<u32>,
+}
+
+impl HasId for Route {
+    ghost use Rattle.infra_types.specs.Ids.{id_of_route};
+
+    ghost id = { id_of_route };
 }

@@ -1,6 +1,7 @@
 //! Tracks, and what stands on them.
 
 use crate::Applies;
+use id_lists::HasId;
 use rail_types::{List, Name};
 
 /// A track section and its length in metres.
@@ -48,4 +49,28 @@ pub struct SpeedSection {
     pub id: Name,
     pub limit: Option<u32>,
     pub ranges: List<Range>,
+}
+
+impl HasId for Track {
+    ghost use Rattle.infra_types.specs.Ids.{id_of_track};
+
+    ghost id = { id_of_track };
+}
+
+impl HasId for Placed {
+    ghost use Rattle.infra_types.specs.Ids.{id_of_placed};
+
+    ghost id = { id_of_placed };
+}
+
+impl HasId for OperationalPoint {
+    ghost use Rattle.infra_types.specs.Ids.{id_of_point};
+
+    ghost id = { id_of_point };
+}
+
+impl HasId for SpeedSection {
+    ghost use Rattle.infra_types.specs.Ids.{id_of_speed};
+
+    ghost id = { id_of_speed };
 }

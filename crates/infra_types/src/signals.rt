@@ -1,6 +1,7 @@
 //! Signals.
 
 use crate::Direction;
+use id_lists::HasId;
 use rail_types::Name;
 
 /// A block signal: its track, its metres from the track's begin, the direction for which it stands, and its sight
@@ -18,4 +19,10 @@ pub struct Bal {
 pub struct Signal {
     pub id: Name,
     pub bal: Option<Bal>,
+}
+
+impl HasId for Signal {
+    ghost use Rattle.infra_types.specs.Ids.{id_of_signal};
+
+    ghost id = { id_of_signal };
 }

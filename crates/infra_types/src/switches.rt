@@ -1,6 +1,7 @@
 //! Switches, and the ways across them.
 
 use crate::TrackEnd;
+use id_lists::HasId;
 use rail_types::{List, Name};
 
 /// A kind of switch.
@@ -42,4 +43,10 @@ pub enum Group {
 pub struct Way {
     pub switch: u32,
     pub group: Group,
+}
+
+impl HasId for Switch {
+    ghost use Rattle.infra_types.specs.Ids.{id_of_switch};
+
+    ghost id = { id_of_switch };
 }

@@ -1,0 +1,2 @@
+pub mod Infras
+pub mod Ids
