@@ -1,0 +1,7 @@
+//! The server's commands, from words to a status.
+#![tactic(auto)]
+
+mod runs;
+
+pub use exit_status::Status;
+pub use runs::run;
