@@ -1,5 +1,7 @@
 -- What a commit tells, and what it leaves.
 use Rattle.std.specs.Prelude.{◌≡◌, ◌≢◌, ◌⊎◌, ◌<◌, ◌≤◌, ◌+◌, ℕ, List, [], ◌∷◌, ◌++◌, length}
+use Rattle.rail_types.specs.declared.entries.Deed.{Deed}
+use Rattle.rail_types.specs.declared.entries.Deed.TheVariants.{Free}
 use Rattle.rail_types.specs.declared.entries.Entry.{Entry}
 use Rattle.rail_types.specs.Timetables.{Timetable}
 use Rattle.outside_io.specs.Faults.{Rose}
@@ -83,3 +85,7 @@ abbrev pub IsBeforeOrAfter : {D : Type 0} → Ledger D → Ledger D → List ℕ
 IsBeforeOrAfter old new file =
     ReadsAsEither (header_of old.network_digest old.base_digest)
     (bodies_of old.entries) (bodies_of new.entries) file
+
+-- a deed that frees an entry
+abbrev pub FreesSome : Deed → Type 0
+FreesSome deed = (at : ℕ) × (deed ≡ Free at)

@@ -101,6 +101,8 @@ pub(crate) fn follow(book: &mut Occupations, history: &History, entry: &Entry, c
     history.front();
     match change {
         Change::Gained(claims) => hold_all(book, claims.as_slice()),
-        Change::Lost(at, claims) => book.take_out(claims.as_slice(), Owner::Entry(*at)),
+        Change::Lost(at, claims) => {
+            book.take_out(claims.as_slice(), Owner::Entry(*at));
+        }
     }
 }
