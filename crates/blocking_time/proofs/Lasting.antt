@@ -54,7 +54,7 @@ module _ (net : Network) (settings : Settings) (path : Path) (keep : KeepsRunRul
   gone_late : (k metres : ℕ) → k < length path.runs → (run_at path k).enter <ℤ gone_at net settings path k metres
   gone_late k metres within = gone_late_in k metres (length path.runs - k) k _ within (omega arith) (omega arith)
 
-  begins_early : (k : ℕ) → k < length path.runs → blocked_from net settings path k ≤ℤ (run_at path k).enter
+  pub begins_early : (k : ℕ) → k < length path.runs → blocked_from net settings path k ≤ℤ (run_at path k).enter
   begins_early zero within = omega (arith, ints)
   begins_early (suc k) within = go (is_from_stand path (suc k)) (is_from_stand path (suc k - 1)) (sight_ticks (block_of net path (suc k - 1)) path.train settings) before
     where

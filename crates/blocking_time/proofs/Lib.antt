@@ -12,3 +12,4 @@ mod Hulls
 mod Sharing
 mod Lasting
 mod Legging
+mod Nearing

@@ -5,12 +5,14 @@ use Rattle.rail_types.specs.declared.entries.Settings.{Settings}
 use Rattle.rail_types.specs.declared.entries.Wanted.{Wanted}
 use Rattle.rail_types.specs.declared.paths.Claim.{Claim}
 use Rattle.rail_types.specs.declared.paths.Path.{Path}
+use Rattle.rail_types.specs.Limits.{IsNearSpan}
 use Rattle.rail_types.specs.Occupation.{AreJoined, Fits, HasTicks}
 use Rattle.blocking_time.specs.declared.rules.Broken.{Broken as Told}
 use Rattle.blocking_time.specs.Broken.{broken}
 use Rattle.blocking_time.specs.Firsts.{IsFirstBroken, Keeps}
-use Rattle.blocking_time.specs.Joined.{CoverTheSame, joined_claims}
+use Rattle.blocking_time.specs.Joined.{CoverTheSame, blocked, joined_claims}
 use Rattle.blocking_time.specs.Legs.{KeepsByLegs, claims_by_legs}
+use Rattle.blocking_time.specs.Paths.{IsPathOf}
 use Rattle.blocking_time.specs.Rules.{KeepsRunRules}
 use Rattle.blocking_time.specs.Stairway.{claims_of_path}
 
@@ -40,6 +42,13 @@ abbrev pub StairwaysHaveTicks : Type 0
 StairwaysHaveTicks =
     (net : Network) (settings : Settings) (path : Path) → KeepsRunRules net settings path
     → All (λ claim. HasTicks claim.span) (claims_of_path net settings path)
+
+-- the claims of a path that keeps the rules of runs are near
+abbrev pub StairwaysAreNear : Type 0
+StairwaysAreNear =
+    (net : Network) (settings : Settings) (path : Path) → IsPathOf net settings path
+    → KeepsRunRules net settings path
+    → All (λ claim. IsNearSpan claim.span) (blocked net settings path)
 
 -- inside: a path by the numbers of its runs, and leg by leg
 pub record LegsAreTheRuns : Type 0 where

@@ -4,6 +4,7 @@ ghost use Rattle.blocking_time.specs.Laws.{
   JoinedClaimsAreOne,
   JoinedFitAlike,
   LegsAreTheRuns,
+  StairwaysAreNear,
   StairwaysHaveTicks,
   TheFirstIsTold,
 };
@@ -29,6 +30,12 @@ pub fn joined_claims_fit_alike()
 /// A path that keeps the rules of runs blocks each zone that it passes for a tick at least.
 pub fn stairways_have_ticks()
     ensures { StairwaysHaveTicks }
+{}
+
+/// A path that keeps the rules of runs blocks its zones from no earlier and to no later than claims that are held may
+/// begin and end.
+pub fn stairways_are_near()
+    ensures { StairwaysAreNear }
 {}
 
 #[doc(hidden)]

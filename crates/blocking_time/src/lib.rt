@@ -11,8 +11,8 @@ mod tests;
 
 pub use joining::joined;
 pub use laws::{
-    joined_claims_are_one, joined_claims_fit_alike, legs_are_the_runs, stairways_have_ticks,
-    the_first_broken_rule_is_told,
+    joined_claims_are_one, joined_claims_fit_alike, legs_are_the_runs, stairways_are_near,
+    stairways_have_ticks, the_first_broken_rule_is_told,
 };
 pub use passages::Passage;
 pub use rules::{Broken, keeps};

@@ -14,13 +14,13 @@ use Rattle.rail_types.specs.declared.entries.Wanted.TheVariants.{Asked, Pinned}
 use Rattle.rail_types.specs.declared.entries.Settings.{Settings}
 use Rattle.rail_types.specs.declared.paths.Path.{Path}
 use Rattle.rail_types.specs.Flaws.{first_flaw}
-use Rattle.rail_types.specs.Limits.{IsBlockWithinLimits, IsDeedWithinLimits, IsGrantWithinLimits, IsRunWithinLimits, IsTrainWithinLimits}
+use Rattle.rail_types.specs.Limits.{IsBlockWithinLimits, IsClaimWithinLimits, IsNear, IsNearSpan, IsTick, IsDeedWithinLimits, IsGrantWithinLimits, IsRunWithinLimits, IsTrainWithinLimits}
 use Rattle.rail_types.specs.Networks.{IsBlockOf}
 use Rattle.rail_types.specs.Occupation.{AreJoined, HasTicks}
 use Rattle.rail_types.specs.Timetables.{IsTimetable, Timetable}
 use Rattle.blocking_time.specs.Firsts.{Keeps}
 use Rattle.blocking_time.specs.Joined.{blocked, joined_claims}
-use Rattle.blocking_time.specs.Laws.{JoinedClaimsAreOne, TheFirstIsTold}
+use Rattle.blocking_time.specs.Laws.{JoinedClaimsAreOne, StairwaysAreNear, TheFirstIsTold}
 use Rattle.blocking_time.specs.Paths.{IsPathOf}
 use Rattle.blocking_time.specs.Rules.{KeepsRunRules}
 use Rattle.blocking_time.specs.Runs.{block_at, block_of, run_at, run_numbers}
@@ -107,3 +107,19 @@ pub joined_of : JoinedClaimsAreOne → (timetable : Timetable) (deed : Deed) →
 joined_of one timetable (Hold claims reason) within = within.joined
 joined_of one timetable (Free at) within = record { ticks = λ k other less. absurd (omega arith); apart = λ i j other less inside. absurd (omega arith) }
 joined_of one timetable (Grant wanted path) within = one.joined (claims_of_path timetable.net timetable.settings path)
+
+-- the claims of a hold are those that a client may name
+hold_near : (claims : List Claim) → All IsClaimWithinLimits claims → All (λ claim. IsNearSpan claim.span) claims
+hold_near claims within k claim less =
+    let one = within k claim less in
+    ((spread (get_or claims k claim).span.from one.from, spread (get_or claims k claim).span.to one.to))
+  where
+    spread : (tick : ℤ) → IsTick tick → IsNear tick
+    spread tick is = (omega (arith, ints, is.0), omega (arith, ints, is.1))
+
+pub near_of : SoundHasLimits → TheFirstIsTold → StairwaysAreNear → (timetable : Timetable) (deed : Deed) → IsTimetable timetable → IsDeedWithinLimits deed → IsDeedOn timetable.net deed → breaks timetable deed ≡ None → All (λ claim. IsNearSpan claim.span) (claims_of timetable deed)
+near_of sound told near timetable (Hold claims reason) planned within on_net none = hold_near claims within.within
+near_of sound told near timetable (Free at) planned within on_net none = All-nil (λ claim. IsNearSpan claim.span)
+near_of sound told near timetable (Grant wanted path) planned within on_net none =
+    let stairway = stairway_of sound told timetable (Grant wanted path) planned within on_net none in
+    near timetable.net timetable.settings path stairway.0 stairway.1

@@ -7,6 +7,7 @@ ghost use Rattle.rail_types.specs.declared.entries.Deed.TheVariants.{Free};
 ghost use Rattle.rail_types.specs.declared.entries.Entry.{Entry as entry_type};
 ghost use Rattle.rail_types.specs.declared.entries.Owner.{Owner as owner_type};
 ghost use Rattle.rail_types.specs.declared.entries.Owner.TheVariants.{Base as of_train, Entry as of_entry};
+ghost use Rattle.rail_types.specs.Limits.{IsNearSpan};
 ghost use Rattle.rail_types.specs.Occupation.{AreJoined, HeldClaim};
 ghost use Rattle.rail_types.specs.Timetables.{IsTimetable, Timetable, base_claims};
 ghost use Rattle.occupation_book.specs.Held.{IsFree};
@@ -20,7 +21,7 @@ ghost use Rattle.grant_log.specs.Legal.{IsInRange, IsLegal, Joins, NoneClash};
 ghost use Rattle.grant_log.specs.Meanings.{FitsLive, IsNew, IsNotTaken, Says};
 ghost use Rattle.grant_log.specs.Verdict.{breaks, takes, verdict_on};
 
-use blocking_time::{joined_claims_are_one, the_first_broken_rule_is_told};
+use blocking_time::{joined_claims_are_one, stairways_are_near, the_first_broken_rule_is_told};
 use rail_types::{first_clashes_are_first, networks_without_flaws};
 
 /// Each beginning of a legal history is legal, and in each no two live claims of different owners clash, those of the
@@ -46,7 +47,7 @@ pub fn grants_keep_their_requests()
 }
 
 /// The claims of a deed in range, whose path breaks no rule, can be worked out. They are on zones of the network, and
-/// stand by zone, then by begin, with a tick between any two of a zone.
+/// stand by zone, then by begin, with a tick between any two of a zone; and their ticks are near enough to be held.
 pub fn claims_are_on_the_network()
     ensures stairway { (timetable : Timetable) (entry : entry_type) →
         IsTimetable timetable → IsInRange timetable entry → breaks timetable entry.deed ≡ None →
@@ -56,10 +57,14 @@ pub fn claims_are_on_the_network()
         All (λ claim. claim.zone < timetable.net.zones) (claims_of timetable entry.deed) }
     ensures joined { (timetable : Timetable) (entry : entry_type) →
         IsInRange timetable entry → AreJoined (claims_of timetable entry.deed) }
+    ensures near { (timetable : Timetable) (entry : entry_type) →
+        IsTimetable timetable → IsInRange timetable entry → breaks timetable entry.deed ≡ None →
+        All (λ claim. IsNearSpan claim.span) (claims_of timetable entry.deed) }
 {
     networks_without_flaws();
     the_first_broken_rule_is_told();
     joined_claims_are_one();
+    stairways_are_near();
 }
 
 /// A claim is live with an entry as its owner exactly where it is one of the claims of the entry that stands at that
