@@ -1,5 +1,5 @@
 -- A disk in memory, as its callers see it: what it held at first, and the calls that changed what a crash may leave.
-use Rattle.std.specs.Prelude.{◌≡◌, ◌⊎◌, ℕ, ◌+◌, ◌≤◌, List, [], ◌∷◌, length}
+use Rattle.std.specs.Prelude.{◌≡◌, ◌⊎◌, ℕ, ◌+◌, ◌-◌, ◌≤◌, List, [], ◌∷◌, length}
 use Rattle.outside_io.specs.Disks.{Torn, write_over}
 
 -- a write of a piece at a place, done or failed, or a sync that was done
@@ -14,6 +14,13 @@ contents_after first [] = first
 contents_after first (wrote at piece ∷ changes) = write_over at piece (contents_after first changes)
 contents_after first (failed_at at count ∷ changes) = contents_after first changes
 contents_after first (synced ∷ changes) = contents_after first changes
+
+-- the bytes when the last sync was done
+abbrev pub contents_synced : List ℕ → List Change → List ℕ
+contents_synced first [] = first
+contents_synced first (wrote at piece ∷ changes) = contents_synced first changes
+contents_synced first (failed_at at count ∷ changes) = contents_synced first changes
+contents_synced first (synced ∷ changes) = contents_after first changes
 
 -- what a crash after these changes may leave
 abbrev pub IsImageAfter : List ℕ → List Change → List ℕ → Type 0
@@ -39,3 +46,7 @@ pub record DiskInMemory : Type 0 where
   pub syncs : ℕ
   pub failing_syncs : List ℕ
   pub faults : ℕ
+
+-- the room that a write of so many bytes at a place uses: 1, the bytes, and those between the old end and the place
+abbrev pub room_used : DiskInMemory → ℕ → ℕ → ℕ
+room_used disk at count = (at - length (contents_after disk.first disk.changes)) + count + 1

@@ -1,9 +1,10 @@
 // What a crash leaves of a disk in memory: its changes are made again, and those behind the last sync are torn.
 
-ghost use Rattle.std.specs.Prelude.{◌≡◌, ◌∷◌, ◌+◌, ◌<◌, ◌≤◌, ◌^◌, [], ℕ, List, drop, length, IfOk, IsTrue, OnOk};
+ghost use Rattle.std.specs.Prelude.{◌≡◌, ◌∷◌, ◌↔◌, ◌⊎◌, ◌+◌, ◌-◌, ◌%◌, ◌<◌, ◌≤◌, ◌^◌, [], ℕ, List, Some, drop, length, slice_get, IfOk, IsTrue, OnOk};
 ghost use Rattle.outside_io.specs.Disks.{Torn, write_over};
 ghost use Rattle.outside_io.specs.Logged.{IsMadeAgain, NoneSynced, bytes_in, changes_behind};
-ghost use Rattle.outside_io.specs.StoredDisks.{contents_after, IsImageAfter};
+ghost use Rattle.outside_io.specs.StoredDisks.{contents_after, contents_synced, IsImageAfter};
+ghost use Rattle.outside_io.specs.declared.logged.Logged.TheVariants.{Synced};
 
 use crate::logged::Logged;
 use crate::overwrites::overwrite;
@@ -43,6 +44,7 @@ struct Unsynced {
 fn what_arrives(choice: u64, piece: Unsynced) -> Arrival
     ensures order { result.from ≤ result.to }
     ensures within { result.to ≤ piece.count }
+    ensures nothing { choice % 8 ≡ 0 → result.from ≡ result.to }
 {
     let Unsynced {
         count,
@@ -96,7 +98,8 @@ fn write_torn(
     piece: &[u8],
     tear: Tear,
 ) -> Result<(), NoMemory>
-    ensures { OnOk result (Torn at (length piece.now) bytes.old.items bytes.new.items) }
+    ensures torn { OnOk result (Torn at (length piece.now) bytes.old.items bytes.new.items) }
+    ensures nothing { tear.choice % 8 ≡ 0 → bytes.new.items ≡ bytes.old.items }
 {
     let unsynced = Unsynced {
         count: piece.len(),
@@ -115,25 +118,18 @@ fn write_torn(
     Ok(())
 }
 
-// Whether nothing was synced from this change on.
-fn is_unsynced(log: &[Logged]) -> bool
-    ensures { IsTrue result → NoneSynced log.now }
-{
-    log.iter().all(|change| !matches!(change, Logged::Synced))
-}
-
 // How many changes stand up to the last sync.
 fn durable_changes(log: &[Logged]) -> usize
     ensures within { result ≤ length log.now }
     ensures behind { NoneSynced (drop result log.now) }
+    ensures last { 0 < result → slice_get log.now (result - 1) ≡ Some Synced }
 {
-    let mut durable = 0;
-    while durable < log.len() {
-        let (_, rest) = log.split_at(durable);
-        if is_unsynced(rest) {
+    let mut durable = log.len();
+    while durable > 0 {
+        if let Logged::Synced = log[durable - 1] {
             return durable;
         }
-        durable += 1;
+        durable -= 1;
     }
     durable
 }
@@ -142,31 +138,36 @@ fn written_bytes(change: Logged) -> usize
     ensures { result ≡ bytes_in (change ∷ []) }
 {
     match change {
-        Logged::Wrote { at: _, count } => count,
-        _ => 0,
+        Logged::Wrote { at: _, count } | Logged::FailedAt { at: _, count } => count,
+        Logged::Synced => 0,
     }
 }
 
-// Makes a change again, whole where it is durable.
+// Whether a change comes whole: where it is durable, and by choice 1.
+fn comes_whole(k: usize, durable: usize, choice: u64) -> bool
+    ensures { IsTrue result ↔ ((k < durable) ⊎ (choice % 8 ≡ 1)) }
+{
+    k < durable || choice % 8 == 1
+}
+
+// Makes a change again, as a read saw it where it comes whole.
 fn make_again(
     alloc: Global,
     bytes: &mut Vec<u8>,
     change: Logged,
     piece: &[u8],
-    is_durable: bool,
+    is_whole: bool,
     tear: Tear,
 ) -> Result<(), NoMemory>
-    ensures { OnOk result (IsMadeAgain change piece.now is_durable bytes.old.items bytes.new.items) }
+    ensures { OnOk result (IsMadeAgain tear.choice change piece.now is_whole bytes.old.items bytes.new.items) }
 {
-    let Logged::Wrote { at, count: _ } = change else {
-        return Ok(());
-    };
-    if is_durable {
-        write_with_room(bytes, at, piece)?;
-    } else {
-        write_torn(alloc, bytes, at, piece, tear)?;
+    match change {
+        Logged::Wrote { at, count: _ } if is_whole => write_with_room(bytes, at, piece),
+        Logged::Wrote { at, count: _ } => write_torn(alloc, bytes, at, piece, tear),
+        Logged::FailedAt { at: _, count: _ } if is_whole => Ok(()),
+        Logged::FailedAt { at, count: _ } => write_torn(alloc, bytes, at, piece, tear),
+        Logged::Synced => Ok(()),
     }
-    Ok(())
 }
 
 // One of the images that a crash after these changes may leave.
@@ -178,7 +179,9 @@ pub(crate) fn replay(
     choice: u64,
 ) -> Result<Vec<u8>, NoMemory>
     requires { bytes_in log.now ≡ length pieces.now }
-    ensures { IfOk result (λ image. IsImageAfter first.now (changes_behind [] log.now pieces.now) image.items) }
+    ensures image { IfOk result (λ image. IsImageAfter first.now (changes_behind [] log.now pieces.now) image.items) }
+    ensures last_sync { choice % 8 ≡ 0 → IfOk result (λ image. image.items ≡ contents_synced first.now (changes_behind [] log.now pieces.now)) }
+    ensures as_read { choice % 8 ≡ 1 → IfOk result (λ image. image.items ≡ contents_after first.now (changes_behind [] log.now pieces.now)) }
 {
     let durable = durable_changes(log);
     let mut image = Vec::from_slice(alloc, first)?;
@@ -193,7 +196,8 @@ pub(crate) fn replay(
             old_end,
             before: k.saturating_sub(durable),
         };
-        make_again(alloc, &mut image, change, piece, k < durable, tear)?;
+        let is_whole = comes_whole(k, durable, choice);
+        make_again(alloc, &mut image, change, piece, is_whole, tear)?;
         if k < durable {
             old_end = image.len();
         }

@@ -36,6 +36,21 @@ fn a_crash_tears_what_was_not_synced(rt: HostRuntime) -> Result<(), Fail> {
 }
 
 #[test]
+fn a_crash_tears_what_a_failed_write_was_to_write(rt: HostRuntime) -> Result<(), Fail> {
+    let alloc = rt.alloc();
+    let bytes = Vec::from_slice(alloc, b"head")?;
+    let mut disk = MemDisk::new(alloc, bytes, 9, vec![in alloc; 0]?)?;
+    assert_eq!(rt; disk.write_at(2, b"ABCD"), Err(Failed));
+    assert_eq!(rt; disk.bytes(), b"head".as_slice());
+    let left = ["head", "head", "heAB", "headCD"];
+    for (choice, left) in (0..4u64).zip(left) {
+        let image = disk.crash(alloc, choice)?;
+        assert_eq!(rt; image.bytes(), left.as_bytes(), "choice {choice}");
+    }
+    Ok(())
+}
+
+#[test]
 fn a_crash_that_leaves_nothing_of_a_piece_leaves_no_gap(rt: HostRuntime) -> Result<(), Fail> {
     let alloc = rt.alloc();
     let mut disk = MemDisk::new(alloc, Vec::from_slice(alloc, b"head")?, 20, Vec::new(alloc))?;

@@ -1,8 +1,8 @@
 //! A disk that fails from some call on.
 
-ghost use Rattle.std.specs.Prelude.{◌≡◌, ◌≤◌, ◌<◌, ◌+◌, ◌-◌, ◌^◌, ◌↔◌, ℕ, List, Some, min, length, take, drop, is_some, option_map, IfOk, IfSome, OnOk, IsErr, IsTrue};
+ghost use Rattle.std.specs.Prelude.{◌≡◌, ◌≤◌, ◌<◌, ◌+◌, ◌-◌, ◌^◌, ◌↔◌, ℕ, List, Some, min, length, take, drop, is_some, option_map, IfOk, IfSome, OnErr, OnOk, IsErr, IsTrue};
 ghost use Rattle.std.specs.Io.{ReadsAtMost};
-ghost use Rattle.outside_io.specs.Disks.{Follows, Looks, Passes, Torn, write_over};
+ghost use Rattle.outside_io.specs.Disks.{Follows, Looks, Passes, Torn, TornWhereTold, write_over};
 ghost use Rattle.outside_io.specs.Faults.{HasCause, next_count};
 
 use crate::{Disk, Failed};
@@ -122,6 +122,7 @@ impl<D: Disk> Disk for Fuse<D> {
     fn write_at(&mut self, at: u64, piece: &[u8]) -> Result<(), Failed>
         ensures written { OnOk result (D.contents self.new.disk ≡ option_map (write_over at piece.now) (D.contents self.old.disk)) }
         ensures tells { is_some (D.contents self.new.disk) ≡ is_some (D.contents self.old.disk) }
+        ensures failed { OnErr result (TornWhereTold at (length piece.now) (D.contents self.old.disk) (D.contents self.new.disk)) }
         ensures crash { Follows (Torn at (length piece.now)) (D.images self.old.disk) (D.images self.new.disk) }
         ensures time { Passes (D.clock self.old.disk) (D.clock self.new.disk) (D.since self.old.disk) (D.since self.new.disk) (D.images self.old.disk) (D.images self.new.disk) }
         ensures cause { HasCause (min (D.faults self.old.disk + self.old.faults) (2 ^ 64 - 1)) (min (D.faults self.new.disk + self.new.faults) (2 ^ 64 - 1)) result }

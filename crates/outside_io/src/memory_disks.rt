@@ -1,8 +1,8 @@
-ghost use Rattle.std.specs.Prelude.{◌↔◌, ◌⊎◌, Contains, IsErr, IsTrue, OnOk, is_some, option_map, ◌≡◌, ◌∷◌, ◌+◌, ◌-◌, ◌<◌, ◌≤◌, ◌^◌, [], ℕ, List, Some, length, IfOk, IfSome, IsNone, take, drop};
+ghost use Rattle.std.specs.Prelude.{◌↔◌, ◌⊎◌, Contains, IsErr, IsTrue, OnErr, OnOk, is_some, option_map, ◌≡◌, ◌∷◌, ◌+◌, ◌-◌, ◌%◌, ◌<◌, ◌≤◌, ◌^◌, [], ℕ, List, Some, length, IfOk, IfSome, IsNone, take, drop};
 ghost use Rattle.std.specs.Io.{ReadsAtMost};
-ghost use Rattle.outside_io.specs.Disks.{Follows, Looks, Passes, Torn, write_over};
+ghost use Rattle.outside_io.specs.Disks.{Follows, Looks, Passes, Torn, TornWhereTold, write_over};
 ghost use Rattle.outside_io.specs.Faults.{HasCause, next_count};
-ghost use Rattle.outside_io.specs.StoredDisks.{contents_after, failed_at, synced, wrote, IsImageAfter, IsImageSince};
+ghost use Rattle.outside_io.specs.StoredDisks.{contents_after, contents_synced, failed_at, room_used, synced, wrote, IsImageAfter, IsImageSince};
 
 use crate::crashes::replay;
 use crate::logged::Logged;
@@ -122,9 +122,12 @@ impl MemDisk {
     /// A disk with what a crash now may leave of this one, with as much room as this one was given, and no failing
     /// call. The choice counts modulo 8: 0 leaves what was synced last, 1 what is there, 2 the front of each piece
     /// that was not synced, 3 its back, 4 a foreign byte in it, 5 what of it lies before the end that was synced last;
-    /// 6 leaves every other piece, from the first on, and 7 fronts and whole pieces in turn.
+    /// 6 leaves every other piece, from the first on, and 7 fronts and whole pieces in turn. From 2 on the pieces of
+    /// failed writes are among them.
     pub fn crash(&self, alloc: Global, choice: u64) -> Result<MemDisk, NoMemory>
         ensures image { IfOk result (λ left. IsImageAfter self.now.first self.now.changes left.first) }
+        ensures last_sync { choice % 8 ≡ 0 → IfOk result (λ left. left.first ≡ contents_synced self.now.first self.now.changes) }
+        ensures as_read { choice % 8 ≡ 1 → IfOk result (λ left. left.first ≡ contents_after self.now.first self.now.changes) }
         ensures fresh { IfOk result (λ left. left ≡ record { first = left.first; changes = []; given = self.now.given; room = self.now.given; calls = 0; fails = []; syncs = 0; failing_syncs = []; faults = 0 }) }
     {
         let image = replay(alloc, &self.first, &self.log, &self.pieces, choice)?;
@@ -167,11 +170,17 @@ impl MemDisk {
     }
 
     // Uses up room for a write that fails.
-    fn lose(&mut self, at: u64, count: usize, room: usize)
-        requires { room + count < self.old.room }
-        ensures { self.new ≡ record self.old { changes = failed_at at count ∷ self.old.changes; room = room } }
+    fn lose(&mut self, at: u64, piece: &[u8], room: usize)
+        requires { room + length piece.now < self.old.room }
+        ensures { self.new ≡ record self.old { changes = failed_at at (length piece.now) ∷ self.old.changes; room = room } }
     {
-        self.log.push_reserved(Logged::FailedAt { at, count });
+        let Ok(()) = self.pieces.extend_from_slice(piece) else {
+            unreachable!()
+        };
+        self.log.push_reserved(Logged::FailedAt {
+            at,
+            count: piece.len(),
+        });
         self.room = room;
     }
 
@@ -228,6 +237,8 @@ impl Disk for MemDisk {
         ensures time { Looks (length self.old.changes) (length self.new.changes) (IsImageSince self.old.first self.old.changes) (IsImageSince self.new.first self.new.changes) (IsImageAfter self.old.first self.old.changes) (IsImageAfter self.new.first self.new.changes) }
         ensures cause { HasCause self.old.faults self.new.faults result }
         ensures exact { IsErr result ↔ Contains self.old.fails self.old.calls }
+        ensures done { OnOk result (self.new ≡ record self.old { calls = next_count self.old.calls }) }
+        ensures refused { OnErr result (self.new ≡ record self.old { calls = next_count self.old.calls; faults = next_count self.old.faults }) }
     {
         if self.next_call_fails() {
             self.fail();
@@ -243,6 +254,8 @@ impl Disk for MemDisk {
         ensures time { Looks (length self.old.changes) (length self.new.changes) (IsImageSince self.old.first self.old.changes) (IsImageSince self.new.first self.new.changes) (IsImageAfter self.old.first self.old.changes) (IsImageAfter self.new.first self.new.changes) }
         ensures cause { HasCause self.old.faults self.new.faults result }
         ensures exact { IsErr result ↔ Contains self.old.fails self.old.calls }
+        ensures done { OnOk result (self.new ≡ record self.old { calls = next_count self.old.calls }) }
+        ensures refused { OnErr result (self.new ≡ record self.old { calls = next_count self.old.calls; faults = next_count self.old.faults }) }
     {
         if self.next_call_fails() {
             self.fail();
@@ -260,10 +273,14 @@ impl Disk for MemDisk {
     fn write_at(&mut self, at: u64, piece: &[u8]) -> Result<(), Failed>
         ensures written { OnOk result (Some (contents_after self.new.first self.new.changes) ≡ option_map (write_over at piece.now) (Some (contents_after self.old.first self.old.changes))) }
         ensures tells { is_some (Some (contents_after self.new.first self.new.changes)) ≡ is_some (Some (contents_after self.old.first self.old.changes)) }
+        ensures failed { OnErr result (TornWhereTold at (length piece.now) (Some (contents_after self.old.first self.old.changes)) (Some (contents_after self.new.first self.new.changes))) }
         ensures crash { Follows (Torn at (length piece.now)) (IsImageAfter self.old.first self.old.changes) (IsImageAfter self.new.first self.new.changes) }
         ensures time { Passes (length self.old.changes) (length self.new.changes) (IsImageSince self.old.first self.old.changes) (IsImageSince self.new.first self.new.changes) (IsImageAfter self.old.first self.old.changes) (IsImageAfter self.new.first self.new.changes) }
         ensures cause { HasCause self.old.faults self.new.faults result }
-        ensures exact { IsErr result ↔ (Contains self.old.fails self.old.calls ⊎ (self.old.room < (at - length (contents_after self.old.first self.old.changes)) + length piece.now + 1)) }
+        ensures exact { IsErr result ↔ (Contains self.old.fails self.old.calls ⊎ (self.old.room < room_used self.old at (length piece.now))) }
+        ensures done { OnOk result (self.new ≡ record self.old { changes = wrote at piece.now ∷ self.old.changes; room = self.old.room - room_used self.old at (length piece.now); calls = next_count self.old.calls }) }
+        ensures listed { OnErr result (room_used self.old at (length piece.now) ≤ self.old.room → self.new ≡ record self.old { changes = failed_at at (length piece.now) ∷ self.old.changes; room = self.old.room - room_used self.old at (length piece.now); calls = next_count self.old.calls; faults = next_count self.old.faults }) }
+        ensures no_room { OnErr result (self.old.room < room_used self.old at (length piece.now) → self.new ≡ record self.old { calls = next_count self.old.calls; faults = next_count self.old.faults }) }
     {
         let is_listed = self.next_call_fails();
         let Some(room) = room_behind(self.room, self.bytes.len(), at, piece.len()) else {
@@ -271,7 +288,7 @@ impl Disk for MemDisk {
             return Err(Failed);
         };
         if is_listed {
-            self.lose(at, piece.len(), room);
+            self.lose(at, piece, room);
             self.fail();
             return Err(Failed);
         }
@@ -286,6 +303,8 @@ impl Disk for MemDisk {
         ensures time { Passes (length self.old.changes) (length self.new.changes) (IsImageSince self.old.first self.old.changes) (IsImageSince self.new.first self.new.changes) (IsImageAfter self.old.first self.old.changes) (IsImageAfter self.new.first self.new.changes) }
         ensures cause { HasCause self.old.faults self.new.faults result }
         ensures exact { IsErr result ↔ ((Contains self.old.fails self.old.calls ⊎ Contains self.old.failing_syncs self.old.syncs) ⊎ (self.old.room ≡ 0)) }
+        ensures done { OnOk result (self.new ≡ record self.old { changes = synced ∷ self.old.changes; room = self.old.room - 1; calls = next_count self.old.calls; syncs = next_count self.old.syncs }) }
+        ensures refused { OnErr result (self.new ≡ record self.old { room = self.old.room - 1; calls = next_count self.old.calls; syncs = next_count self.old.syncs; faults = next_count self.old.faults }) }
     {
         let call_fails = self.next_call_fails();
         let sync_fails = self.next_sync_fails();

@@ -1,0 +1,98 @@
+//! What the history, with the claims that are held, says of a new entry.
+
+ghost use Rattle.std.specs.Prelude.{◌≡◌, ◌≢◌, ◌↔◌, ◌<◌, All, IfErr, IfOk, IsTrue, None, OnOk, length};
+ghost use Rattle.rail_types.specs.Limits.{IsDeedWithinLimits};
+ghost use Rattle.occupation_book.specs.Held.{held};
+ghost use Rattle.grant_log.specs.declared.verdicts.Verdict.TheVariants.{Fresh};
+ghost use Rattle.grant_log.specs.Following.{AreLive};
+ghost use Rattle.grant_log.specs.Legal.{IsInRange};
+ghost use Rattle.grant_log.specs.Live.{claims_of as claims_of_deed};
+ghost use Rattle.grant_log.specs.Verdict.{breaks, verdict_on};
+ghost use Rattle.path_commit.specs.Answers.{IsTaken, IsTold};
+
+use crate::answers::Committed;
+use crate::clashes::last_clash;
+use grant_log::{History, Verdict, claims_are_on_the_network, verdicts_say_what_they_mean};
+use no_memory::NoMemory;
+use occupation_book::Occupations;
+use rail_types::{Claim, Entry};
+use std::alloc::Global;
+
+// The claims of an entry that is fresh, or what it is told.
+pub(crate) fn judge(
+    alloc: Global,
+    history: &History,
+    book: &Occupations,
+    entry: &Entry,
+    searched: u64,
+) -> Result<Vec<Claim>, Committed>
+    requires range { IsInRange history.now.timetable entry.now }
+    requires zones { length book.now ≡ history.now.timetable.net.zones }
+    requires live { AreLive history.now.timetable (held book.now) history.now.entries }
+    ensures fresh { OnOk result
+        (verdict_on history.now.timetable history.now.entries entry.now ≡ Fresh) }
+    ensures claims { IfOk result (λ claims.
+        claims.items ≡ claims_of_deed history.now.timetable entry.now.deed) }
+    ensures told { IfErr result
+        (IsTold history.now.timetable history.now.entries entry.now searched) }
+{
+    verdicts_say_what_they_mean();
+    let Ok(claims) = claims_of(alloc, history, entry) else {
+        return Err(Committed::Memory);
+    };
+    match history.judge_by(book, entry, &claims) {
+        Ok(Verdict::Fresh) => Ok(claims),
+        Ok(verdict) => Err(refusal(history, book, entry, &claims, verdict, searched)),
+        Err(NoMemory) => Err(Committed::Memory),
+    }
+}
+
+// The claims of an entry's deed, where its path breaks no rule.
+fn claims_of(alloc: Global, history: &History, entry: &Entry) -> Result<Vec<Claim>, NoMemory>
+    requires { IsInRange history.now.timetable entry.now }
+    ensures { IfOk result (λ claims. breaks history.now.timetable entry.now.deed ≡ None →
+        claims.items ≡ claims_of_deed history.now.timetable entry.now.deed) }
+{
+    if history.breaks(&entry.deed).is_some() {
+        return Ok(Vec::new(alloc));
+    }
+    history.claims_of(&entry.deed)
+}
+
+// What an entry is told that is not fresh: where a claim is taken, the last entry from the searched front on that holds
+// one.
+fn refusal(
+    history: &History,
+    book: &Occupations,
+    entry: &Entry,
+    claims: &[Claim],
+    verdict: Verdict,
+    searched: u64,
+) -> Committed
+    requires range { IsInRange history.now.timetable entry.now }
+    requires zones { length book.now ≡ history.now.timetable.net.zones }
+    requires live { AreLive history.now.timetable (held book.now) history.now.entries }
+    requires claims { breaks history.now.timetable entry.now.deed ≡ None →
+        claims.now ≡ claims_of_deed history.now.timetable entry.now.deed }
+    requires verdict { verdict ≡
+        verdict_on history.now.timetable history.now.entries entry.now }
+    requires stale { verdict ≢ Fresh }
+    ensures { IsTold history.now.timetable history.now.entries entry.now searched result }
+{
+    claims_are_on_the_network();
+    verdicts_say_what_they_mean();
+    history.net();
+    if !is_taken(&verdict) {
+        return Committed::Refused(verdict);
+    }
+    match last_clash(book, claims, searched) {
+        Some(entry) => Committed::Clash { entry },
+        None => Committed::Refused(verdict),
+    }
+}
+
+fn is_taken(verdict: &Verdict) -> bool
+    ensures { IsTrue result ↔ IsTaken verdict.now }
+{
+    matches!(verdict, Verdict::Taken(_, _))
+}
