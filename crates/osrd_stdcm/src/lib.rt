@@ -2,6 +2,8 @@
 #![tactic(auto)]
 
 mod runs;
+#[cfg(test)]
+mod tests;
 
 pub use exit_status::Status;
 pub use runs::run;

@@ -1,0 +1,175 @@
+//! The command `list` over an outside in memory. Expected values by hand.
+
+use crate::{Status, run};
+use outside_io::{MemOutside, MemSink, MemSource};
+use std::test::Fail;
+
+const TABLE: &str = "zones 0 blocks 0 stops 0\n";
+
+#[test]
+fn each_status_of_list_has_its_report(rt: HostRuntime) -> Result<(), Fail> {
+    let alloc = rt.alloc();
+    for (words, file, failing, room, status, table, report) in [
+        (
+            "list --network=net --out out",
+            "{}",
+            9,
+            99,
+            Status::Done,
+            TABLE,
+            "",
+        ),
+        (
+            "list --out=out --network net",
+            "{}",
+            9,
+            99,
+            Status::Done,
+            TABLE,
+            "",
+        ),
+        (
+            "list --network net",
+            "{}",
+            9,
+            99,
+            Status::Words,
+            "",
+            "words not understood\n",
+        ),
+        (
+            "list --network net --out out --out out",
+            "{}",
+            9,
+            99,
+            Status::Words,
+            "",
+            "words not understood\n",
+        ),
+        (
+            "list --network net --out -",
+            "{}",
+            9,
+            99,
+            Status::Words,
+            "",
+            "words not understood\n",
+        ),
+        (
+            "list --network net -- --out out",
+            "{}",
+            9,
+            99,
+            Status::Words,
+            "",
+            "words not understood\n",
+        ),
+        (
+            "list --network= --out out",
+            "{}",
+            9,
+            99,
+            Status::Words,
+            "",
+            "words not understood\n",
+        ),
+        (
+            "list --net net --out out",
+            "{}",
+            9,
+            99,
+            Status::Words,
+            "",
+            "words not understood\n",
+        ),
+        (
+            "list --network net --out out --help",
+            "{}",
+            9,
+            99,
+            Status::Words,
+            "",
+            "words not understood\n",
+        ),
+        (
+            "list --network other --out out",
+            "{}",
+            9,
+            99,
+            Status::Opening,
+            "",
+            "open: other\n",
+        ),
+        (
+            "list --network net --out other",
+            "{}",
+            9,
+            99,
+            Status::Opening,
+            "",
+            "open: other\n",
+        ),
+        (
+            "list --network net --out out",
+            "{}",
+            0,
+            99,
+            Status::Opening,
+            "",
+            "open: net\n",
+        ),
+        (
+            "list --network net --out out",
+            "{}",
+            1,
+            99,
+            Status::Opening,
+            "",
+            "open: out\n",
+        ),
+        (
+            "list --network net --out out",
+            "1.2.3",
+            9,
+            99,
+            Status::Network,
+            "",
+            "network: not-json\n",
+        ),
+        (
+            "list --network net --out out",
+            "[]",
+            9,
+            99,
+            Status::Network,
+            "",
+            "network: kind file\n",
+        ),
+        (
+            "list --network net --out out",
+            "{}",
+            9,
+            5,
+            Status::Report,
+            "zones",
+            "",
+        ),
+    ] {
+        let mut outside = MemOutside::new(alloc, vec![in alloc; failing]?);
+        let bytes = Vec::from_slice(alloc, file.as_bytes())?;
+        outside.set_source("net", MemSource::new(bytes, Vec::new(alloc)))?;
+        outside.set_sink("out", MemSink::new(alloc, room, Vec::new(alloc))?)?;
+        outside.set_report(MemSink::new(alloc, 99, Vec::new(alloc))?);
+        let mut owned = Vec::new(alloc);
+        for word in words.split(' ') {
+            owned.push(String::from_str(alloc, word)?)?;
+        }
+        let got = run(&rt, &owned, &mut outside);
+        assert_eq!(rt; got, status, "{words} over {file}");
+        let held = outside.sink_of("out").ok_or("the sink isn't put back")?;
+        assert!(rt; held.bytes() == table.as_bytes(), "{words} over {file}");
+        let told = outside.report_of().ok_or("the report isn't put back")?;
+        assert!(rt; told.bytes() == report.as_bytes(), "{words} over {file}");
+    }
+    Ok(())
+}
