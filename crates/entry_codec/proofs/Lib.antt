@@ -10,3 +10,4 @@ pub mod Stops
 pub mod Wrongs
 pub mod Refusals
 pub mod Alike
+pub mod Examples

@@ -10,6 +10,7 @@ ghost use Rattle.entry_codec.specs.declared.faults.EntryFault.TheVariants.{NotEn
 ghost use Rattle.entry_codec.specs.Body.{body_of};
 ghost use Rattle.entry_codec.specs.Within.{HasBody, HasItsTrain, IsFormed};
 ghost use Rattle.entry_codec.specs.Reading.{Gives, before_all, claims_field, reasoned_field, owner_field, items_field, list_field, stop_field, run_field, asked_field, pinned_field, deed_field, entry_field, entry_at, GivesAll, Refuses};
+ghost use Rattle.entry_codec.specs.Examples.{hold, hold_body, reasoned, reasoned_body, free, free_body, pinned, pinned_body, asked, asked_body, with_bytes, last_tick, tick_behind_the_last, zone_0_from_9};
 
 use crate::faults::EntryFault;
 use crate::finding::{
@@ -232,4 +233,22 @@ pub fn wrong_place_is_one()
         → entry_at body ≡ Err at → IsWrongAt body at }
     ensures full { (e : entry_type) → IsFormed e → HasItsTrain e.deed
         → All (λ field. field.right ≡ true) (fields_of e) → HasBody e }
+{}
+
+/// Bodies that were written out by hand are those of their entries, one of each kind; and where bytes in their place
+/// are wrong.
+pub fn examples_have_their_bodies()
+    ensures hold { HasBody hold × (body_of hold ≡ hold_body) }
+    ensures reasoned { HasBody reasoned × (body_of reasoned ≡ reasoned_body) }
+    ensures free { HasBody free × (body_of free ≡ free_body) }
+    ensures pinned { HasBody pinned × (body_of pinned ≡ pinned_body) }
+    ensures asked { HasBody asked × (body_of asked ≡ asked_body) }
+    // A hold from 38 to 38; one from the last tick, behind which no end is a tick.
+    ensures no_ticks { entry_at (with_bytes hold_body 34 (38 ∷ [])) ≡ Err 27 }
+    ensures last { entry_at (with_bytes hold_body 19 (last_tick ++ tick_behind_the_last)) ≡ Err 27 }
+    ensures kind { entry_at (with_bytes hold_body 0 (0 ∷ [])) ≡ Err 0 }
+    ensures no_reason { entry_at (with_bytes reasoned_body 15 (0 ∷ [])) ≡ Err 15 }
+    // A claim that begins where the one before it on its zone ends.
+    ensures touches { entry_at (with_bytes reasoned_body 45 (zone_0_from_9 ++ last_tick)) ≡ Err 49 }
+    ensures sign { entry_at (with_bytes free_body 16 (128 ∷ [])) ≡ Err 16 }
 {}
