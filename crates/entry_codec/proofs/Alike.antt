@@ -1,13 +1,12 @@
 -- Entries whose right fields have the same bytes go on with a field of the same width, so a body has one wrong place.
-use Rattle.std.proofs.Common.{◌≡◌, ◌≢◌, ℕ, ◌+◌, ◌-◌, ◌^◌, ◌<◌, ◌≤◌, ◌⊎◌, inl, inr, Bool, true, All, List, [], ◌∷◌, ◌++◌, length, take, drop, refl, sym, ap, subst, ◌∙◌, append_assoc, arith, length-append}
+use Rattle.std.proofs.Common.{◌≡◌, ℕ, ◌-◌, ◌^◌, ◌<◌, ◌⊎◌, inl, inr, Bool, true, All, List, [], ◌∷◌, ◌++◌, length, take, drop, refl, sym, ap, subst, ◌∙◌, append_assoc, arith, length-append}
 use Rattle.std.specs.List.{flat_map, list_all}
 use Rattle.std.specs.Int.{w32, to_be_bytes, from_be_bytes}
-use Rattle.std.specs.Str.{is_utf8}
 use Rattle.std.proofs.lemmas.List.{append-nil, take_at, drop_at}
 use Rattle.std.proofs.lemmas.List.Concat.{flat_map-cons}
 use Rattle.std.proofs.lemmas.List.Elements.{recursion_from_All}
 use Rattle.std.proofs.lemmas.Nat.{from_be_bytes-to_be_bytes_4}
-use Rattle.rail_types.specs.declared.limits.TheConstants.{MAX_OWNER_BYTES, MAX_STOPS, MAX_PINNED_RUNS, MAX_HOLD_CLAIMS, MAX_REASON_BYTES, MAX_TRAIN_NAME_BYTES}
+use Rattle.rail_types.specs.declared.limits.TheConstants.{MAX_OWNER_BYTES, MAX_STOPS, MAX_PINNED_RUNS, MAX_HOLD_CLAIMS}
 use Rattle.rail_types.specs.Limits.{is_between, is_name_byte}
 use Rattle.rail_types.specs.declared.paths.Claim.{Claim}
 use Rattle.rail_types.specs.declared.paths.Run.{Run}
@@ -20,8 +19,8 @@ use Rattle.rail_types.specs.declared.entries.Deed.TheVariants.{Hold, Grant, Free
 use Rattle.rail_types.specs.declared.entries.Entry.{Entry}
 use Rattle.entry_codec.specs.Body.{body_of, kind_byte}
 use Rattle.entry_codec.specs.Within.{HasBody, IsFormed, HasOneIfPlain}
-use Rattle.entry_codec.specs.Reading.{any_bytes, before_all}
-use Rattle.entry_codec.specs.Places.{Field, bytes_of, number_of, name_fields, stop_fields, run_fields, train_fields, claim_fields, next_claim_fields, claims_fields, list_fields, hold_fields, wish_fields, deed_fields, fields_of, NoneIsRight, StopsAt, IsWrongAt}
+use Rattle.entry_codec.specs.Reading.{before_all}
+use Rattle.entry_codec.specs.Places.{Field, bytes_of, name_fields, stop_fields, run_fields, train_fields, claim_fields, claims_fields, list_fields, wish_fields, deed_fields, fields_of, NoneIsRight, StopsAt, IsWrongAt}
 use Rattle.entry_codec.proofs.Numbers.{between}
 use Rattle.entry_codec.proofs.Stops.{AreRight}
 use Rattle.entry_codec.proofs.Refusals.{entry_bytes, entry_right, formed}
@@ -89,9 +88,14 @@ run_alike : (a b : Run) → Alike (run_fields a) (run_fields b)
 run_alike a b = (refl, λ r1 s1 e1. (refl, λ r2 s2 e2. (refl, λ r3 s3 e3. (refl, λ r4 s4 e4. tt))))
 
 trains_alike : (a b : Train) → Alike (train_fields a) (train_fields b)
-trains_alike a b =
-    (refl, λ r s e. (same_byte (length a.name) (length b.name) e, λ r0 s0 e0.
-    (refl, λ r1 s1 e1. (refl, λ r2 s2 e2. (refl, λ r3 s3 e3. (refl, λ r4 s4 e4. (refl, λ r5 s5 e5. tt)))))))
+trains_alike a b = (
+  refl,
+  λ r s e. (
+    same_byte (length a.name) (length b.name) e,
+    λ r0 s0 e0.
+        (refl, λ r1 s1 e1. (refl, λ r2 s2 e2. (refl, λ r3 s3 e3. (refl, λ r4 s4 e4. (refl, λ r5 s5 e5. tt))))),
+  ),
+)
 
 runs_alike : (most : ℕ) → most < 2 ^ 32 → (a b : List Run) → Alike (list_fields 1 most run_fields a) (list_fields 1 most run_fields b)
 runs_alike most lt a b = lists_alike 1 most lt run_fields run_alike a b
@@ -119,9 +123,14 @@ wishes_alike a b = (
 
 deeds_alike : (a b : Deed) → kind_byte a ≡ kind_byte b → HasOneIfPlain a → HasOneIfPlain b → Alike (deed_fields a) (deed_fields b)
 deeds_alike (Hold x []) (Hold y []) e f g = items_alike claim_fields claim_alike x y (f ∙ sym g)
-deeds_alike (Hold x (r ∷ rs)) (Hold y (s ∷ ss)) e f g =
-    (refl, λ r0 s0 e0. (same_byte (length (r ∷ rs)) (length (s ∷ ss)) e0, λ r2 s2 e2.
-    (refl, λ r1 s1 e1. claims_alike before_all before_all x y (same_count 1 MAX_HOLD_CLAIMS (length x) (length y) (omega arith) r1 s1 e1))))
+deeds_alike (Hold x (r ∷ rs)) (Hold y (s ∷ ss)) e f g = (
+  refl,
+  λ r0 s0 e0. (
+    same_byte (length (r ∷ rs)) (length (s ∷ ss)) e0,
+    λ r2 s2 e2.
+        (refl, λ r1 s1 e1. claims_alike before_all before_all x y (same_count 1 MAX_HOLD_CLAIMS (length x) (length y) (omega arith) r1 s1 e1)),
+  ),
+)
 deeds_alike (Grant (Asked x) p) (Grant (Asked y) q) e f g =
     one_after (train_fields p.train ++ wish_fields x) (train_fields q.train ++ wish_fields y) (list_fields 1 (2 ^ 32 - 1) run_fields p.runs) (list_fields 1 (2 ^ 32 - 1) run_fields q.runs) (one_after (train_fields p.train) (train_fields q.train) (wish_fields x) (wish_fields y) (trains_alike p.train q.train) (wishes_alike x y)) (runs_alike (2 ^ 32 - 1) (omega arith) p.runs q.runs)
 deeds_alike (Grant Pinned p) (Grant Pinned q) e f g =

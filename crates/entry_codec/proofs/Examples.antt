@@ -1,5 +1,5 @@
 -- Bodies that were written out by hand are read.
-use Rattle.std.proofs.Common.{◌≡◌, ℕ, zero, suc, ◌<◌, Bool, true, ltb, ◌&&◌, List, [], ◌∷◌, ◌++◌, get_or, Ok, Err, refl, sym, arith}
+use Rattle.std.proofs.Common.{◌≡◌, ℕ, zero, suc, ◌<◌, true, List, [], ◌∷◌, ◌++◌, get_or, Ok, Err, refl, sym, arith}
 use Rattle.std.specs.Prelude.{nat_lt}
 use Rattle.std.specs.List.{list_all}
 use Rattle.std.proofs.lemmas.Bool.{ltb-true}
@@ -64,7 +64,7 @@ pinned_right = (refl, (refl, (refl, (refl, (refl, (refl, (train_is_text, (refl, 
 pub pinned_has : HasBody pinned × (body_of pinned ≡ pinned_body)
 pinned_has = (
   full_is pinned (
-    record { line = omega arith; deed = All-from_recursion RunForm (record { block = 2; enter = negsuc 4; leave = pos 10; stops = true } ∷ []) (omega arith, tt); plain = tt }) tt (All-from_recursion (λ (field : Field). field.right ≡ true) (fields_of pinned) pinned_right),
+      record { line = omega arith; deed = All-from_recursion RunForm (record { block = 2; enter = negsuc 4; leave = pos 10; stops = true } ∷ []) (omega arith, tt); plain = tt }) tt (All-from_recursion (λ (field : Field). field.right ≡ true) (fields_of pinned) pinned_right),
   refl,
 )
 
@@ -74,14 +74,14 @@ asked_right = (refl, (refl, (refl, (refl, (refl, (refl, (train_is_text, (refl, (
 pub asked_has : HasBody asked × (body_of asked ≡ asked_body)
 asked_has = (
   full_is asked (
-    record {
-      line = omega arith;
-      deed = (
-        record { origin = omega arith; destination = omega arith; stops = All-from_recursion StopForm (record { stop = 2; dwell = 6 } ∷ []) (omega arith, tt) },
-        All-from_recursion RunForm (record { block = 0; enter = pos 0; leave = pos 5; stops = false } ∷ record { block = 1; enter = pos 5; leave = pos 38; stops = true } ∷ []) (omega arith, (omega arith, tt)),
-      );
-      plain = tt;
-    }) refl (All-from_recursion (λ (field : Field). field.right ≡ true) (fields_of asked) asked_right),
+      record {
+        line = omega arith;
+        deed = (
+          record { origin = omega arith; destination = omega arith; stops = All-from_recursion StopForm (record { stop = 2; dwell = 6 } ∷ []) (omega arith, tt) },
+          All-from_recursion RunForm (record { block = 0; enter = pos 0; leave = pos 5; stops = false } ∷ record { block = 1; enter = pos 5; leave = pos 38; stops = true } ∷ []) (omega arith, (omega arith, tt)),
+        );
+        plain = tt;
+      }) refl (All-from_recursion (λ (field : Field). field.right ≡ true) (fields_of asked) asked_right),
   refl,
 )
 

@@ -26,9 +26,9 @@ use Rattle.entry_codec.specs.declared.kinds.Kind.{Kind}
 use Rattle.entry_codec.specs.declared.kinds.Kind.TheVariants as kind
 use Rattle.entry_codec.specs.Body.{body_of, kind_byte, deed_text, name_text, list_text, train_text, window_text, wish_text, claim_text, stop_text, run_text}
 use Rattle.entry_codec.specs.Within.{HasBody, IsFourBytes, IsWishOfItsTypes, IsDeedOfItsTypes, HasOneIfPlain, HasItsTrain, IsFormed}
-use Rattle.entry_codec.specs.Reading.{Reading, ◌>>=◌, done, limited_field, kind_of, before_all, any_bytes, byte_field, name_field, list_field, stop_field, run_field, asked_field, pinned_field, reasoned_field, kind_field, deed_field, entry_field, whole, entry_at, GivesAll}
+use Rattle.entry_codec.specs.Reading.{done, limited_field, kind_of, before_all, any_bytes, byte_field, name_field, list_field, stop_field, run_field, asked_field, pinned_field, reasoned_field, kind_field, deed_field, entry_field, whole, entry_at, GivesAll}
 use Rattle.entry_codec.specs.Places.{Field, bytes_of, number_of, name_fields, window_fields, stop_fields, run_fields, train_fields, claim_fields, claims_fields, list_fields, hold_fields, wish_fields, deed_fields, fields_of, NoneIsRight, StopsAt, IsWrongAt}
-use Rattle.entry_codec.proofs.Readers.{IsBytes, Reads, ok_is}
+use Rattle.entry_codec.proofs.Readers.{IsBytes, ok_is}
 use Rattle.entry_codec.proofs.Numbers.{is_between-true, between, IsNameOf}
 use Rattle.entry_codec.proofs.Parts.{IsStop, IsRun, IsClaim, IsListOf}
 use Rattle.entry_codec.proofs.Entries.{byte_of, what, what_is, kind_reads, owner_takes, owner_back, entry_reads, body_is, body_again, hold_fits, hold_next, plain_fits, IsDeed, IsReason, reason_reads, AreBytes, are_bytes, bytes_there, each_fits, runs_fit, stops_fit}

@@ -225,21 +225,25 @@ past_part {field = field} next a text spells ys f tail e right onward old more p
 
 pub then_onward : {A B : Type 0} {field : Reading A} {fields : A → List Field} {text : A → List ℕ} {Limits Form : A → Type 0} → Part field fields text Limits Form → (next : A → Reading B) → ((a : A) → Later (next a))
     → (a : A) → Form a → (ys : List Field) → (Limits a → Onward (next a) ys) → Onward (field >>= next) (fields a ++ ys)
-then_onward {field = field} {fields} {text} part next later a form ys onward = record { passes = λ front tail e right old more parts.
-    elim (split_front (fields a) ys front tail e) [
-      | inl within ↦ le-trans (old.at + length (bytes_of front)) (reach (field old)) (reach (go_on (field old) next)) ((part.onward a form).passes front within.0 within.1 right old more parts) (reach_on (field old) next later)
-      | inr past ↦
-          let each = right_parts (fields a) past.0 (subst AreRight past.1 right) in
-          let limits = part.full a form each.0 in
-          let bytes : bytes_of front ≡ text a ++ bytes_of past.0 = ap bytes_of past.1 ∙ bytes_both (fields a) past.0 ∙ ap (λ (t : List ℕ). t ++ bytes_of past.0) (part.bytes a) in
-          let reached = past_part next a (text a) (part.reads.again a limits) ys past.0 tail past.2 each.1 (onward limits) old more (parts ∙ ap (λ (t : List ℕ). t ++ more) bytes ∙ append_assoc (text a) (bytes_of past.0) more) in
-          omega (arith, ap length bytes, length-append (text a) (bytes_of past.0), reached)
-    ] }
+then_onward {field = field} {fields} {text} part next later a form ys onward = record {
+  passes = λ front tail e right old more parts.
+      elim (split_front (fields a) ys front tail e) [
+        | inl within ↦ le-trans (old.at + length (bytes_of front)) (reach (field old)) (reach (go_on (field old) next)) ((part.onward a form).passes front within.0 within.1 right old more parts) (reach_on (field old) next later)
+        | inr past ↦
+            let each = right_parts (fields a) past.0 (subst AreRight past.1 right) in
+            let limits = part.full a form each.0 in
+            let bytes : bytes_of front ≡ text a ++ bytes_of past.0 = ap bytes_of past.1 ∙ bytes_both (fields a) past.0 ∙ ap (λ (t : List ℕ). t ++ bytes_of past.0) (part.bytes a) in
+            let reached = past_part next a (text a) (part.reads.again a limits) ys past.0 tail past.2 each.1 (onward limits) old more (parts ∙ ap (λ (t : List ℕ). t ++ more) bytes ∙ append_assoc (text a) (bytes_of past.0) more) in
+            omega (arith, ap length bytes, length-append (text a) (bytes_of past.0), reached)
+      ];
+}
 
 -- the last part of a value passes what is right
 pub last_onward : {A B : Type 0} {field : Reading A} {fields : List Field} → Onward field fields → (make : A → B) → Onward (field >>= λ value. done (make value)) fields
-last_onward {field = field} onward make = record { passes = λ front tail e right old more parts.
-    le-trans (old.at + length (bytes_of front)) (reach (field old)) (reach (go_on (field old) (λ value. done (make value)))) (onward.passes front tail e right old more parts) (reach_on (field old) (λ value. done (make value)) (λ value. done_later (make value))) }
+last_onward {field = field} onward make = record {
+  passes = λ front tail e right old more parts.
+      le-trans (old.at + length (bytes_of front)) (reach (field old)) (reach (go_on (field old) (λ value. done (make value)))) (onward.passes front tail e right old more parts) (reach_on (field old) (λ value. done (make value)) (λ value. done_later (make value)));
+}
 
 -- ---- single fields
 
@@ -312,11 +316,13 @@ meaning_later None at here mid p q = p
 meaning_later (Some a) at here mid p q = q
 
 pub bytes_later : (width : ℕ) → Later (bytes_field width)
-bytes_later width = record { holds = λ old.
-    elim (cases_lt (length old.left) width) [
-      | inl lt ↦ rw (bytes_end old width lt) (omega arith)
-      | inr le ↦ rw (there width old (take width old.left) (drop width old.left) (sym (take-append-drop width old.left)) (length-take-le width old.left le)) (omega arith)
-    ] }
+bytes_later width = record {
+  holds = λ old.
+      elim (cases_lt (length old.left) width) [
+        | inl lt ↦ rw (bytes_end old width lt) (omega arith)
+        | inr le ↦ rw (there width old (take width old.left) (drop width old.left) (sym (take-append-drop width old.left)) (length-take-le width old.left le)) (omega arith)
+      ];
+}
 
 meant_on : {A B : Type 0} (meaning : A → Option B) (at : ℕ) (read : Result (A × Unread) ℕ) → at ≤ reach read → at ≤ reach (go_on read (λ value. meaning_at at (meaning value)))
 meant_on meaning at (Ok found) le = meaning_later (meaning found.0) at at found.1 (omega arith) le

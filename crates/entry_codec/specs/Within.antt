@@ -1,6 +1,5 @@
 -- Which entries have a body.
-use Rattle.std.specs.Prelude.{◌≡◌, ℕ, ◌^◌, ◌<◌, List, [], ◌∷◌, length, All}
-use Rattle.rail_types.specs.declared.paths.Claim.{Claim}
+use Rattle.std.specs.Prelude.{◌≡◌, ℕ, ◌^◌, ◌<◌, [], ◌∷◌, length, All}
 use Rattle.rail_types.specs.declared.trains.Request.{Request}
 use Rattle.rail_types.specs.declared.entries.Wanted.TheVariants.{Asked, Pinned}
 use Rattle.rail_types.specs.declared.entries.Deed.{Deed}
