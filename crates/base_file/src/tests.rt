@@ -1,0 +1,1 @@
+//! Files with one fault each, files with two, and one without.
