@@ -6,7 +6,7 @@ use Rattle.rail_types.specs.declared.bases.Base.{Base}
 use Rattle.rail_types.specs.declared.bases.BaseClaim.{BaseClaim}
 use Rattle.rail_types.specs.declared.entries.Settings.{Settings}
 use Rattle.rail_types.specs.declared.limits.TheConstants.{MAX_TIMETABLE_FILE_BYTES, MAX_TICK_S, MAX_SETTING, MAX_RELEASE, MAX_HORIZON, MIN_JOURNAL_BYTES, MAX_JOURNAL_BYTES}
-use Rattle.json_fields.specs.Places.{whole_file, spot_of}
+use Rattle.json_fields.specs.Places.{FilePlace, whole_file, spot_of}
 use Rattle.json_fields.specs.Reading.{◌>>=◌, or_fault}
 use Rattle.json_fields.specs.Texts.{data_of}
 use Rattle.base_file.specs.declared.faults.BaseFault.{BaseFault}
@@ -16,15 +16,20 @@ use Rattle.base_file.specs.Claims.{claims_of_trains}
 use Rattle.base_file.specs.Fields.{number_at, flag_at, list_at}
 use Rattle.base_file.specs.Overlaps.{Apart, IsFirstOverlap}
 
+abbrev pub journal_bytes_in : FilePlace → Data → Result ℕ BaseFault
+journal_bytes_in place d =
+    number_at place (codes "journal_bytes") what.JournalBytes MIN_JOURNAL_BYTES MAX_JOURNAL_BYTES
+    d
+
 -- the settings, in the order of their fields
-abbrev pub settings_in : Data → Result Settings BaseFault
-settings_in d = do
-  tick_s ← number_at whole_file (codes "tick_s") what.TickS 1 MAX_TICK_S d
-  setting ← number_at whole_file (codes "setting") what.Setting 0 MAX_SETTING d
-  release ← number_at whole_file (codes "release") what.Release 0 MAX_RELEASE d
-  horizon ← number_at whole_file (codes "horizon") what.Horizon 1 MAX_HORIZON d
-  journal_bytes ← number_at whole_file (codes "journal_bytes") what.JournalBytes MIN_JOURNAL_BYTES MAX_JOURNAL_BYTES d
-  speed_loss ← flag_at whole_file (codes "speed_loss") what.SpeedLoss d
+abbrev pub settings_in : FilePlace → Data → Result Settings BaseFault
+settings_in place d = do
+  tick_s ← number_at place (codes "tick_s") what.TickS 1 MAX_TICK_S d
+  setting ← number_at place (codes "setting") what.Setting 0 MAX_SETTING d
+  release ← number_at place (codes "release") what.Release 0 MAX_RELEASE d
+  horizon ← number_at place (codes "horizon") what.Horizon 1 MAX_HORIZON d
+  journal_bytes ← journal_bytes_in place d
+  speed_loss ← flag_at place (codes "speed_loss") what.SpeedLoss d
   Ok (record {
     tick_s = tick_s;
     setting = setting;
@@ -40,7 +45,7 @@ claims_in zones d = list_at whole_file (codes "trains") d >>= claims_of_trains z
 
 abbrev pub base_in : ℕ → Data → Result Base BaseFault
 base_in zones d = do
-  settings ← settings_in d
+  settings ← settings_in whole_file d
   claims ← claims_in zones d
   Ok (record { settings = settings; claims = claims })
 

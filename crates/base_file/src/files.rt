@@ -5,6 +5,7 @@ ghost use Rattle.serde_json.specs.View.{view};
 ghost use Rattle.decimal_quote.specs.Quoted.{IsQuoted};
 ghost use Rattle.json_fields.specs.Reading.{or_fault};
 ghost use Rattle.json_fields.specs.Texts.{data_of};
+ghost use Rattle.rail_types.specs.Limits.{IsSettingsWithinLimits};
 ghost use Rattle.base_file.specs.declared.faults.BaseFault.TheVariants.{NotJson};
 ghost use Rattle.base_file.specs.Base.{GivesBase, base_at, claims_in, object_of};
 ghost use Rattle.base_file.specs.Fields.{Gives};
@@ -56,14 +57,24 @@ fn read_object(alloc: Global, file: &Value, zones: u32) -> Result<Base, BaseFaul
     ensures read { GivesBase result (object_of zones (view file.now)) }
     ensures sound { IfOk result (λ base. IsBaseOn zones base) }
 {
+    let base = read_fields(alloc, file, zones)?;
+    refuse_overlap(alloc, &base.claims)?;
+    Ok(base)
+}
+
+/// The base of a file, whether or not trains want one zone at once.
+fn read_fields(alloc: Global, file: &Value, zones: u32) -> Result<Base, BaseFault>
+    ensures base { Gives (λ base. base) result (object_of zones (view file.now)) }
+    ensures settings { IfOk result (λ base. IsSettingsWithinLimits base.settings) }
+    ensures claims { IfOk result (λ base. AreClaimsOn zones base.claims) }
+{
     if !file.is_object() {
         return Err(BaseFault::Kind {
             spot: Place::of_file().spot(alloc, "file")?,
         });
     }
-    let settings = read_settings(alloc, file)?;
+    let settings = read_settings(alloc, &Place::of_file(), file)?;
     let claims = read_claims(alloc, file, zones)?;
-    refuse_overlap(alloc, &claims)?;
     Ok(Base { settings, claims })
 }
 

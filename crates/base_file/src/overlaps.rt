@@ -1,6 +1,6 @@
 //! The first overlap of two trains, by a sort and a look at neighbours.
 
-ghost use Rattle.std.specs.Prelude.{◌≡◌, ◌+◌, ◌<◌, All, AllPairs, IfOk, IfSome, IsNone, length, option_map};
+ghost use Rattle.std.specs.Prelude.{◌≡◌, ◌+◌, ◌<◌, All, AllPairs, IfOk, IfSome, IsNone, length, option_map, slice_get};
 ghost use Rattle.std.specs.List.{AllAdjacentBelow};
 ghost use Rattle.std.specs.List.Sorted.{IsPermutation};
 ghost use Rattle.std.specs.Ordering.{is_lt};
@@ -87,8 +87,15 @@ fn pair_in(sorted: &[BaseClaim]) -> Option<Pair>
     let Some(at) = first_at(sorted) else {
         return None;
     };
-    let pair = least(&sorted[at], &sorted[at + 1], sorted.get(at + 2));
+    let next = claim_at(sorted, at + 2);
+    let pair = least(&sorted[at], &sorted[at + 1], next);
     Some(pair)
+}
+
+fn claim_at(sorted: &[BaseClaim], at: usize) -> Option<&BaseClaim>
+    ensures { option_map (λ one. one.now) result ≡ slice_get sorted.now at }
+{
+    sorted.get(at)
 }
 
 /// The first claim that clashes with the next. While none does, the claims of a zone end one after the other, so that
@@ -108,7 +115,7 @@ fn first_at(sorted: &[BaseClaim]) -> Option<usize>
 /// Of a claim, the first that begins with it or behind it and clashes with it, and the one behind that: the pair of the
 /// least trains that clash where the second begins. Claims that begin there stand by their trains.
 fn least(left: &BaseClaim, right: &BaseClaim, next: Option<&BaseClaim>) -> Pair
-    ensures { result ≡ least_pair left.now right.now (option_map (λ one. one.now) next) }
+    ensures { result ≡ least_pair left.now right.now (option_map (λ one. one.now) next.entry) }
 {
     if left.train < right.train {
         return Pair {
@@ -120,7 +127,7 @@ fn least(left: &BaseClaim, right: &BaseClaim, next: Option<&BaseClaim>) -> Pair
 }
 
 fn behind(left: &BaseClaim, right: &BaseClaim, next: Option<&BaseClaim>) -> Pair
-    ensures { result ≡ pair_behind left.now right.now (option_map (λ one. one.now) next) }
+    ensures { result ≡ pair_behind left.now right.now (option_map (λ one. one.now) next.entry) }
 {
     let Some(next) = next else {
         return Pair {

@@ -101,12 +101,12 @@ fn read_train(
     value: &Value,
     zones: u32,
     elements: u32,
-) -> Result<Vec<Claim>, BaseFault>
+) -> Result<List<Claim>, BaseFault>
     requires { elements ≤ MAX_BASE_CLAIMS }
-    ensures claims { Gives (λ claims. claims.items) result
+    ensures claims { Gives (λ claims. claims) result
         (train_at zones place.now elements (view value.now)) }
-    ensures count { IfOk result (λ claims. elements + length claims.items ≤ MAX_BASE_CLAIMS) }
-    ensures sound { IfOk result (λ claims. All (IsClaimOn zones) claims.items) }
+    ensures count { IfOk result (λ claims. elements + length claims ≤ MAX_BASE_CLAIMS) }
+    ensures sound { IfOk result (λ claims. All (IsClaimOn zones) claims) }
 {
     object(alloc, place, value)?;
     name(alloc, place, value, "name")?;

@@ -6,7 +6,7 @@ use Rattle.base_file.proofs.requirements.read_list.Given as goal
 
 abbrev pub invariant-list : goal.invariant-list
 invariant-list l = record {
-  read : read_claims l.zones l.place l.claims.items (map view (drop l.value-index l.list)) ≡ read_claims l.zones l.place [] (map view l.list);
-  count : length l.claims.items ≡ l.value-index;
-  sound : All (IsClaimOn l.zones) l.claims.items;
+  read : read_claims l.zones l.place l.claims (map view (drop l.value-index l.list)) ≡ read_claims l.zones l.place [] (map view l.list);
+  count : length l.claims ≡ l.value-index;
+  sound : All (IsClaimOn l.zones) l.claims;
 }
