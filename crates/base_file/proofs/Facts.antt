@@ -1,14 +1,12 @@
 -- One overlap at most is the first, and a base has none.
-use Rattle.std.proofs.Common.{◌≡◌, ◌∙◌, ◌⊎◌, inl, inr, ℕ, ◌<◌, ◌≤◌, ℤ, ◌<ℤ◌, List, length, get_or, refl, sym, ap, subst, arith, AllPairs, Contains}
+use Rattle.std.proofs.Common.{◌≡◌, ◌∙◌, inl, inr, ℕ, List, get_or, sym, ap, arith, AllPairs}
 use Rattle.std.proofs.lemmas.Bool.{cases_lt}
 use Rattle.std.proofs.lemmas.Int.{ints}
 use Rattle.std.proofs.lemmas.List.{get_or_default}
-use Rattle.rail_types.specs.declared.bases.Base.{Base}
 use Rattle.rail_types.specs.declared.bases.BaseClaim.{BaseClaim}
 use Rattle.rail_types.specs.Occupation.{Clash}
 use Rattle.base_file.specs.Laws.{FirstOverlapsAreOne}
 use Rattle.base_file.specs.Overlaps.{Apart, AreOverlapping, IsFirstOverlap, IsNoLater}
-use Rattle.base_file.specs.Sound.{IsBaseOn}
 
 same_told : (one other x y : BaseClaim) → IsNoLater one other x y → IsNoLater x y one other → (one.claim.zone ≡ x.claim.zone) × (one.train ≡ x.train) × (other.train ≡ y.train)
 same_told one other x y (inl a) (inl b) = absurd (omega arith)

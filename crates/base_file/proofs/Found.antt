@@ -1,5 +1,5 @@
 -- Of the first two neighbours that clash, and the one behind them, the least trains that clash there come first.
-use Rattle.std.proofs.Common.{◌≡◌, ◌∙◌, ◌⊎◌, inl, inr, ℕ, suc, ◌+◌, ◌<◌, ◌≤◌, ℤ, ◌<ℤ◌, ◌≤ℤ◌, List, length, get_or, Bool, true, false, if◌then◌else◌, ◌&&◌, nat_lt, Option, Some, None, refl, sym, ap, subst, arith, add-one, All, AllPairs, Contains}
+use Rattle.std.proofs.Common.{◌≡◌, ◌∙◌, ◌⊎◌, inl, inr, ℕ, suc, ◌+◌, ◌<◌, ◌≤◌, ◌<ℤ◌, ◌≤ℤ◌, List, length, get_or, Bool, true, false, if◌then◌else◌, ◌&&◌, nat_lt, Option, Some, None, refl, sym, ap, subst, arith, add-one, Contains}
 use Rattle.std.specs.Prelude.{slice_get}
 use Rattle.std.proofs.lemmas.Bool.Decides.{nat_tests}
 use Rattle.std.proofs.lemmas.Bool.{cases_lt}
@@ -8,9 +8,9 @@ use Rattle.std.proofs.lemmas.List.{get_or_default}
 use Rattle.std.proofs.lemmas.List.Elements.{Contains-get_or}
 use Rattle.std.proofs.lemmas.Option.{get_or_from_slice_get, slice_get_within}
 use Rattle.rail_types.specs.declared.bases.BaseClaim.{BaseClaim}
-use Rattle.rail_types.specs.Occupation.{Clash, HasTicks}
+use Rattle.rail_types.specs.Occupation.{Clash}
 use Rattle.base_file.specs.declared.overlaps.Pair.{Pair}
-use Rattle.base_file.specs.Overlaps.{Apart, ApartAtHome, AreInOrder, AreOverlapping, AreSorted, ComesBy, IsFirstAt, IsFirstPair, IsNoLater, TrainsBy, begins_with, later_begin, least_pair, pair_behind, pair_of}
+use Rattle.base_file.specs.Overlaps.{AreOverlapping, AreSorted, ComesBy, IsFirstAt, IsFirstPair, IsNoLater, TrainsBy, begins_with, later_begin, least_pair, pair_behind, pair_of}
 use Rattle.base_file.proofs.Firsts.{Behind, SeenWith, later_left, later_right, placed, rises, train_by}
 
 clash_back : (x y : BaseClaim) → Clash x.claim y.claim → Clash y.claim x.claim

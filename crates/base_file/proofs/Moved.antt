@@ -1,5 +1,5 @@
 -- Claims in order, and the same claims as they stood.
-use Rattle.std.proofs.Common.{◌≡◌, ◌∙◌, ◌⊎◌, inl, inr, ℕ, suc, ◌<◌, ◌≤◌, ℤ, ◌<ℤ◌, ◌≤ℤ◌, List, length, get_or, Bool, true, false, ◌&&◌, nat_eq, int_lt, Option, Some, None, refl, sym, ap, subst, arith, All, AllPairs, Contains, IsPermutation}
+use Rattle.std.proofs.Common.{◌≡◌, inl, inr, List, length, get_or, Bool, false, ◌&&◌, nat_eq, Option, Some, None, arith, All, AllPairs, IsPermutation}
 use Rattle.std.specs.Cmp.{IsStrictWeakOrder}
 use Rattle.std.specs.List.{AllAdjacentBelow}
 use Rattle.std.specs.List.Sorted.{IsSortedBy}
@@ -8,10 +8,10 @@ use Rattle.std.proofs.lemmas.Int.{ints}
 use Rattle.std.proofs.lemmas.List.Sorted.{sorted_far, All-permutation, Contains-permutation, IsPermutation-sym}
 use Rattle.std.proofs.lemmas.Map.Keys.{IsDistinct-IsPermutation}
 use Rattle.rail_types.specs.declared.bases.BaseClaim.{BaseClaim}
-use Rattle.rail_types.specs.Occupation.{Clash, HasTicks}
+use Rattle.rail_types.specs.Occupation.{HasTicks}
 use Rattle.rail_types.specs.FirstClash.{clashes}
 use Rattle.base_file.specs.declared.overlaps.Pair.{Pair}
-use Rattle.base_file.specs.Overlaps.{Apart, ApartAtHome, AreInOrder, AreOverlapping, AreSorted, ComesBy, IsFirstPair, IsNoLater, StandsBefore, TellsPair, comes_first}
+use Rattle.base_file.specs.Overlaps.{Apart, ApartAtHome, AreInOrder, AreOverlapping, AreSorted, ComesBy, StandsBefore, TellsPair, comes_first}
 use Rattle.base_file.proofs.Firsts.{apart_far}
 use Rattle.base_file.proofs.Pairs.{distinct, pairs_of}
 

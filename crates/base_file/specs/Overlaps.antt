@@ -1,5 +1,5 @@
 -- The first overlap of two trains: the first clash by zone, then by the later of the two begins.
-use Rattle.std.specs.Prelude.{◌≡◌, ◌⊎◌, ℕ, ◌+◌, ◌<◌, ◌≤◌, ℤ, ◌<ℤ◌, Bool, ◌&&◌, ◌||◌, ◌==◌, nat_lt, nat_eq, int_lt, if◌then◌else◌, Option, Some, None, List, length, slice_index_or, All, AllPairs, Contains}
+use Rattle.std.specs.Prelude.{◌≡◌, ◌⊎◌, ℕ, ◌+◌, ◌<◌, ◌≤◌, ℤ, ◌<ℤ◌, Bool, ◌&&◌, nat_lt, nat_eq, int_lt, if◌then◌else◌, Option, Some, None, List, length, slice_index_or, All, AllPairs, Contains}
 use Rattle.std.specs.List.{AllAdjacentBelow}
 use Rattle.std.specs.Ordering.{int_eq}
 use Rattle.rail_types.specs.declared.bases.BaseClaim.{BaseClaim}
@@ -67,8 +67,8 @@ ApartAtHome one other = one.train ≡ other.train → Apart one other
 abbrev pub comes_first : BaseClaim → BaseClaim → Bool
 comes_first one other =
     if nat_eq one.claim.zone other.claim.zone then
-      if int_eq one.claim.span.from other.claim.span.from then nat_lt one.train other.train
-      else int_lt one.claim.span.from other.claim.span.from
+    if int_eq one.claim.span.from other.claim.span.from then nat_lt one.train other.train
+    else int_lt one.claim.span.from other.claim.span.from
     else nat_lt one.claim.zone other.claim.zone
 
 -- inside: one claim does not come after another by zone, begin and train

@@ -2,6 +2,7 @@
 
 ghost use Rattle.std.specs.Prelude.{◌≡◌, ◌<◌, ◌≤◌, map, IfOk};
 ghost use Rattle.serde_json.specs.View.{view};
+ghost use Rattle.json_fields.specs.Numbers.{whole_value};
 ghost use Rattle.json_fields.specs.Places.{spot_of};
 ghost use Rattle.rail_types.specs.Limits.{IsTick};
 ghost use Rattle.base_file.specs.Fields.{Gives, object_at, found_at, name_at, limited_name, number_read, within, number_at, whole_at, near, tick_at, zone_among, zone_at, flag, flag_at, list_at, elements_of};
@@ -119,6 +120,15 @@ fn whole(alloc: Global, place: &Place, value: &Value, field: &str) -> Result<i64
     ensures { Gives (λ number. number) result (whole_at place.now field.now (view value.now)) }
 {
     let found = found(alloc, place, value, field)?;
+    let number = whole_of(alloc, place, found, field)?;
+    Ok(number)
+}
+
+/// The whole number that a field's value is.
+fn whole_of(alloc: Global, place: &Place, found: &Value, field: &str) -> Result<i64, BaseFault>
+    ensures { Gives (λ number. number) result
+        (number_read (spot_of place.now field.now) (view found.now) (whole_value (view found.now))) }
+{
     let number = read(alloc, place, found, field, whole_in(found))?;
     Ok(number)
 }
@@ -242,7 +252,7 @@ pub(crate) fn flag(
     let Some(found) = value.get(field) else {
         return Ok(false);
     };
-    let number = read(alloc, place, found, field, whole_in(found))?;
+    let number = whole_of(alloc, place, found, field)?;
     let is_set = flag_of(&number, what)?;
     Ok(is_set)
 }

@@ -48,7 +48,7 @@ fn read_next(
     requires room { length claims.old < MAX_BASE_CLAIMS }
     ensures claim { GivesNextClaim claims.old claims.new result
         (claim_in zones (item_of place.now (codes "requirements") (length claims.old))
-            (view value.now)) }
+        (view value.now)) }
     ensures sound { OnOk result
         (All (IsClaimOn zones) claims.old → All (IsClaimOn zones) claims.new) }
 {
@@ -73,12 +73,7 @@ fn push_claim(
     Ok(())
 }
 
-fn read_claim(
-    alloc: Global,
-    place: &Place,
-    value: &Value,
-    zones: u32,
-) -> Result<Claim, BaseFault>
+fn read_claim(alloc: Global, place: &Place, value: &Value, zones: u32) -> Result<Claim, BaseFault>
     ensures claim { Gives (λ claim. claim) result (claim_in zones place.now (view value.now)) }
     ensures sound { IfOk result (λ claim. IsClaimOn zones claim) }
 {

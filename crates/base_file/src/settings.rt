@@ -23,7 +23,7 @@ pub(crate) fn read_settings(
     place: &Place,
     file: &Value,
 ) -> Result<Settings, BaseFault>
-    ensures settings { Gives (λ settings. settings) result 
+    ensures settings { Gives (λ settings. settings) result
         (settings_in place.now (view file.now)) }
     ensures within { IfOk result (λ settings. IsSettingsWithinLimits settings) }
 {

@@ -84,7 +84,7 @@ fn read_next(
     requires sound { ArePlanned zones planned.old }
     ensures read { GivesNext planned.old planned.new result
         (train_at zones (element (codes "trains") planned.old.trains) planned.old.elements
-            (view value.now)) }
+        (view value.now)) }
     ensures sound { OnOk result (ArePlanned zones planned.new) }
     ensures next { OnOk result (planned.new.trains ≡ planned.old.trains + 1) }
 {

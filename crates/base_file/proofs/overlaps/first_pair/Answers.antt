@@ -1,4 +1,4 @@
-use Rattle.std.proofs.Common.{◌≡◌, List, subst, sym}
+use Rattle.std.proofs.Common.{List, subst, sym}
 use Rattle.rail_types.specs.declared.bases.BaseClaim.{BaseClaim}
 use Rattle.base_file.specs.Overlaps.{AreSorted, TellsPair}
 use Rattle.base_file.proofs.Moved.{are_sorted, told_back}

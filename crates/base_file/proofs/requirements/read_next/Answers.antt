@@ -1,4 +1,4 @@
-use Rattle.std.proofs.Common.{◌≡◌, ◌∙◌, ap, subst, codes}
+use Rattle.std.proofs.Common.{◌∙◌, ap, subst, codes}
 use Rattle.serde_json.specs.View.{view}
 use Rattle.json_fields.specs.Places.{FilePlace, item_of}
 use Rattle.base_file.specs.Claims.{GivesNextClaim, claim_in}

@@ -1,7 +1,6 @@
-use Rattle.std.proofs.Common.{◌≡◌, ◌∙◌, ap, ◌+◌, ◌++◌, List, length, map, subst, sym}
+use Rattle.std.proofs.Common.{◌∙◌, ap, ◌+◌, ◌++◌, List, length, map, subst, sym}
 use Rattle.rail_types.specs.declared.bases.BaseClaim.{BaseClaim}
 use Rattle.rail_types.specs.declared.paths.Claim.{Claim}
-use Rattle.base_file.specs.declared.trains.Planned.{Planned}
 use Rattle.base_file.specs.Claims.{of_train}
 use Rattle.base_file.specs.Sound.{ArePlanned}
 use Rattle.base_file.proofs.Joining.{train_planned}
