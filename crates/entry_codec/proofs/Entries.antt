@@ -1,5 +1,5 @@
 -- Entries are read where their bodies stand.
-use Rattle.std.proofs.Common.{◌≡◌, ◌≢◌, ℕ, ◌+◌, ◌-◌, ◌^◌, ◌<◌, ◌≤◌, Bool, true, false, cond, eqb, List, [], ◌∷◌, ◌++◌, length, take, Option, Some, All, Result, Ok, Err, refl, sym, ap, subst, ◌∙◌, append_assoc, arith, inl, inr}
+use Rattle.std.proofs.Common.{◌≡◌, ◌≢◌, ℕ, zero, suc, ◌+◌, ◌-◌, ◌^◌, ◌<◌, ◌≤◌, Bool, true, false, cond, eqb, List, [], ◌∷◌, ◌++◌, length, take, Option, Some, All, Result, Ok, Err, refl, sym, ap, subst, ◌∙◌, append_assoc, arith, inl, inr}
 use Rattle.std.proofs.lemmas.Bool.{eqb-true}
 use Rattle.std.proofs.Math.Dec.{eqb-suc-zero}
 use Rattle.std.proofs.lemmas.Bool.Decides.{nat_tests}
@@ -33,7 +33,7 @@ use Rattle.entry_codec.specs.Within.{IsFourBytes, IsDeedOfItsTypes, HasBody}
 use Rattle.entry_codec.specs.Reading.{meant, any_bytes, before_all, reasoned_field, kind_of, byte_field, name_field, list_field, stop_field, run_field, asked_field, pinned_field, kind_field, deed_field, entry_field, whole, entry_at, after, Gives, GivesAll, Refuses}
 use Rattle.entry_codec.proofs.Readers.{IsBytes, Taken, joined, Spells, with_text, Reads, then_takes, then_spells, made_takes, made_spells, ok_is, under_limits, meant_reads}
 use Rattle.entry_codec.proofs.Items.{after_ok}
-use Rattle.entry_codec.proofs.Numbers.{both_true, byte_reads, number_reads, name_reads, IsNameOf}
+use Rattle.entry_codec.proofs.Numbers.{both_true, taken_bytes, byte_reads, number_reads, name_reads, IsNameOf}
 use Rattle.entry_codec.proofs.Parts.{chosen, same_some, nothing_is, limited_reads, position_reads, window_reads, claim_reads, IsClaim, AreNext, claims_read, next_claims, next_apart, are_next, all_behind, train_reads, stop_reads, IsStop, run_reads, IsRun, IsListOf, list_reads}
 
 -- ---- the lists of a grant
@@ -183,8 +183,35 @@ asked_again request path limits =
 
 -- ---- holds
 
-pub reason_reads : Reads (name_field MAX_REASON_BYTES any_bytes) name_text (IsNameOf MAX_REASON_BYTES any_bytes)
-reason_reads = name_reads MAX_REASON_BYTES any_bytes (omega arith)
+abbrev pub AreBytes : List ℕ → Type 0
+AreBytes bytes = All (λ byte. byte < 2 ^ 8) bytes
+
+each_byte : (bytes : List ℕ) → IsBytes bytes → AllByRecursion (λ (byte : ℕ). byte < 2 ^ 8) bytes
+each_byte [] fits = tt
+each_byte (byte ∷ bytes) fits = (omega (arith, fits 0), each_byte bytes (λ i. fits (suc i)))
+
+pub are_bytes : (bytes : List ℕ) → IsBytes bytes → AreBytes bytes
+are_bytes bytes fits = All-from_recursion (λ (byte : ℕ). byte < 2 ^ 8) bytes (each_byte bytes fits)
+
+byte_there : (bytes : List ℕ) → AllByRecursion (λ (byte : ℕ). byte < 2 ^ 8) bytes → IsBytes bytes
+byte_there [] each i = omega arith
+byte_there (byte ∷ bytes) each zero = omega (arith, each.0)
+byte_there (byte ∷ bytes) each (suc i) = byte_there bytes each.1 i
+
+pub bytes_there : (bytes : List ℕ) → AreBytes bytes → IsBytes bytes
+bytes_there bytes all = byte_there bytes (recursion_from_All (λ (byte : ℕ). byte < 2 ^ 8) bytes all)
+
+abbrev pub IsReason : List ℕ → Type 0
+IsReason reason = IsNameOf MAX_REASON_BYTES any_bytes reason × AreBytes reason
+
+reason_takes : (old new : Unread) (x : List ℕ) → IsBytes old.left → name_field MAX_REASON_BYTES any_bytes old ≡ Ok (x, new) → Taken old.left (name_text x) new.left × IsReason x
+reason_takes old new x fits e =
+    let taken = (name_reads MAX_REASON_BYTES any_bytes (omega arith)).takes old new x fits e in
+    let all = taken_bytes old.left (name_text x) new.left fits taken.0 in
+    (taken.0, (taken.1, are_bytes x (λ i. all (suc i))))
+
+pub reason_reads : Reads (name_field MAX_REASON_BYTES any_bytes) name_text IsReason
+reason_reads = record { takes = reason_takes; again = λ x limits. (name_reads MAX_REASON_BYTES any_bytes (omega arith)).again x limits.0 }
 
 -- a hold with a reason has its text and its kind
 some_reason : (claims : List Claim) (reason : List ℕ) → 1 ≤ length reason → (name_text reason ++ list_text claim_text claims ≡ deed_text (Hold claims reason)) × (what (Hold claims reason) ≡ kind.Reasoned)
@@ -194,9 +221,9 @@ some_reason claims (byte ∷ others) some = (refl, refl)
 zones_fit : (claims : List Claim) → AllByRecursion IsClaim claims → All (λ claim. IsFourBytes claim.zone) claims
 zones_fit claims h = All-weaker IsClaim (λ claim. IsFourBytes claim.zone) (λ claim p. p.0) claims (All-from_recursion IsClaim claims h)
 
-hold_fits : (claims : List Claim) (reason : List ℕ) → AreNext before_all claims → (1 ≤ length claims) × (length claims ≤ MAX_HOLD_CLAIMS) → length reason ≤ MAX_REASON_BYTES → (reason ≡ [] → length claims ≡ 1)
-    → IsHoldWithinLimits claims reason × All (λ claim. IsFourBytes claim.zone) claims
-hold_fits claims reason next count short plain =
+pub hold_fits : (claims : List Claim) (reason : List ℕ) → AreNext before_all claims → (1 ≤ length claims) × (length claims ≤ MAX_HOLD_CLAIMS) → length reason ≤ MAX_REASON_BYTES → (reason ≡ [] → length claims ≡ 1)
+    → AreBytes reason → IsDeed (Hold claims reason)
+hold_fits claims reason next count short plain bytes =
     let each = next_claims before_all claims next in
     let all = All-from_recursion IsClaim claims each in (
       record {
@@ -207,7 +234,7 @@ hold_fits claims reason next count short plain =
         short = short;
         plain = plain;
       },
-      zones_fit claims each,
+      (zones_fit claims each, bytes),
     )
 
 pub hold_next : (claims : List Claim) (reason : List ℕ) → IsHoldWithinLimits claims reason → All (λ claim. IsFourBytes claim.zone) claims → AreNext before_all claims
@@ -222,29 +249,29 @@ reasoned_takes old new x fits e =
     then_takes (limited_reads 1 MAX_HOLD_CLAIMS (omega arith)) _ _ mid1 (x, new) t1.fits e1 (λ count mid2 t2 l2 e2.
     then_takes (claims_read count before_all) _ _ mid2 (x, new) t2.fits e2 (λ claims mid3 t3 l3 e3.
     let counted : Taken mid1.left (to_be_bytes w32 (length claims)) mid2.left = subst (λ (n : ℕ). Taken mid1.left (to_be_bytes w32 n) mid2.left) (sym l3.0) t2 in
-    let fit = hold_fits claims reason l3.1 (omega (arith, l2.0, l3.0), omega (arith, l2.1, l3.0)) l1.count (λ none_is. absurd (omega (arith, l1.some, ap length none_is))) in
-    let told = some_reason claims reason l1.some in
+    let fit = hold_fits claims reason l3.1 (omega (arith, l2.0, l3.0), omega (arith, l2.1, l3.0)) l1.0.count (λ none_is. absurd (omega (arith, l1.0.some, ap length none_is))) l1.1 in
+    let told = some_reason claims reason l1.0.some in
     made_takes old mid3 new (Hold claims reason) x deed_text (λ deed. IsDeed deed × (what deed ≡ kind.Reasoned)) e3
     (subst (λ (w : List ℕ). Taken old.left w mid3.left) told.0 (joined t1 (joined counted t3))) (fit, told.1))))
 
 reasoned_again : (claims : List Claim) (byte : ℕ) (others : List ℕ) → IsDeed (Hold claims (byte ∷ others)) → Spells (deed_text (Hold claims (byte ∷ others))) reasoned_field (Hold claims (byte ∷ others))
 unfolding reasoned_field
 reasoned_again claims byte others limits =
-    then_spells (reason_reads.again (byte ∷ others) (record { some = omega arith; count = limits.0.short; test_is = refl })) _ (
+    then_spells (reason_reads.again (byte ∷ others) (record { some = omega arith; count = limits.0.short; test_is = refl }, limits.1.1)) _ (
     then_spells ((limited_reads 1 MAX_HOLD_CLAIMS (omega arith)).again (length claims) (limits.0.some, limits.0.count)) _ (
-    made_spells ((claims_read (length claims) before_all).again claims (refl, hold_next claims (byte ∷ others) limits.0 limits.1)) _ (Hold claims (byte ∷ others)) refl))
+    made_spells ((claims_read (length claims) before_all).again claims (refl, hold_next claims (byte ∷ others) limits.0 limits.1.0)) _ (Hold claims (byte ∷ others)) refl))
 
 one_text : (claim : Claim) → claim_text claim ≡ flat_map claim_text (claim ∷ [])
 one_text claim = sym (flat_map-cons claim_text claim [] ∙ append-nil (claim_text claim))
 
-plain_fits : (claim : Claim) → IsClaim claim → IsDeed (Hold (claim ∷ []) [])
-plain_fits claim l = hold_fits (claim ∷ []) [] ((l, all_behind claim l.1), tt) (omega arith, omega arith) (omega arith) (λ none_is. refl)
+pub plain_fits : (claim : Claim) → IsClaim claim → IsDeed (Hold (claim ∷ []) [])
+plain_fits claim l = hold_fits (claim ∷ []) [] ((l, all_behind claim l.1), tt) (omega arith, omega arith) (omega arith) (λ none_is. refl) (are_bytes [] (λ i. omega arith))
 
 plain_again : (claims : List Claim) → IsDeed (Hold claims []) → Spells (deed_text (Hold claims [])) (deed_field kind.Hold) (Hold claims [])
 unfolding deed_field
 plain_again [] limits = absurd (omega (arith, limits.0.some))
 plain_again (claim ∷ []) limits =
-    let zone = (recursion_from_All (λ (claim : Claim). IsFourBytes claim.zone) (claim ∷ []) limits.1).0 in
+    let zone = (recursion_from_All (λ (claim : Claim). IsFourBytes claim.zone) (claim ∷ []) limits.1.0).0 in
     let within = (recursion_from_All IsClaimWithinLimits (claim ∷ []) limits.0.within).0 in
     with_text (one_text claim) (made_spells (claim_reads.again claim (zone, within)) _ (Hold (claim ∷ []) []) refl)
 plain_again (claim ∷ other ∷ claims) limits = absurd (omega (arith, limits.0.plain refl))
@@ -291,7 +318,7 @@ pub name_bytes_are : (name : List ℕ) → AllByRecursion IsNameByte name → li
 name_bytes_are [] h = refl
 name_bytes_are (x ∷ xs) h = rw (name_byte_is x h.0, name_bytes_are xs h.1) refl
 
-owner_takes : (name : List ℕ) → IsNameOf MAX_OWNER_BYTES (list_all is_name_byte) name → IsClientName name
+pub owner_takes : (name : List ℕ) → IsNameOf MAX_OWNER_BYTES (list_all is_name_byte) name → IsClientName name
 owner_takes name h = record { some = h.some; short = h.count; bytes = All-from_recursion IsNameByte name (name_bytes_pass name h.test_is) }
 
 pub owner_back : (name : List ℕ) → IsClientName name → IsNameOf MAX_OWNER_BYTES (list_all is_name_byte) name

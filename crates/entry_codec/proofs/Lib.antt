@@ -9,3 +9,5 @@ pub mod Texts
 pub mod Stops
 pub mod Wrongs
 pub mod Refusals
+pub mod Alike
+pub mod Examples

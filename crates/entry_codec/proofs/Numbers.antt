@@ -22,7 +22,7 @@ guard_ok false at p q e = (refl, cc)
 front_bytes : (bytes rest : List ℕ) → IsBytes (bytes ++ rest) → IsBytes bytes
 front_bytes bytes rest fits = subst IsBytes (take_at bytes rest (length bytes) refl) (IsBytes-take (length bytes) (bytes ++ rest) fits)
 
-taken_bytes : (old text new : List ℕ) → IsBytes old → Taken old text new → IsBytes text
+pub taken_bytes : (old text new : List ℕ) → IsBytes old → Taken old text new → IsBytes text
 taken_bytes old text new fits taken = front_bytes text new (subst IsBytes taken.parts fits)
 
 bytes_take : (count : ℕ) (old new : Unread) (x : List ℕ) → IsBytes old.left → bytes_field count old ≡ Ok (x, new) → Taken old.left x new.left × (length x ≡ count)

@@ -57,7 +57,7 @@ position_reads =
 
 -- ---- ticks
 
-tick_passes : (t : ℤ) → is_tick t ≡ true → IsTick t
+pub tick_passes : (t : ℤ) → is_tick t ≡ true → IsTick t
 tick_passes t e = let b = both_true (int_le (neg_ℤ MAX_TICK) t) (int_le t MAX_TICK) e in (grind (arith, ints, b.0), grind (arith, ints, b.1))
 
 pub tick_is : (t : ℤ) → IsTick t → is_tick t ≡ true
@@ -66,7 +66,7 @@ tick_is t h = grind (arith, ints, h.0, h.1)
 tick_fits : (t : ℤ) → IsTick t → FitsSigned w64 t
 tick_fits t h = omega (arith, ints, h.0, h.1)
 
-later_passes : (from t : ℤ) → (is_tick t && int_lt from t) ≡ true → IsTick t × (from <ℤ t)
+pub later_passes : (from t : ℤ) → (is_tick t && int_lt from t) ≡ true → IsTick t × (from <ℤ t)
 later_passes from t e = let b = both_true (is_tick t) (int_lt from t) e in (tick_passes t b.0, grind (arith, ints, b.1))
 
 pub later_is : (from t : ℤ) → IsTick t × (from <ℤ t) → (is_tick t && int_lt from t) ≡ true
@@ -233,7 +233,7 @@ or_right : (a b : Bool) → b ≡ true → (a || b) ≡ true
 or_right true b e = refl
 or_right false b e = e
 
-behind_passes : (before : Claim) (zone : ℕ) (t : ℤ) → is_behind before zone t ≡ true → IsTick t × IsBehind before zone t
+pub behind_passes : (before : Claim) (zone : ℕ) (t : ℤ) → is_behind before zone t ≡ true → IsTick t × IsBehind before zone t
 behind_passes before zone t e =
     let b = both_true (is_tick t) (nat_lt before.zone zone || int_lt before.span.to t) e in (
       tick_passes t b.0,

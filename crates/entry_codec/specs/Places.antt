@@ -16,8 +16,8 @@ use Rattle.rail_types.specs.declared.entries.Wanted.TheVariants.{Asked, Pinned}
 use Rattle.rail_types.specs.declared.entries.Deed.{Deed}
 use Rattle.rail_types.specs.declared.entries.Deed.TheVariants.{Hold, Grant, Free}
 use Rattle.rail_types.specs.declared.entries.Entry.{Entry}
-use Rattle.entry_codec.specs.Body.{body_of, kind_byte, flag_byte}
-use Rattle.entry_codec.specs.Within.{HasBody}
+use Rattle.entry_codec.specs.Body.{kind_byte, flag_byte}
+use Rattle.entry_codec.specs.Within.{IsFormed}
 use Rattle.entry_codec.specs.Reading.{before_all, is_behind, any_bytes}
 
 -- a field: its bytes, and whether it has a value that it may have
@@ -116,23 +116,25 @@ fields_of entry =
     ∷ number_of entry.line true
     ∷ name_fields MAX_OWNER_BYTES (list_all is_name_byte) entry.owner ++ deed_fields entry.deed
 
--- no entry's body begins with the bytes
-abbrev pub BeginsNone : List ℕ → Type 0
-BeginsNone bytes =
-    (entry : Entry) (more : List ℕ) → HasBody entry → body_of entry ≡ bytes ++ more → ⊥
+-- no entry of the form has, behind these fields, a field of these bytes that is right
+abbrev pub NoneIsRight : List Field → List ℕ → Type 0
+NoneIsRight before bytes =
+    (entry : Entry) (field : Field) (behind : List Field) → IsFormed entry
+    → fields_of entry ≡ before ++ field ∷ behind → field.bytes ≡ bytes → field.right ≡ true → ⊥
 
--- behind right fields, what is left begins with no field that is right: its bytes are missing, it is there and begins
--- no entry's body, or no field is left and bytes are
+-- behind right fields, what is left begins with no field that is right: its bytes are missing, they are there and no
+-- right field has them, or no field is left and bytes are
 abbrev pub StopsAt : List Field → List Field → List ℕ → ℕ → Type 0
 StopsAt before [] rest at = (rest ≢ []) × (at ≡ length (bytes_of before))
 StopsAt before (field ∷ behind) rest at =
     ((length rest < length field.bytes) × (at ≡ length (bytes_of before) + length rest))
     ⊎ ((length field.bytes ≤ length rest) × (at ≡ length (bytes_of before))
-    × BeginsNone (bytes_of before ++ take (length field.bytes) rest))
+    × NoneIsRight before (take (length field.bytes) rest))
 
--- the body begins as an entry does whose fields are right up to the one that is wrong
+-- the body begins as an entry of the form does whose fields are right up to the one that is wrong
 pub record IsWrongAt (body : List ℕ) (at : ℕ) : Type 0 where
   pub entry : Entry
+  pub formed : IsFormed entry
   pub before : List Field
   pub behind : List Field
   pub fields : fields_of entry ≡ before ++ behind

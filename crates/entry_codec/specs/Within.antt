@@ -1,5 +1,5 @@
 -- Which entries have a body.
-use Rattle.std.specs.Prelude.{ℕ, ◌^◌, ◌<◌, All}
+use Rattle.std.specs.Prelude.{◌≡◌, ℕ, ◌^◌, ◌<◌, [], ◌∷◌, length, All}
 use Rattle.rail_types.specs.declared.trains.Request.{Request}
 use Rattle.rail_types.specs.declared.entries.Wanted.TheVariants.{Asked, Pinned}
 use Rattle.rail_types.specs.declared.entries.Deed.{Deed}
@@ -19,7 +19,8 @@ pub record IsWishOfItsTypes (request : Request) : Type 0 where
 
 -- and of a deed
 abbrev pub IsDeedOfItsTypes : Deed → Type 0
-IsDeedOfItsTypes (Hold claims reason) = All (λ claim. IsFourBytes claim.zone) claims
+IsDeedOfItsTypes (Hold claims reason) =
+    All (λ claim. IsFourBytes claim.zone) claims × All (λ byte. byte < 2 ^ 8) reason
 IsDeedOfItsTypes (Grant (Asked request) path) =
     IsWishOfItsTypes request × All (λ run. IsFourBytes run.block) path.runs
 IsDeedOfItsTypes (Grant Pinned path) = All (λ run. IsFourBytes run.block) path.runs
@@ -30,3 +31,23 @@ pub record HasBody (entry : Entry) : Type 0 where
   pub limits : IsEntryWithinLimits entry
   pub line : IsFourBytes entry.line
   pub deed : IsDeedOfItsTypes entry.deed
+
+-- a hold without a reason has one claim; its body has no count of them
+abbrev pub HasOneIfPlain : Deed → Type 0
+HasOneIfPlain (Hold claims []) = length claims ≡ 1
+HasOneIfPlain (Hold claims (byte ∷ others)) = Unit {0}
+HasOneIfPlain (Grant wanted path) = Unit {0}
+HasOneIfPlain (Free entry) = Unit {0}
+
+-- what an asked grant was asked for has the train of its path, which stands in the body once
+abbrev pub HasItsTrain : Deed → Type 0
+HasItsTrain (Hold claims reason) = Unit {0}
+HasItsTrain (Grant (Asked request) path) = request.train ≡ path.train
+HasItsTrain (Grant Pinned path) = Unit {0}
+HasItsTrain (Free entry) = Unit {0}
+
+-- an entry that can be spelled as one of its kind, be its numbers within the limits or not
+pub record IsFormed (entry : Entry) : Type 0 where
+  pub line : IsFourBytes entry.line
+  pub deed : IsDeedOfItsTypes entry.deed
+  pub plain : HasOneIfPlain entry.deed

@@ -9,7 +9,9 @@ mod reading;
 mod writing;
 
 pub use faults::EntryFault;
-pub use reading::{one_entry, read, refusals_are_placed};
+pub use reading::{
+    examples_have_their_bodies, one_entry, read, refusals_are_placed, wrong_place_is_one,
+};
 pub use writing::{body_len, write};
 
 #[cfg(test)]

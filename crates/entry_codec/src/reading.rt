@@ -1,15 +1,16 @@
 //! An entry read from its body.
 
 ghost use Rattle.entry_codec.specs.Places.{IsWrongAt, bytes_of, fields_of};
-ghost use Rattle.std.specs.Prelude.{All, true, ◌≡◌, ◌≢◌, ℕ, ◌<◌, List, [], ◌∷◌, ◌++◌, length, take, Ok, Err, IfOk, IfErr};
+ghost use Rattle.std.specs.Prelude.{All, true, ◌≡◌, ◌≢◌, ℕ, ◌^◌, ◌<◌, List, [], ◌∷◌, ◌++◌, length, take, Ok, Err, IfOk, IfErr};
 ghost use Rattle.std.specs.List.{list_all};
 ghost use Rattle.rail_types.specs.declared.entries.Entry.{Entry as entry_type};
 ghost use Rattle.rail_types.specs.Limits.{is_name_byte};
 ghost use Rattle.rail_types.specs.declared.entries.Deed.TheVariants.{Hold};
 ghost use Rattle.entry_codec.specs.declared.faults.EntryFault.TheVariants.{NotEntry, Memory};
 ghost use Rattle.entry_codec.specs.Body.{body_of};
-ghost use Rattle.entry_codec.specs.Within.{HasBody};
+ghost use Rattle.entry_codec.specs.Within.{HasBody, HasItsTrain, IsFormed};
 ghost use Rattle.entry_codec.specs.Reading.{Gives, before_all, claims_field, reasoned_field, owner_field, items_field, list_field, stop_field, run_field, asked_field, pinned_field, deed_field, entry_field, entry_at, GivesAll, Refuses};
+ghost use Rattle.entry_codec.specs.Examples.{hold, hold_body, reasoned, reasoned_body, free, free_body, pinned, pinned_body, asked, asked_body, with_bytes, last_tick, tick_behind_the_last, zone_0_from_9};
 
 use crate::faults::EntryFault;
 use crate::finding::{
@@ -188,7 +189,7 @@ pub fn read(alloc: Global, body: &[u8]) -> Result<Entry, EntryFault>
     ensures none { IfErr result (λ fault. Refuses fault body.now) }
     // What the body spells, or where the first wrong field begins.
     ensures place { GivesAll result (entry_at body.now) }
-    // Some entry has the fields before it, all right; it is missing, or no body begins with them and it.
+    // An entry of the form has the fields before it, all right; it is missing, or none has a right one of its bytes.
     ensures first { (at : ℕ) → result ≡ Err (NotEntry at) → IsWrongAt body.now at }
     // Where it is wrong is told whatever memory there is.
     ensures wrong { (at : ℕ) → entry_at body.now ≡ Err at → result ≡ Err (NotEntry at) }
@@ -200,8 +201,12 @@ pub fn read(alloc: Global, body: &[u8]) -> Result<Entry, EntryFault>
 /// No body has two entries, and none begins the body of another entry: whatever follows it, an entry is told from its
 /// body.
 pub fn one_entry()
-    ensures { (a b : entry_type) (x y : List ℕ) → HasBody a → HasBody b
+    ensures apart { (a b : entry_type) (x y : List ℕ) → HasBody a → HasBody b
         → body_of a ++ x ≡ body_of b ++ y → (a ≡ b) × (x ≡ y) }
+    // A body is read as its entry, and what is read as an entry is its body.
+    ensures back { (e : entry_type) → HasBody e → entry_at (body_of e) ≡ Ok e }
+    ensures spelled { (body : List ℕ) (e : entry_type) → All (λ byte. byte < 2 ^ 8) body
+        → entry_at body ≡ Ok e → HasBody e × (body ≡ body_of e) }
 {}
 
 /// Where bytes of a body are missing, its refusal is placed at the end of those that are there; where bytes stand behind
@@ -215,4 +220,35 @@ pub fn refusals_are_placed()
         → entry_at (take count (body_of e)) ≡ Err count }
     ensures surplus { (entry : entry_type) (rest : List ℕ) → HasBody entry → rest ≢ []
         → entry_at (body_of entry ++ rest) ≡ Err (length (body_of entry)) }
+{}
+
+/// Where a body is wrong by its fields is one place at most, and none in the body of an entry; what reading tells is
+/// wrong there.
+///
+/// An entry of the form whose fields are right has a body, so that no field is called right for which no limit stands.
+pub fn wrong_place_is_one()
+    ensures one { (body : List ℕ) (a b : ℕ) → IsWrongAt body a → IsWrongAt body b → a ≡ b }
+    ensures never { (e : entry_type) (at : ℕ) → HasBody e → IsWrongAt (body_of e) at → ⊥ }
+    ensures told { (body : List ℕ) (at : ℕ) → All (λ byte. byte < 2 ^ 8) body
+        → entry_at body ≡ Err at → IsWrongAt body at }
+    ensures full { (e : entry_type) → IsFormed e → HasItsTrain e.deed
+        → All (λ field. field.right ≡ true) (fields_of e) → HasBody e }
+{}
+
+/// Bodies that were written out by hand are those of their entries, one of each kind; and where bytes in their place
+/// are wrong.
+pub fn examples_have_their_bodies()
+    ensures hold { HasBody hold × (body_of hold ≡ hold_body) }
+    ensures reasoned { HasBody reasoned × (body_of reasoned ≡ reasoned_body) }
+    ensures free { HasBody free × (body_of free ≡ free_body) }
+    ensures pinned { HasBody pinned × (body_of pinned ≡ pinned_body) }
+    ensures asked { HasBody asked × (body_of asked ≡ asked_body) }
+    // A hold from 38 to 38; one from the last tick, behind which no end is a tick.
+    ensures no_ticks { entry_at (with_bytes hold_body 34 (38 ∷ [])) ≡ Err 27 }
+    ensures last { entry_at (with_bytes hold_body 19 (last_tick ++ tick_behind_the_last)) ≡ Err 27 }
+    ensures kind { entry_at (with_bytes hold_body 0 (0 ∷ [])) ≡ Err 0 }
+    ensures no_reason { entry_at (with_bytes reasoned_body 15 (0 ∷ [])) ≡ Err 15 }
+    // A claim that begins where the one before it on its zone ends.
+    ensures touches { entry_at (with_bytes reasoned_body 45 (zone_0_from_9 ++ last_tick)) ≡ Err 49 }
+    ensures sign { entry_at (with_bytes free_body 16 (128 ∷ [])) ≡ Err 16 }
 {}

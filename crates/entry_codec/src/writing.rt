@@ -61,6 +61,7 @@ fn add_bytes(to: &mut Buffer, bytes: &[u8])
     requires { length bytes.now ≤ to.old.spare }
     ensures held { to.new.held ≡ to.old.held ++ bytes.now }
     ensures spare { to.old.spare ≤ to.new.spare + length bytes.now }
+    ensures bytes { All (λ byte. byte < 2 ^ 8) bytes.now }
 {
     let Ok(()) = put_bytes(to, bytes) else {
         unreachable!()
@@ -72,6 +73,7 @@ fn add_name(to: &mut Buffer, name: &Name)
     requires room { 1 + length name.now ≤ to.old.spare }
     ensures held { to.new.held ≡ to.old.held ++ name_text name.now }
     ensures spare { to.old.spare ≤ to.new.spare + (1 + length name.now) }
+    ensures bytes { All (λ byte. byte < 2 ^ 8) name.now }
 {
     let bytes = name.as_bytes();
     add_byte(to, bytes.len() as u8);
@@ -211,6 +213,7 @@ fn add_hold(to: &mut Buffer, claims: &List<Claim>, reason: &Name)
     ensures held { to.new.held ≡ to.old.held ++ hold_text claims.now reason.now }
     ensures spare { to.old.spare ≤ to.new.spare + length (hold_text claims.now reason.now) }
     ensures typed { All (λ claim. IsFourBytes claim.zone) claims.now }
+    ensures bytes { All (λ byte. byte < 2 ^ 8) reason.now }
 {
     if reason.as_bytes().is_empty() {
         add_claims(to, claims.as_slice());
@@ -309,7 +312,8 @@ pub fn body_len(entry: &Entry) -> usize
 /// Appends the body of an entry. For want of memory nothing changes; where the body has room no memory is taken.
 ///
 /// The entry is within the limits that a reader of client lines keeps: a client's name, ticks and numbers in range, a
-/// pinned path of 1 to 4,096 runs, and for a request that was asked a path of its train with at least one run.
+/// pinned path of 1 to 4,096 runs, and for a request that was asked a path of its train with at least one run. An entry
+/// outside them has no body, so it isn't written, though its path be one that a horizon holds.
 pub fn write(entry: &Entry, to: &mut Buffer) -> Result<(), NoMemory>
     requires { IsEntryWithinLimits entry.now }
     ensures ok { OnOk result (to.new.held ≡ to.old.held ++ body_of entry.now) }

@@ -1,0 +1,7 @@
+pub mod Lists
+pub mod Pairs
+pub mod Joining
+pub mod Firsts
+pub mod Found
+pub mod Moved
+pub mod Facts
