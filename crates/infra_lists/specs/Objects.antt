@@ -94,19 +94,19 @@ switch_at tracks index before d = switch_in (element (codes "switches") index) t
 -- ---- whole lists
 
 -- the tracks of a file
-abbrev pub tracks_in : Data → Result (List Track) InfraFault
+unfoldable pub tracks_in : Data → Result (List Track) InfraFault
 tracks_in d = do
   items ← list_at whole_file (codes "track_sections") d
   read_each id_of_track track_at [] items
 
 -- the switches of a file
-abbrev pub switches_in : List Track → Data → Result (List Switch) InfraFault
+unfoldable pub switches_in : List Track → Data → Result (List Switch) InfraFault
 switches_in tracks d = do
   items ← list_at whole_file (codes "switches") d
   read_each id_of_switch (switch_at (map id_of_track tracks)) [] items
 
 -- the detectors or the buffer stops of a file
-abbrev pub all_placed_in : List ℕ → List Track → Data → Result (List Placed) InfraFault
+unfoldable pub all_placed_in : List ℕ → List Track → Data → Result (List Placed) InfraFault
 all_placed_in name tracks d = do
   items ← list_at whole_file name d
   read_each id_of_placed (placed_at name (map id_of_track tracks)) [] items

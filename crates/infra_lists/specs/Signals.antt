@@ -70,7 +70,7 @@ abbrev pub signal_at : List (List ℕ) → ℕ → List (List ℕ) → Data → 
 signal_at tracks index before d = signal_in (element (codes "signals") index) tracks before d
 
 -- the signals of a file
-abbrev pub signals_in : List Track → Data → Result (List Signal) InfraFault
+unfoldable pub signals_in : List Track → Data → Result (List Signal) InfraFault
 signals_in tracks d = do
   items ← list_at whole_file (codes "signals") d
   read_each id_of_signal (signal_at (map id_of_track tracks)) [] items

@@ -20,6 +20,7 @@ use serde_json::Value;
 use std::alloc::Global;
 
 /// The signals of a file.
+#[tactic(auto, unfolding(crate::specs::Signals::signals_in))]
 pub fn signals_of<'a>(
     alloc: Global,
     file: &'a Value,

@@ -21,6 +21,7 @@ use serde_json::Value;
 use std::alloc::Global;
 
 /// The switches of a file.
+#[tactic(auto, unfolding(crate::specs::Objects::switches_in))]
 pub fn switches_of<'a>(
     alloc: Global,
     file: &'a Value,

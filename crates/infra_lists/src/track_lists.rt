@@ -3,6 +3,7 @@
 ghost use Rattle.infra_types.specs.Ids.{id_of_placed, id_of_track};
 ghost use Rattle.std.specs.Prelude.{◌≡◌, ◌<◌, ◌≤◌, [], codes, length, map, All, IfOk, OnOk};
 ghost use Rattle.serde_json.specs.View.{view};
+ghost use Rattle.named_network.specs.Named.{IsId};
 ghost use Rattle.rail_types.specs.declared.limits.TheConstants.{MAX_OBJECTS};
 ghost use Rattle.infra_fields.specs.Fields.{Gives, GivesNext, read_each};
 ghost use Rattle.infra_types.specs.Infras.{IsTrack, IsPlaced};
@@ -17,10 +18,12 @@ use serde_json::Value;
 use std::alloc::Global;
 
 /// The tracks of a file.
+#[tactic(auto, unfolding(crate::specs::Objects::tracks_in))]
 pub fn tracks_of<'a>(alloc: Global, file: &'a Value) -> Result<Listed<'a, Track>, InfraFault>
     ensures read { Gives (λ tracks. tracks) result (tracks_in (view file.now)) }
     ensures few { IfOk result (λ tracks. length tracks ≤ MAX_OBJECTS) }
     ensures within { IfOk result (λ tracks. All IsTrack tracks) }
+    ensures named { IfOk result (λ tracks. All (λ track. IsId track.id) tracks) }
 {
     let place = Place::of_file();
     let items = list(alloc, &place, file, "track_sections")?;
@@ -34,6 +37,7 @@ fn read_tracks<'a>(alloc: Global, list: &'a [Value]) -> Result<Listed<'a, Track>
     ensures read { Gives (λ tracks. tracks) result (read_each id_of_track track_at [] (map view list.now)) }
     ensures few { IfOk result (λ tracks. length tracks ≤ MAX_OBJECTS) }
     ensures within { IfOk result (λ tracks. All IsTrack tracks) }
+    ensures named { IfOk result (λ tracks. All (λ track. IsId track.id) tracks) }
 {
     let mut tracks = Listed::new(alloc);
     'objects: for value in list {
@@ -50,8 +54,10 @@ fn read_track<'a>(
 ) -> Result<(), InfraFault>
     requires room { length tracks.old < MAX_OBJECTS }
     requires within { All IsTrack tracks.old }
+    requires named { All (λ track. IsId track.id) tracks.old }
     ensures read { GivesNext tracks.old tracks.new result (track_at index (map id_of_track tracks.old) (view value.now)) }
     ensures within { OnOk result (All IsTrack tracks.new) }
+    ensures named { OnOk result (All (λ track. IsId track.id) tracks.new) }
 {
     let place = Place::of_element("track_sections", index);
     push_track(alloc, &place, value, tracks)
@@ -65,8 +71,10 @@ fn push_track<'a>(
 ) -> Result<(), InfraFault>
     requires room { length tracks.old < MAX_OBJECTS }
     requires within { All IsTrack tracks.old }
+    requires named { All (λ track. IsId track.id) tracks.old }
     ensures read { GivesNext tracks.old tracks.new result (track_in place.now (map id_of_track tracks.old) (view value.now)) }
     ensures within { OnOk result (All IsTrack tracks.new) }
+    ensures named { OnOk result (All (λ track. IsId track.id) tracks.new) }
 {
     object(alloc, place, value)?;
     let id = new_id(alloc, place, value, tracks)?;
@@ -89,6 +97,7 @@ fn length_m(alloc: Global, place: &Place, value: &Value) -> Result<u32, InfraFau
 }
 
 /// The detectors or the buffer stops of a file, by the name of their list.
+#[tactic(auto, unfolding(crate::specs::Objects::all_placed_in))]
 pub fn placed_of<'a>(
     alloc: Global,
     file: &'a Value,

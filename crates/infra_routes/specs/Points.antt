@@ -38,7 +38,7 @@ abbrev pub point_at : List (List ℕ) → ℕ → List (List ℕ) → Data → R
 point_at tracks index before d = point_in (element (codes "operational_points") index) tracks before d
 
 -- the operational points of a file
-abbrev pub points_in : List Track → Data → Result (List OperationalPoint) InfraFault
+unfoldable pub points_in : List Track → Data → Result (List OperationalPoint) InfraFault
 points_in tracks d = do
   items ← list_at whole_file (codes "operational_points") d
   read_each id_of_point (point_at (map id_of_track tracks)) [] items

@@ -132,7 +132,7 @@ route_at switches detectors stops index before d =
     route_in (element (codes "routes") index) switches detectors stops before d
 
 -- the routes of a file
-abbrev pub routes_in : List Switch → List Placed → List Placed → Data → Result (List Route) InfraFault
+unfoldable pub routes_in : List Switch → List Placed → List Placed → Data → Result (List Route) InfraFault
 routes_in switches detectors stops d = do
   items ← list_at whole_file (codes "routes") d
   read_each id_of_route (route_at (map id_of_switch switches) (map id_of_placed detectors) (map id_of_placed stops)) [] items

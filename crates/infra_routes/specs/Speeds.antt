@@ -81,7 +81,7 @@ abbrev pub speed_at : List Track → ℕ → List (List ℕ) → Data → Result
 speed_at tracks index before d = speed_in (element (codes "speed_sections") index) tracks before d
 
 -- the speed sections of a file
-abbrev pub speeds_in : List Track → Data → Result (List SpeedSection) InfraFault
+unfoldable pub speeds_in : List Track → Data → Result (List SpeedSection) InfraFault
 speeds_in tracks d = do
   items ← list_at whole_file (codes "speed_sections") d
   read_each id_of_speed (speed_at tracks) [] items

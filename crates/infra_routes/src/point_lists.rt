@@ -3,6 +3,7 @@
 ghost use Rattle.infra_types.specs.Ids.{id_of_point, id_of_track};
 ghost use Rattle.std.specs.Prelude.{◌≡◌, ◌<◌, ◌≤◌, [], codes, length, map, All, IfOk, OnOk};
 ghost use Rattle.serde_json.specs.View.{view};
+ghost use Rattle.named_network.specs.Named.{IsId};
 ghost use Rattle.rail_types.specs.declared.limits.TheConstants.{MAX_OBJECTS};
 ghost use Rattle.infra_fields.specs.Fields.{Gives, GivesNext, read_each, read_items};
 ghost use Rattle.infra_types.specs.Infras.{IsPoint};
@@ -17,6 +18,7 @@ use serde_json::Value;
 use std::alloc::Global;
 
 /// The operational points of a file.
+#[tactic(auto, unfolding(crate::specs::Points::points_in))]
 pub fn points_of<'a>(
     alloc: Global,
     file: &'a Value,
@@ -25,6 +27,7 @@ pub fn points_of<'a>(
     ensures read { Gives (λ points. points) result (points_in tracks.now (view file.now)) }
     ensures few { IfOk result (λ points. length points ≤ MAX_OBJECTS) }
     ensures within { IfOk result (λ points. All (IsPoint (length tracks.now)) points) }
+    ensures named { IfOk result (λ points. All (λ point. IsId point.id) points) }
 {
     let place = Place::of_file();
     let items = list(alloc, &place, file, "operational_points")?;
@@ -43,6 +46,7 @@ fn read_points<'a>(
         (read_each id_of_point (point_at (map id_of_track tracks.now)) [] (map view list.now)) }
     ensures few { IfOk result (λ points. length points ≤ MAX_OBJECTS) }
     ensures within { IfOk result (λ points. All (IsPoint (length tracks.now)) points) }
+    ensures named { IfOk result (λ points. All (λ point. IsId point.id) points) }
 {
     let mut points = Listed::new(alloc);
     'objects: for value in list {
@@ -60,9 +64,11 @@ fn read_point<'a>(
 ) -> Result<(), InfraFault>
     requires room { length points.old < MAX_OBJECTS }
     requires within { All (IsPoint (length tracks.now)) points.old }
+    requires named { All (λ point. IsId point.id) points.old }
     ensures read { GivesNext points.old points.new result
         (point_at (map id_of_track tracks.now) index (map id_of_point points.old) (view value.now)) }
     ensures within { OnOk result (All (IsPoint (length tracks.now)) points.new) }
+    ensures named { OnOk result (All (λ point. IsId point.id) points.new) }
 {
     let place = Place::of_element("operational_points", index);
     push_point(alloc, &place, value, tracks, points)
@@ -77,9 +83,11 @@ fn push_point<'a>(
 ) -> Result<(), InfraFault>
     requires room { length points.old < MAX_OBJECTS }
     requires within { All (IsPoint (length tracks.now)) points.old }
+    requires named { All (λ point. IsId point.id) points.old }
     ensures read { GivesNext points.old points.new result
         (point_in place.now (map id_of_track tracks.now) (map id_of_point points.old) (view value.now)) }
     ensures within { OnOk result (All (IsPoint (length tracks.now)) points.new) }
+    ensures named { OnOk result (All (λ point. IsId point.id) points.new) }
 {
     object(alloc, place, value)?;
     let id = new_id(alloc, place, value, points)?;

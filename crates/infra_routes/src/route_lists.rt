@@ -3,6 +3,7 @@
 ghost use Rattle.infra_types.specs.Ids.{id_of_placed, id_of_route, id_of_switch};
 ghost use Rattle.std.specs.Prelude.{◌≡◌, ◌<◌, ◌≤◌, [], codes, length, map, All, IfOk, OnOk};
 ghost use Rattle.serde_json.specs.View.{view};
+ghost use Rattle.named_network.specs.Named.{IsId};
 ghost use Rattle.rail_types.specs.declared.limits.TheConstants.{MAX_OBJECTS};
 ghost use Rattle.infra_fields.specs.Fields.{Gives, GivesNext, read_each, read_items};
 ghost use Rattle.infra_types.specs.Infras.{IsRoute, IsRoutePoint};
@@ -20,6 +21,7 @@ use serde_json::Value;
 use std::alloc::Global;
 
 /// The routes of a file.
+#[tactic(auto, unfolding(crate::specs::Routes::routes_in))]
 pub fn routes_of<'a>(
     alloc: Global,
     file: &'a Value,
@@ -32,6 +34,7 @@ pub fn routes_of<'a>(
     ensures few { IfOk result (λ routes. length routes ≤ MAX_OBJECTS) }
     ensures within { IfOk result (λ routes.
         All (IsRoute (length switches.now) (length detectors.now) (length buffer_stops.now)) routes) }
+    ensures named { IfOk result (λ routes. All (λ route. IsId route.id) routes) }
 {
     let place = Place::of_file();
     let items = list(alloc, &place, file, "routes")?;
@@ -55,6 +58,7 @@ fn read_routes<'a>(
     ensures few { IfOk result (λ routes. length routes ≤ MAX_OBJECTS) }
     ensures within { IfOk result (λ routes.
         All (IsRoute (length switches.now) (length detectors.now) (length buffer_stops.now)) routes) }
+    ensures named { IfOk result (λ routes. All (λ route. IsId route.id) routes) }
 {
     let mut routes = Listed::new(alloc);
     'objects: for value in list {
@@ -82,11 +86,13 @@ fn read_route<'a>(
 ) -> Result<(), InfraFault>
     requires room { length routes.old < MAX_OBJECTS }
     requires within { All (IsRoute (length switches.now) (length detectors.now) (length buffer_stops.now)) routes.old }
+    requires named { All (λ route. IsId route.id) routes.old }
     ensures read { GivesNext routes.old routes.new result
         (route_at (map id_of_switch switches.now) (map id_of_placed detectors.now) (map id_of_placed buffer_stops.now)
         index (map id_of_route routes.old) (view value.now)) }
     ensures within { OnOk result
         (All (IsRoute (length switches.now) (length detectors.now) (length buffer_stops.now)) routes.new) }
+    ensures named { OnOk result (All (λ route. IsId route.id) routes.new) }
 {
     let place = Place::of_element("routes", index);
     push_route(
@@ -111,11 +117,13 @@ fn push_route<'a>(
 ) -> Result<(), InfraFault>
     requires room { length routes.old < MAX_OBJECTS }
     requires within { All (IsRoute (length switches.now) (length detectors.now) (length buffer_stops.now)) routes.old }
+    requires named { All (λ route. IsId route.id) routes.old }
     ensures read { GivesNext routes.old routes.new result
         (route_in place.now (map id_of_switch switches.now) (map id_of_placed detectors.now) (map id_of_placed buffer_stops.now)
         (map id_of_route routes.old) (view value.now)) }
     ensures within { OnOk result
         (All (IsRoute (length switches.now) (length detectors.now) (length buffer_stops.now)) routes.new) }
+    ensures named { OnOk result (All (λ route. IsId route.id) routes.new) }
 {
     object(alloc, place, value)?;
     let id = new_id(alloc, place, value, routes)?;

@@ -20,6 +20,7 @@ use serde_json::Value;
 use std::alloc::Global;
 
 /// The speed sections of a file.
+#[tactic(auto, unfolding(crate::specs::Speeds::speeds_in))]
 pub fn speeds_of<'a>(
     alloc: Global,
     file: &'a Value,

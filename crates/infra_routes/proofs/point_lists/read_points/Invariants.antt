@@ -2,6 +2,7 @@ use Rattle.infra_types.specs.Ids.{id_of_point, id_of_track}
 use Rattle.std.proofs.Common.{◌≡◌, length, map, drop, []}
 use Rattle.std.specs.Prelude.{All, ◌<◌}
 use Rattle.serde_json.specs.View.{view}
+use Rattle.named_network.specs.Named.{IsId}
 use Rattle.infra_fields.specs.Fields.{read_each, read_items}
 use Rattle.infra_types.specs.Infras.{IsPoint}
 use Rattle.infra_routes.specs.Points.{point_at}
@@ -12,4 +13,5 @@ invariant-objects l = record {
   read : read_each id_of_point (point_at (map id_of_track l.tracks)) l.points (map view (drop l.value-index l.list)) ≡ read_each id_of_point (point_at (map id_of_track l.tracks)) [] (map view l.list);
   count : length l.points ≡ l.value-index;
   within : All (IsPoint (length l.tracks)) l.points;
+  named : All (λ point. IsId point.id) l.points;
 }
