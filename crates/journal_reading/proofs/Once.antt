@@ -5,6 +5,7 @@ use Rattle.std.specs.Int.{w32, to_be_bytes}
 use Rattle.std.proofs.lemmas.List.{take_at, drop_at}
 use Rattle.std.proofs.lemmas.List.Elements.{All-head, All-tail}
 use Rattle.journal_text.specs.Histories.{counted, opened, ReadsAs}
+use Rattle.journal_reading.specs.Walks.{BeginsShut, BeginsWhole}
 
 abbrev pub IsShort : List ℕ → Type 0
 IsShort body = length body < 2 ^ 32
@@ -24,6 +25,10 @@ pub not_empty : (xs ys : List ℕ) (y : ℕ) → xs ++ (y ∷ ys) ≢ []
 not_empty [] ys y e = absurd (cc)
 not_empty (x ∷ xs) ys y e = absurd (cc)
 
+-- where a whole record stands, no gate stands that isn't open
+pub not_shut : (left body rest : List ℕ) → BeginsWhole left body rest → BeginsShut left → ⊥
+not_shut left body rest whole shut = shut.closed (sym (same_heads 1 shut.gate (counted body ++ rest) shut.rest (sym whole.split ∙ shut.split)))
+
 module _ (one_form : (v w : ℕ) (x y : List ℕ) → v < 2 ^ 32 → w < 2 ^ 32 → to_be_bytes w32 v ++ x ≡ to_be_bytes w32 w ++ y → (v ≡ w) × (x ≡ y)) where
   -- what follows two bodies that spell the same bytes is the same, and so are the bodies
   pub same_entries : (x y left right : List ℕ) → IsShort x → IsShort y → counted x ++ left ≡ counted y ++ right → (x ≡ y) × (left ≡ right)
@@ -32,6 +37,9 @@ module _ (one_form : (v w : ℕ) (x y : List ℕ) → v < 2 ^ 32 → w < 2 ^ 32 
         sym (take_at x left (length y) numbers.0) ∙ ap (take (length y)) numbers.1 ∙ take_at y right (length y) refl,
         sym (drop_at x left (length y) numbers.0) ∙ ap (drop (length y)) numbers.1 ∙ drop_at y right (length y) refl,
       )
+
+  pub same_bodies : (left x right y other : List ℕ) → BeginsWhole left x right → BeginsWhole left y other → x ≡ y
+  same_bodies left x right y other one two = (same_entries x y right other one.short two.short (same_tails 1 1 (counted x ++ right) (counted y ++ other) (sym one.split ∙ two.split))).0
 
   -- entries up to a gate that isn't open
   same_histories : (a b : List (List ℕ)) (gate other : ℕ) (rest more : List ℕ) → All IsShort a → All IsShort b → gate ≢ 1 → other ≢ 1 → opened a ++ (gate ∷ rest) ≡ opened b ++ (other ∷ more) → a ≡ b

@@ -3,7 +3,7 @@ use Rattle.std.specs.Prelude.{◌≡◌, ◌≢◌, ◌⊎◌, ℕ, ◌<◌, Lis
 use Rattle.std.specs.Int.{w32, to_be_bytes}
 use Rattle.journal_text.specs.Headers.{header_of_version, magic}
 use Rattle.journal_reading.specs.declared.faults.OpenFault.{OpenFault}
-use Rattle.journal_reading.specs.declared.faults.OpenFault.TheVariants.{ReadFault, Empty, OldVersion, NotAJournal, OtherNetwork, OtherBase, Damaged, Illegal, Memory}
+use Rattle.journal_reading.specs.declared.faults.OpenFault.TheVariants.{Empty, OldVersion, NotAJournal, OtherNetwork, OtherBase}
 
 -- the twelve bytes with which each journal of a version begins
 abbrev pub start_of : ℕ → List ℕ

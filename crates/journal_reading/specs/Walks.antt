@@ -4,8 +4,11 @@ use Rattle.rail_types.specs.declared.entries.Entry.{Entry}
 use Rattle.rail_types.specs.Timetables.{Timetable}
 use Rattle.entry_codec.specs.Body.{body_of, kind_byte}
 use Rattle.entry_codec.specs.Within.{HasBody}
+use Rattle.byte_fields.specs.Unread.{Unread}
 use Rattle.grant_log.specs.Legal.{IsLegal, Joins}
 use Rattle.journal_text.specs.Histories.{bodies_of, counted, opened}
+use Rattle.journal_reading.specs.declared.records.Next.{Next}
+use Rattle.journal_reading.specs.declared.records.Next.TheVariants.{Shut, Record, Broken}
 
 -- a gate that isn't open stands here
 pub record BeginsShut (left : List ℕ) : Type 0 where
@@ -66,3 +69,14 @@ pub record IsIllegalAt (timetable : Timetable) (version : ℕ) (left : List ℕ)
   pub spelled : IsSpelledIn version entry
   pub stale : ¬ Joins timetable entries entry
   pub place : position ≡ length entries
+
+-- What stands next: a gate that isn't open; a whole record of an entry, and the reader is behind it; or neither.
+abbrev pub NextIs : ℕ → Unread → Unread → Next → Type 0
+NextIs version old new Shut = BeginsShut old.left
+NextIs version old new (Record entry) =
+    BeginsWhole old.left (body_of entry) new.left × IsSpelledIn version entry
+    × (new.at ≡ old.at + (length (body_of entry) + 5))
+NextIs version old new Broken =
+    (¬ BeginsShut old.left)
+    × ((entry : Entry) (behind : List ℕ) → IsSpelledIn version entry →
+    ¬ BeginsWhole old.left (body_of entry) behind)

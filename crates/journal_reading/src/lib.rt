@@ -5,11 +5,16 @@ mod beginning;
 mod bodies;
 mod faults;
 mod laws;
+mod ranges;
+mod records;
 mod starts;
 
 pub use beginning::{InitFault, init};
 pub use faults::OpenFault;
 pub use laws::one_history;
+pub use ranges::is_on;
+pub use records::{Next, next_record};
+pub use starts::pass_header;
 
 #[cfg(test)]
 mod tests;

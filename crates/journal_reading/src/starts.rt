@@ -80,8 +80,8 @@ fn digests<'a>(file: &'a [u8], start: &[u8]) -> (&'a [u8], &'a [u8], &'a [u8])
     (network, base, left)
 }
 
-// What stands behind the header of a journal of this version with these digests.
-pub(crate) fn pass_header<'a>(
+/// What stands behind the header of a journal of this version with these digests.
+pub fn pass_header<'a>(
     file: &'a [u8],
     version: u32,
     network: &[u8; 32],

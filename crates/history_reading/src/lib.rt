@@ -1,0 +1,14 @@
+//! The history that the file of a journal tells: read in one pass, with each entry judged by those before it.
+#![tactic(auto)]
+
+mod files;
+mod histories;
+mod joins;
+mod moves;
+
+pub use files::read_journal;
+pub use histories::Found;
+pub use moves::{MoveFault, init_from};
+
+#[cfg(test)]
+mod tests;
