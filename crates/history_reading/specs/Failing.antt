@@ -4,7 +4,7 @@ use Rattle.outside_io.specs.Disks.{Spans}
 use Rattle.outside_io.specs.Faults.{Rose}
 use Rattle.outside_io.specs.declared.disks.Disk.{Ghosts}
 use Rattle.journal_reading.specs.declared.faults.OpenFault.{OpenFault}
-use Rattle.journal_reading.specs.declared.faults.OpenFault.TheVariants.{ReadFault, Empty, OldVersion, NotAJournal, OtherNetwork, OtherBase, Damaged, Illegal, Memory}
+use Rattle.journal_reading.specs.declared.faults.OpenFault.TheVariants.{ReadFault, Memory}
 
 -- the count rose where the disk failed, and stays at every other refusal
 abbrev pub HasFaultCause : ℕ → ℕ → OpenFault → Type 0

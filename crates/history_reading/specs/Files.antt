@@ -4,7 +4,7 @@ use Rattle.rail_types.specs.declared.entries.Entry.{Entry}
 use Rattle.rail_types.specs.Timetables.{Timetable}
 use Rattle.journal_text.specs.Headers.{header_of_version}
 use Rattle.journal_reading.specs.declared.faults.OpenFault.{OpenFault}
-use Rattle.journal_reading.specs.declared.faults.OpenFault.TheVariants.{ReadFault, Empty, OldVersion, NotAJournal, OtherNetwork, OtherBase, Damaged, Illegal, Memory}
+use Rattle.journal_reading.specs.declared.faults.OpenFault.TheVariants.{ReadFault, Damaged, Illegal, Memory}
 use Rattle.journal_reading.specs.Starts.{StartIsRefused}
 use Rattle.journal_reading.specs.Walks.{IsReadTo, IsDamagedAt, IsIllegalAt}
 

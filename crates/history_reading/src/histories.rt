@@ -38,6 +38,7 @@ pub(crate) fn read_history(
     let mut fields = Fields::new(left);
     loop {
         let gate = 76 + fields.at() as u64;
+        let front = history.front();
         let Ok(next) = next_record(alloc, &mut fields, version) else {
             return Err(OpenFault::Memory);
         };
@@ -49,9 +50,7 @@ pub(crate) fn read_history(
         match join(alloc, &mut history, &mut book, entry) {
             Ok(true) => {}
             Ok(false) => {
-                return Err(OpenFault::Illegal {
-                    entry: history.front(),
-                });
+                return Err(OpenFault::Illegal { entry: front });
             }
             Err(_) => return Err(OpenFault::Memory),
         }
