@@ -1,0 +1,22 @@
+-- What holds of each walk.
+use Rattle.std.specs.Prelude.{◌≡◌, ℕ, ◌+◌, ◌<◌, ◌≤◌, Some, None, length, slice_index_or}
+use Rattle.std.specs.List.{All}
+use Rattle.std.specs.List.Sorted.{IsNonDecreasing, IsNonDecreasingBy}
+use Rattle.route_walk.specs.declared.walks.Passed.{Passed}
+use Rattle.route_walk.specs.declared.walks.Walk.{Walk}
+
+-- A zone or none between each two neighbours; metres and stretches that do not fall along the walk.
+pub record IsWalk (walk : Walk) : Type 0 where
+  pub legs : length walk.zones + 1 ≡ length walk.passed
+  pub onward : IsNonDecreasingBy (λ point. point.metres) walk.passed
+  pub covered : IsNonDecreasingBy (λ point. point.reach) walk.passed
+  pub within : All (λ point. point.reach ≤ length walk.stretches) walk.passed
+  pub releases : IsNonDecreasing walk.releases
+
+-- Zones and points are below these numbers, and a zone is passed wherever metres rise.
+pub record IsSound (zones points : ℕ) (walk : Walk) : Type 0 where
+  pub sound : IsWalk walk
+  pub zoned : (n : ℕ) (d : Passed) → n + 1 < length walk.passed → slice_index_or walk.zones n None ≡ None
+      → (slice_index_or walk.passed n d).metres ≡ (slice_index_or walk.passed (n + 1) d).metres
+  pub zones : (n zone : ℕ) → slice_index_or walk.zones n None ≡ Some zone → zone < zones
+  pub points : All (λ passed. passed.point < points) walk.passed

@@ -1,0 +1,7 @@
+//! The walks of routes: the points that a route passes from its entry to its exit, their metres, the zones between
+//! them, and the stretches of track.
+#![tactic(auto)]
+
+mod walks;
+
+pub use walks::{Passed, Stretch, Walk, WalkFault};
