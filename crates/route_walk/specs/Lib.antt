@@ -1,1 +1,5 @@
 pub mod Sound
+pub mod Places
+pub mod Passages
+pub mod Ways
+pub mod Courses

@@ -14,9 +14,9 @@ pub record IsWalk (walk : Walk) : Type 0 where
   pub releases : IsNonDecreasing walk.releases
 
 -- Zones and points are below these numbers, and a zone is passed wherever metres rise.
-pub record IsSound (zones points : ℕ) (walk : Walk) : Type 0 where
+pub record IsSound (zone_count point_count : ℕ) (walk : Walk) : Type 0 where
   pub sound : IsWalk walk
   pub zoned : (n : ℕ) (d : Passed) → n + 1 < length walk.passed → slice_index_or walk.zones n None ≡ None
       → (slice_index_or walk.passed n d).metres ≡ (slice_index_or walk.passed (n + 1) d).metres
-  pub zones : (n zone : ℕ) → slice_index_or walk.zones n None ≡ Some zone → zone < zones
-  pub points : All (λ passed. passed.point < points) walk.passed
+  pub zones : (n zone : ℕ) → slice_index_or walk.zones n None ≡ Some zone → zone < zone_count
+  pub points : All (λ passed. passed.point < point_count) walk.passed

@@ -2,6 +2,9 @@
 //! them, and the stretches of track.
 #![tactic(auto)]
 
+mod passages;
+mod places;
 mod walks;
+mod ways;
 
 pub use walks::{Passed, Stretch, Walk, WalkFault};
