@@ -1,6 +1,10 @@
 -- The places that a route comes by.
-use Rattle.std.specs.Prelude.{◌≡◌, ◌≢◌, ℕ, ◌<◌, ◌⊎◌, List, [], ◌∷◌, ◌++◌, length, Option, Some, None}
+use Rattle.std.specs.Prelude.{◌≡◌, ◌≢◌, ℕ, ◌≤◌, ◌⊎◌, List, [], ◌∷◌, ◌++◌, length, Option, Some, None}
 use Rattle.std.specs.List.{All, AllPairs, filter_map}
+use Rattle.route_walk.specs.declared.courses.Ending.{Ending}
+use Rattle.route_walk.specs.declared.courses.Ending.TheVariants.{Exit, NoWay, Loop}
+use Rattle.route_walk.specs.declared.passages.Passage.{Passage}
+use Rattle.route_walk.specs.declared.passages.Passage.TheVariants as passages
 use Rattle.route_walk.specs.declared.places.Place.{Place}
 use Rattle.route_walk.specs.declared.places.Point.{Point}
 use Rattle.route_walk.specs.Passages.{detector_of, GoesOn, IsBarred, ComesAgain}
@@ -59,3 +63,20 @@ IsEnded next entry exit places =
 -- The places end where there is no way on.
 abbrev pub HasNoWay : (Place → Place → Type 0) → Place → Point → List Place → Type 0
 HasNoWay next entry exit places = IsEnded next entry exit places ⊎ IsStopped next entry exit places
+
+-- The route goes on for at least so many places.
+abbrev pub IsEndless : (Place → Place → Type 0) → Place → Point → ℕ → List Place → Type 0
+IsEndless next entry exit limit places = IsOpen next entry exit places × (limit ≤ length places)
+
+-- How the route ends, at the last of these places.
+abbrev pub Ends : (Place → Place → Type 0) → Place → Point → ℕ → Ending → List Place → Type 0
+Ends next entry exit limit Exit places = IsThrough next entry exit places
+Ends next entry exit limit NoWay places = HasNoWay next entry exit places
+Ends next entry exit limit Loop places = IsRound next entry exit places ⊎ IsEndless next entry exit limit places
+
+-- how a route ends at a place where it does not go on
+abbrev pub ending_of : Passage → Ending
+ending_of passages.Exit = Exit
+ending_of passages.On = Loop
+ending_of passages.Twice = Loop
+ending_of passages.Barred = NoWay
