@@ -1,3 +1,4 @@
 pub mod Groups
 pub mod Coming
 pub mod Runs
+pub mod Parted

@@ -3,3 +3,4 @@ pub mod Places
 pub mod Passages
 pub mod Ways
 pub mod Courses
+pub mod Counts

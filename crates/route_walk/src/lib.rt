@@ -2,6 +2,7 @@
 //! them, and the stretches of track.
 #![tactic(auto)]
 
+mod counts;
 mod courses;
 mod passages;
 mod places;
