@@ -2,3 +2,4 @@ pub mod Groups
 pub mod Coming
 pub mod Runs
 pub mod Parted
+pub mod Starts

@@ -4,3 +4,4 @@ pub mod Passages
 pub mod Ways
 pub mod Courses
 pub mod Counts
+pub mod Entries

@@ -4,6 +4,7 @@
 
 mod counts;
 mod courses;
+mod entries;
 mod passages;
 mod places;
 mod walks;
