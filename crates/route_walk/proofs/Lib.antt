@@ -3,3 +3,4 @@ pub mod Coming
 pub mod Runs
 pub mod Parted
 pub mod Starts
+pub mod Passing

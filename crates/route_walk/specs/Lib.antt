@@ -5,3 +5,4 @@ pub mod Ways
 pub mod Courses
 pub mod Counts
 pub mod Entries
+pub mod Legs

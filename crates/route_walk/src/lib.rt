@@ -5,6 +5,7 @@
 mod counts;
 mod courses;
 mod entries;
+mod legs;
 mod passages;
 mod places;
 mod walks;
