@@ -4,3 +4,4 @@ pub mod Runs
 pub mod Parted
 pub mod Starts
 pub mod Passing
+pub mod Strays

@@ -6,3 +6,4 @@ pub mod Courses
 pub mod Counts
 pub mod Entries
 pub mod Legs
+pub mod Releases

@@ -8,6 +8,7 @@ mod entries;
 mod legs;
 mod passages;
 mod places;
+mod releases;
 mod walks;
 mod ways;
 
