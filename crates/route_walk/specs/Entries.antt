@@ -1,12 +1,12 @@
 -- Where a route begins, and where it ends.
 use Rattle.std.specs.Prelude.{◌≡◌, ℕ, ◌+◌, min, max, Bool, true, false, nat_eq, nat_lt, List, length, slice_get, Option, Some, None, if◌then◌else◌}
-use Rattle.railjson_read.specs.declared.ends.Direction.{Direction}
-use Rattle.railjson_read.specs.declared.ends.Direction.TheVariants.{StartToStop, StopToStart}
-use Rattle.railjson_read.specs.declared.infras.Infra.{Infra}
-use Rattle.railjson_read.specs.declared.routes.Route.{Route}
-use Rattle.railjson_read.specs.declared.routes.RoutePoint.{RoutePoint}
-use Rattle.railjson_read.specs.declared.routes.RoutePoint.TheVariants.{Detector, BufferStop}
-use Rattle.railjson_read.specs.declared.tracks.Placed.{Placed}
+use Rattle.infra_types.specs.declared.ends.Direction.{Direction}
+use Rattle.infra_types.specs.declared.ends.Direction.TheVariants.{StartToStop, StopToStart}
+use Rattle.infra_types.specs.declared.infras.Infra.{Infra}
+use Rattle.infra_types.specs.declared.routes.Route.{Route}
+use Rattle.infra_types.specs.declared.routes.RoutePoint.{RoutePoint}
+use Rattle.infra_types.specs.declared.routes.RoutePoint.TheVariants.{Detector, BufferStop}
+use Rattle.infra_types.specs.declared.tracks.Placed.{Placed}
 use Rattle.track_graph.specs.declared.stands.Stand.{Stand}
 use Rattle.track_graph.specs.Layouts.{Layout}
 use Rattle.track_graph.specs.Pieces.{length_of}

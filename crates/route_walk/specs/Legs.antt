@@ -1,12 +1,12 @@
 -- What a walk passes: its points with their metres, and the zones between them.
 use Rattle.std.specs.Prelude.{◌≡◌, ℕ, ◌+◌, ◌-◌, ◌*◌, ◌<◌, ◌⊎◌, min, max, Bool, true, false, nat_eq, nat_lt, List, [], ◌∷◌, map, take, length, slice_get, Option, Some, None, option_map, if◌then◌else◌}
 use Rattle.std.specs.List.{All, AllPairs, filter_map, sum_by}
-use Rattle.railjson_read.specs.declared.ends.Direction.{Direction}
-use Rattle.railjson_read.specs.declared.ends.Direction.TheVariants.{StartToStop, StopToStart}
-use Rattle.railjson_read.specs.declared.infras.Infra.{Infra}
-use Rattle.railjson_read.specs.declared.routes.Route.{Route}
-use Rattle.railjson_read.specs.declared.routes.RoutePoint.{RoutePoint}
-use Rattle.railjson_read.specs.declared.routes.RoutePoint.TheVariants.{Detector, BufferStop}
+use Rattle.infra_types.specs.declared.ends.Direction.{Direction}
+use Rattle.infra_types.specs.declared.ends.Direction.TheVariants.{StartToStop, StopToStart}
+use Rattle.infra_types.specs.declared.infras.Infra.{Infra}
+use Rattle.infra_types.specs.declared.routes.Route.{Route}
+use Rattle.infra_types.specs.declared.routes.RoutePoint.{RoutePoint}
+use Rattle.infra_types.specs.declared.routes.RoutePoint.TheVariants.{Detector, BufferStop}
 use Rattle.track_graph.specs.Layouts.{Layout, zone_at}
 use Rattle.track_graph.specs.Pieces.{length_of, pieces_of}
 use Rattle.route_walk.specs.declared.places.Place.{Place}

@@ -1,15 +1,15 @@
 -- Where a route's ways lead across switches.
 use Rattle.std.specs.Prelude.{◌≡◌, ℕ, ◌↔◌, List, nat_eq, find, Option, Some, None}
-use Rattle.railjson_read.specs.declared.ends.Direction.{Direction}
-use Rattle.railjson_read.specs.declared.ends.Direction.TheVariants.{StartToStop, StopToStart}
-use Rattle.railjson_read.specs.declared.ends.End.{End}
-use Rattle.railjson_read.specs.declared.ends.End.TheVariants as ends
-use Rattle.railjson_read.specs.declared.ends.TrackEnd.{TrackEnd}
-use Rattle.railjson_read.specs.declared.infras.Infra.{Infra}
-use Rattle.railjson_read.specs.declared.switches.Group.{Group}
-use Rattle.railjson_read.specs.declared.switches.Group.TheVariants.{Other}
-use Rattle.railjson_read.specs.declared.switches.Switch.{Switch}
-use Rattle.railjson_read.specs.declared.switches.Way.{Way}
+use Rattle.infra_types.specs.declared.ends.Direction.{Direction}
+use Rattle.infra_types.specs.declared.ends.Direction.TheVariants.{StartToStop, StopToStart}
+use Rattle.infra_types.specs.declared.ends.End.{End}
+use Rattle.infra_types.specs.declared.ends.End.TheVariants as ends
+use Rattle.infra_types.specs.declared.ends.TrackEnd.{TrackEnd}
+use Rattle.infra_types.specs.declared.infras.Infra.{Infra}
+use Rattle.infra_types.specs.declared.switches.Group.{Group}
+use Rattle.infra_types.specs.declared.switches.Group.TheVariants.{Other}
+use Rattle.infra_types.specs.declared.switches.Switch.{Switch}
+use Rattle.infra_types.specs.declared.switches.Way.{Way}
 use Rattle.track_graph.specs.Layouts.{Layout}
 use Rattle.track_graph.specs.Ways.{LeadsTo}
 use Rattle.route_walk.specs.declared.places.Place.{Place}

@@ -2,7 +2,7 @@
 
 ghost use Rattle.std.specs.Prelude.{◌≡◌, ◌<◌, ◌≤◌, ◌+◌, ◌^◌, length, IfSome};
 ghost use Rattle.std.specs.List.{AllPairs};
-ghost use Rattle.railjson_read.specs.Infras.{IsInfra, IsRoutePoint};
+ghost use Rattle.infra_types.specs.Infras.{IsInfra, IsRoutePoint};
 ghost use Rattle.track_graph.specs.Layouts.{IsLayoutOf};
 ghost use Rattle.track_graph.specs.Pieces.{length_of};
 ghost use Rattle.track_graph.specs.Stands.{ComesBefore};
@@ -11,7 +11,7 @@ ghost use Rattle.route_walk.specs.Entries.{detector_spot, entry_of, exit_of, gap
 
 use crate::counts::{below, rank_of};
 use crate::places::{Place, Point, Spot, ahead_in, length_of, position_of};
-use railjson_read::{Direction, Infra, Placed, Route, RoutePoint};
+use infra_types::{Direction, Infra, Placed, Route, RoutePoint};
 use track_graph::{Graph, Stand};
 
 fn track_at(all: &[Placed], number: u32) -> u32

@@ -2,7 +2,7 @@
 
 ghost use Rattle.std.specs.Prelude.{◌≡◌, ◌∷◌, ◌+◌, ◌-◌, ◌*◌, ◌<◌, ◌≤◌, ◌^◌, ℕ, length, map, slice_index_or, IfOk, IfSome, Some, None};
 ghost use Rattle.std.specs.List.{All, filter_map, sum_by};
-ghost use Rattle.railjson_read.specs.Infras.{IsInfra, IsRoute, IsRoutePoint};
+ghost use Rattle.infra_types.specs.Infras.{IsInfra, IsRoute, IsRoutePoint};
 ghost use Rattle.track_graph.specs.Layouts.{IsLayoutOf};
 ghost use Rattle.route_walk.specs.Legs.{ArePassed, IsBehind, arrival_side, leg_at, length_m, number_at, number_of, point_number, side_before, side_before_stop, side_of, stretch_of, zone_to};
 ghost use Rattle.route_walk.specs.Places.{IsKnown, IsPlace};
@@ -11,8 +11,8 @@ ghost use Rattle.route_walk.specs.Sound.{AreSound};
 use crate::counts::begun_before;
 use crate::places::{Place, Point, length_of};
 use crate::walks::{Passed, Stretch};
+use infra_types::{Direction, Infra, Route, RoutePoint};
 use no_memory::NoMemory;
-use railjson_read::{Direction, Infra, Route, RoutePoint};
 use std::alloc::Global;
 use track_graph::Graph;
 

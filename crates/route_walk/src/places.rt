@@ -5,7 +5,7 @@ ghost use Rattle.track_graph.specs.Layouts.{IsLayoutOf};
 ghost use Rattle.track_graph.specs.Pieces.{length_of};
 ghost use Rattle.route_walk.specs.Places.{IsPlace, IsSpot, ahead_in, at_detector, at_metre, at_wall, begin_of, come, far_end, gap_behind, position_of, stands_first};
 
-use railjson_read::{Direction, End, Infra, TrackEnd};
+use infra_types::{Direction, End, Infra, TrackEnd};
 use track_graph::{Graph, Stand};
 
 /// A point at which a route can end: a detector, or where a buffer stop stands.

@@ -1,5 +1,5 @@
 use Rattle.std.proofs.Common.{◌≡◌, ◌∙◌, sym, subst, ap, Some, None, Option}
-use Rattle.railjson_read.specs.declared.ends.TrackEnd.{TrackEnd}
+use Rattle.infra_types.specs.declared.ends.TrackEnd.{TrackEnd}
 use Rattle.route_walk.specs.declared.places.Place.{Place}
 use Rattle.route_walk.specs.Ways.{IsLead, end_of}
 use Rattle.route_walk.specs.Places.{come}
