@@ -5,3 +5,4 @@ pub mod Parted
 pub mod Starts
 pub mod Passing
 pub mod Strays
+pub mod Wholes

@@ -115,7 +115,7 @@ module _ (infra : Infra) (layout : Layout) (direction : Direction) (number : ℕ
     wall = either_wall (is_beside infra number exit) _ _ _ (metre_on infra.tracks infra.buffer_stops number _ within are on) (wall_within infra.tracks _ _ direction _ on);
   }
 
-long_at : (tracks : List Track) (track : ℕ) → All IsTrack tracks → length_of tracks track ≤ 1000000
+pub long_at : (tracks : List Track) (track : ℕ) → All IsTrack tracks → length_of tracks track ≤ 1000000
 long_at [] track are = omega arith
 long_at (t ∷ ts) zero are = (let most = (are 0 t (omega arith)).1 in omega arith)
 long_at (t ∷ ts) (suc n) are = long_at ts n (λ k d h. are (suc k) d (omega arith))

@@ -7,3 +7,4 @@ pub mod Counts
 pub mod Entries
 pub mod Legs
 pub mod Releases
+pub mod Walks

@@ -9,7 +9,9 @@ mod legs;
 mod passages;
 mod places;
 mod releases;
+mod routes;
 mod walks;
 mod ways;
 
+pub use routes::walk;
 pub use walks::{Passed, Stretch, Walk, WalkFault};
