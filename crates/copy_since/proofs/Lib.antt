@@ -1,0 +1,5 @@
+pub mod Elements
+pub mod Counted
+pub mod Pairs
+pub mod Gaining
+pub mod Bringing

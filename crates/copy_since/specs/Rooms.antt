@@ -1,5 +1,5 @@
 -- Claims that are to be held, and the room for them.
-use Rattle.std.specs.Prelude.{◌≡◌, ℕ, ◌<◌, ◌≤◌, List, sum_by, nat_eq, if◌then◌else◌}
+use Rattle.std.specs.Prelude.{◌≡◌, ℕ, ◌<◌, ◌≤◌, List, length, slice_index_or, sum_by, nat_eq, if◌then◌else◌}
 use Rattle.rail_types.specs.Limits.{IsNearSpan}
 use Rattle.rail_types.specs.Occupation.{HasTicks, HeldClaim}
 use Rattle.occupation_book.specs.Zones.{Zone}
@@ -16,6 +16,15 @@ how_many_on number claims = sum_by (if_on number) claims
 -- each zone has room for the claims that are on it
 abbrev pub HasRoomFor : List Zone → List HeldClaim → Type 0
 HasRoomFor book claims = (number : ℕ) → how_many_on number claims ≤ (zone_at book number).spare
+
+-- inside: how often a zone stands in a list
+abbrev pub count_of : ℕ → List ℕ → ℕ
+count_of number zones = sum_by (λ zone. if nat_eq zone number then 1 else 0) zones
+
+-- inside: none stands before a lesser one
+abbrev pub AreAscending : List ℕ → Type 0
+AreAscending zones =
+    (i j d : ℕ) → i ≤ j → j < length zones → slice_index_or zones i d ≤ slice_index_or zones j d
 
 -- a claim that a book of so many zones may hold: it has ticks, which are near
 pub record MayBeHeld (zones : ℕ) (one : HeldClaim) : Type 0 where

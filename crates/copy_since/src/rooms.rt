@@ -1,8 +1,8 @@
 //! Room for claims, before any of them is held.
 
-ghost use Rattle.std.specs.Prelude.{◌≡◌, ◌≢◌, ◌-◌, ◌<◌, ◌≤◌, ◌↔◌, ℕ, All, IfOk, IsTrue, OnOk, length, slice_index_or, sum_by, nat_eq, if◌then◌else◌};
+ghost use Rattle.std.specs.Prelude.{◌≡◌, ◌-◌, ◌<◌, ◌≤◌, ℕ, All, IfOk, OnOk, length, slice_index_or, take};
 ghost use Rattle.occupation_book.specs.Held.{claims_by_zone, held, zone_at};
-ghost use Rattle.copy_since.specs.Rooms.{HasRoomFor, how_many_on};
+ghost use Rattle.copy_since.specs.Rooms.{AreAscending, HasRoomFor, count_of, how_many_on};
 
 use no_memory::NoMemory;
 use occupation_book::Occupations;
@@ -29,13 +29,11 @@ pub fn reserve_for(
 
 // The zones of claims in ascending order, each as often as claims are on it.
 fn sorted_zones(alloc: Global, claims: &[(Claim, Owner)]) -> Result<Vec<u32>, NoMemory>
-    ensures all { IfOk result (λ zones. (P : ℕ → Type 0) →
-        All (λ one. P one.0.zone) claims.now → All P zones.items) }
+    ensures all { IfOk result (λ zones. (count : ℕ) →
+        All (λ one. one.0.zone < count) claims.now → All (λ zone. zone < count) zones.items) }
     ensures count { IfOk result (λ zones. (number : ℕ) →
-        sum_by (λ zone. if nat_eq zone number then 1 else 0) zones.items
-        ≡ how_many_on number claims.now) }
-    ensures order { IfOk result (λ zones. (i j d : ℕ) → i ≤ j → j < length zones.items →
-        slice_index_or zones.items i d ≤ slice_index_or zones.items j d) }
+        count_of number zones.items ≡ how_many_on number claims.now) }
+    ensures order { IfOk result (λ zones. AreAscending zones.items) }
 {
     let mut zones = Vec::new(alloc);
     for one in claims {
@@ -45,36 +43,38 @@ fn sorted_zones(alloc: Global, claims: &[(Claim, Owner)]) -> Result<Vec<u32>, No
     Ok(zones)
 }
 
-// Whether the zone before is another one.
-fn is_first_of_zone(zones: &[u32], at: usize) -> bool
-    requires { at < length zones.now }
-    ensures { (d : ℕ) → IsTrue result ↔ (0 < at →
-        slice_index_or zones.now (at - 1) d ≢ slice_index_or zones.now at d) }
+// How often the zone at this place stands before it, by how often the one before it stands up to there.
+fn number_before(zones: &[u32], at: usize, same: u32) -> u32
+    requires within { at < length zones.now }
+    requires order { AreAscending zones.now }
+    requires counted { (d : ℕ) → 0 < at →
+        same ≡ count_of (slice_index_or zones.now (at - 1) d) (take at zones.now) }
+    ensures { (d : ℕ) → result ≡ count_of (slice_index_or zones.now at d) (take at zones.now) }
 {
-    at == 0 || zones[at - 1] != zones[at]
+    if at > 0 && zones[at - 1] == zones[at] {
+        same
+    } else {
+        0
+    }
 }
 
 // Makes room for as many claims on each zone as it stands here.
 fn reserve_each(book: &mut Occupations, zones: &[u32]) -> Result<(), NoMemory>
     requires zones { All (λ zone. zone < length book.old) zones.now }
-    requires order { (i j d : ℕ) → i ≤ j → j < length zones.now →
-        slice_index_or zones.now i d ≤ slice_index_or zones.now j d }
+    requires order { AreAscending zones.now }
     ensures claims { claims_by_zone book.new ≡ claims_by_zone book.old }
     ensures held { held book.new ≡ held book.old }
     ensures zones { length book.new ≡ length book.old }
     ensures room { OnOk result ((number : ℕ) →
-        sum_by (λ zone. if nat_eq zone number then 1 else 0) zones.now
-        ≤ (zone_at book.new number).spare) }
+        count_of number zones.now ≤ (zone_at book.new number).spare) }
     ensures kept { (number : ℕ) →
         (zone_at book.old number).spare ≤ (zone_at book.new number).spare }
 {
     let mut same = 0u32;
     for at in 0..zones.len() {
-        if is_first_of_zone(zones, at) {
-            same = 0;
-        }
+        let before = number_before(zones, at, same);
         // More claims of one zone than can be counted are more than memory holds.
-        same = same.checked_add(1).ok_or(NoMemory)?;
+        same = before.checked_add(1).ok_or(NoMemory)?;
         book.reserve(zones[at], same)?;
     }
     Ok(())

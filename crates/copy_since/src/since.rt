@@ -1,17 +1,20 @@
 //! Copies brought up by the entries since they were made.
 
-ghost use Rattle.std.specs.Prelude.{◌≡◌, ◌<◌, ◌≤◌, ◌++◌, [], ℕ, All, IfOk, OnErr, OnOk, length, take};
+ghost use Rattle.std.specs.Prelude.{◌≡◌, ◌≢◌, ◌↔◌, ◌<◌, ◌≤◌, ◌++◌, ℕ, All, Contains, IfOk, IfSome, IsNone, OnErr, OnOk, length, take};
+ghost use Rattle.rail_types.specs.declared.entries.Deed.TheVariants.{Free as deed_free};
+ghost use Rattle.rail_types.specs.declared.entries.Owner.TheVariants.{Entry as of_entry};
+ghost use Rattle.rail_types.specs.Occupation.{HeldClaim};
 ghost use Rattle.rail_types.specs.Timetables.{base_claims};
-ghost use Rattle.occupation_book.specs.Held.{claims_by_zone, held};
+ghost use Rattle.occupation_book.specs.Held.{AreOnZonesOf, claims_by_zone, held, zone_at};
 ghost use Rattle.grant_log.specs.Following.{AreLive};
-ghost use Rattle.grant_log.specs.Live.{live_of, owned_by};
+ghost use Rattle.grant_log.specs.Live.{owned_by};
 ghost use Rattle.copy_since.specs.Since.{AreFreedBelow, brought_since, claims_at as claims_standing_at};
 
 use crate::holding::hold_all;
 use crate::rooms::reserve_for;
 use grant_log::{
-    History, claims_are_on_the_network, fresh_claims_are_free, grants_keep_their_requests,
-    legal_histories_never_clash, live_claims_are_unfreed, live_claims_follow,
+    History, claims_are_on_the_network, grants_keep_their_requests, legal_histories_never_clash,
+    live_claims_follow,
 };
 use no_memory::NoMemory;
 use occupation_book::Occupations;
@@ -44,6 +47,11 @@ pub fn bring_up(
     ensures zones { length copy.new ≡ length copy.old }
     ensures err { OnErr result (claims_by_zone copy.new ≡ claims_by_zone copy.old) }
 {
+    legal_histories_never_clash();
+    grants_keep_their_requests();
+    claims_are_on_the_network();
+    history.net();
+    history.front();
     let freed = freed_since(alloc, history, front)?;
     let brought = brought_since(alloc, history, front)?;
     reserve_for(alloc, copy, &brought)?;
@@ -58,6 +66,7 @@ pub fn copy_of(alloc: Global, history: &History) -> Result<Occupations, NoMemory
         AreLive history.now.timetable (held book) history.now.entries) }
     ensures zones { IfOk result (λ book. length book ≡ history.now.timetable.net.zones) }
 {
+    live_claims_follow();
     let mut book = Occupations::new(alloc, history.net().zones)?;
     let planned = planned_claims(alloc, history)?;
     reserve_for(alloc, &mut book, &planned)?;
@@ -94,7 +103,10 @@ fn planned_claims(alloc: Global, history: &History) -> Result<Vec<(Claim, Owner)
 }
 
 // The position before the front that a deed frees.
-fn freed_before(deed: &Deed, front: u64) -> Option<u64> {
+fn freed_before(deed: &Deed, front: u64) -> Option<u64>
+    ensures some { IfSome result (λ at. (deed.now ≡ deed_free at) × (at < front)) }
+    ensures none { IsNone result → (at : ℕ) → deed.now ≡ deed_free at → front ≤ at }
+{
     match deed {
         Deed::Free(at) if *at < front => Some(*at),
         _ => None,
@@ -103,6 +115,7 @@ fn freed_before(deed: &Deed, front: u64) -> Option<u64> {
 
 // The entries before the front that one from there on frees, with their claims.
 fn freed_since(alloc: Global, history: &History, front: u64) -> Result<Vec<Freed>, NoMemory>
+    requires { front ≤ length history.now.entries }
     ensures { IfOk result (λ all. AreFreedBelow history.now.timetable history.now.entries front
         (length history.now.entries) all.items) }
 {
@@ -149,7 +162,15 @@ fn push_owned(all: &mut Vec<(Claim, Owner)>, claims: &[Claim], at: u64) -> Resul
 }
 
 // Takes out what these entries hold.
-fn take_out_all(book: &mut Occupations, freed: &[Freed]) {
+fn take_out_all(book: &mut Occupations, freed: &[Freed])
+    requires zones { All (λ one. All (λ claim. claim.zone < length book.old) one.claims) freed.now }
+    requires all { All (λ one. AreOnZonesOf (of_entry one.at) (held book.old) one.claims) freed.now }
+    ensures left { (one : HeldClaim) → Contains (held book.new) one ↔
+        (Contains (held book.old) one × All (λ gone. one.1 ≢ of_entry gone.at) freed.now) }
+    ensures zones { length book.new ≡ length book.old }
+    ensures room { (number : ℕ) →
+        (zone_at book.old number).spare ≤ (zone_at book.new number).spare }
+{
     for one in freed {
         book.take_out(one.claims.as_slice(), Owner::Entry(one.at));
     }

@@ -37,7 +37,7 @@ unfreed_when None claims held contains = (refl, contains)
 unfreed_when (Some freer) claims held (k, within, here) = absurd (omega arith)
 
 module _ (timetable : Timetable) (entries : List Entry) where
-  live_is : (at : ℕ) (others : List Entry) (held : HeldClaim) → Contains (live_from timetable entries at others) held → (place : ℕ) × (entry : Entry) × IsOf timetable entries at others held place entry
+  pub live_is : (at : ℕ) (others : List Entry) (held : HeldClaim) → Contains (live_from timetable entries at others) held → (place : ℕ) × (entry : Entry) × IsOf timetable entries at others held place entry
   live_is at [] held (k, within, here) = absurd (omega arith)
   live_is at (entry ∷ others) held contains = elim (Contains-append_cases (live_of timetable entries at entry) (live_from timetable entries (at + 1) others) held contains) [
     | inl own ↦
@@ -50,7 +50,7 @@ module _ (timetable : Timetable) (entries : List Entry) where
         (suc rest.0, rest.1, record { stands = rest.2.stands; owner = subst (λ k. held.1 ≡ of_entry k) number rest.2.owner; claim = rest.2.claim; unfreed = subst (λ k. freed_by entries k ≡ None) number rest.2.unfreed })
   ]
 
-  is_live : (at : ℕ) (others : List Entry) (place : ℕ) (entry : Entry) (claim : Claim) → slice_get others place ≡ Some entry → Contains (claims_of timetable entry.deed) claim → freed_by entries (at + place) ≡ None → Contains (live_from timetable entries at others) (claim, of_entry (at + place))
+  pub is_live : (at : ℕ) (others : List Entry) (place : ℕ) (entry : Entry) (claim : Claim) → slice_get others place ≡ Some entry → Contains (claims_of timetable entry.deed) claim → freed_by entries (at + place) ≡ None → Contains (live_from timetable entries at others) (claim, of_entry (at + place))
   is_live at [] place entry claim here contains unfreed = let wrong : ◌≡◌ {A = Option Entry} None (Some entry) = here in cc
   is_live at (other ∷ others) zero entry claim here contains unfreed =
       let same : other ≡ entry = same_Some other entry here in

@@ -13,3 +13,5 @@ pub mod Offs
 pub mod Totals
 pub mod Wayfinding
 pub mod LaidOut
+pub mod PieceOrders
+pub mod Within

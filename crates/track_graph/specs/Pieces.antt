@@ -1,6 +1,6 @@
 -- Pieces of track, between detectors.
 use Rattle.std.specs.Prelude.{◌≡◌, ℕ, ◌+◌, ◌-◌, ◌<◌, ◌≤◌, ◌↔◌, List, [], ◌∷◌, length, take, slice_get, slice_index_or, Option, Some, None}
-use Rattle.std.specs.List.{Contains, sum_by}
+use Rattle.std.specs.List.{All, Contains, sum_by}
 use Rattle.std.specs.List.Sorted.{IsStrictlyIncreasing}
 use Rattle.infra_types.specs.declared.tracks.Track.{Track}
 use Rattle.infra_types.specs.declared.ends.End.{End}
@@ -32,6 +32,10 @@ metres_of (Some track) = track.length
 -- the length of the track of that number
 abbrev pub length_of : List Track → ℕ → ℕ
 length_of tracks track = metres_of (slice_get tracks track)
+
+-- each stands within the track of that number
+abbrev pub AreOn : List Track → ℕ → List Stand → Type 0
+AreOn tracks track row = All (λ stand. stand.position ≤ length_of tracks track) row
 
 -- The pieces of a track of so many metres that is cut at these detectors.
 abbrev pub ArePieces : ℕ → ℕ → List Stand → List Piece → Type 0

@@ -2,12 +2,13 @@
 
 ghost use Rattle.std.specs.Prelude.{◌≡◌, ℕ, ◌*◌, ◌<◌, ◌↔◌, ◌^◌, length, map, slice_get, IfErr, IfOk, Some, None};
 ghost use Rattle.std.specs.List.{All};
+ghost use Rattle.std.specs.List.Sorted.{IsNonDecreasingBy};
 ghost use Rattle.track_graph.specs.Faults.{first_off};
 ghost use Rattle.infra_types.specs.Infras.{IsInfra};
 ghost use Rattle.track_graph.specs.Joints.{AreAllNamed, junction_of};
 ghost use Rattle.track_graph.specs.Layouts.{IsLayout, IsLayoutOf, IsStep, IsSwitchAt, Tells, zone_at};
 ghost use Rattle.track_graph.specs.Graphs.{IsGraph, TellsOf};
-ghost use Rattle.track_graph.specs.Pieces.{pieces_of};
+ghost use Rattle.track_graph.specs.Pieces.{AreCutFrom, AreOn, pieces_of};
 ghost use Rattle.track_graph.specs.Stands.{AreStands, stands_of};
 
 use crate::faults::GraphFault;
@@ -117,30 +118,37 @@ impl Graph {
         self.zones.of_pieces[number as usize]
     }
 
-    /// The pieces of a track, from its begin to its end.
+    /// The pieces of a track, from its begin to its end: it is cut where detectors stand.
     pub fn pieces(&self, track: u32) -> &[Piece]
         requires { track < length self.now.infra.tracks }
-        ensures { result.now ≡ pieces_of self.now.pieces track }
+        ensures pieces { result.now ≡ pieces_of self.now.pieces track }
+        ensures cut { AreCutFrom self.now.infra.tracks self.now.stands self.now.pieces track }
+        ensures some { 0 < length (pieces_of self.now.pieces track) }
+        ensures order { IsNonDecreasingBy (λ piece. piece.begin) (pieces_of self.now.pieces track) }
     {
         let row = &self.pieces[track as usize];
         row.as_slice()
     }
 
-    /// The detectors of a track, from its begin to its end; those at one position in the file's order.
+    /// The detectors of a track, from its begin to its end; those at one position in the file's order. Each stands
+    /// within the track.
     pub fn stands(&self, track: u32) -> &[Stand]
         requires { track < length self.now.infra.tracks }
         ensures stands { result.now ≡ stands_of self.now.stands track }
         ensures row { AreStands self.now.infra.detectors track (stands_of self.now.stands track) }
+        ensures within { AreOn self.now.infra.tracks track (stands_of self.now.stands track) }
     {
         let row = &self.stands[track as usize];
         row.as_slice()
     }
 
-    /// The buffer stops of a track, from its begin to its end; those at one position in the file's order.
+    /// The buffer stops of a track, from its begin to its end; those at one position in the file's order. Each
+    /// stands within the track.
     pub fn stops(&self, track: u32) -> &[Stand]
         requires { track < length self.now.infra.tracks }
         ensures stops { result.now ≡ stands_of self.now.stops track }
         ensures row { AreStands self.now.infra.buffer_stops track (stands_of self.now.stops track) }
+        ensures within { AreOn self.now.infra.tracks track (stands_of self.now.stops track) }
     {
         let row = &self.stops[track as usize];
         row.as_slice()

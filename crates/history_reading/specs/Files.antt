@@ -1,0 +1,39 @@
+-- What a file tells that should be a journal of a version, with two digests, on a timetable.
+use Rattle.std.specs.Prelude.{◌≡◌, ℕ, List, ◌++◌}
+use Rattle.rail_types.specs.declared.entries.Entry.{Entry}
+use Rattle.rail_types.specs.Timetables.{Timetable}
+use Rattle.journal_text.specs.Headers.{header_of_version}
+use Rattle.journal_reading.specs.declared.faults.OpenFault.{OpenFault}
+use Rattle.journal_reading.specs.declared.faults.OpenFault.TheVariants.{ReadFault, Damaged, Illegal, Memory}
+use Rattle.journal_reading.specs.Starts.{StartIsRefused}
+use Rattle.journal_reading.specs.Walks.{IsReadTo, IsDamagedAt, IsIllegalAt}
+
+-- behind the header stands what has P
+abbrev pub HasBehind : List ℕ → List ℕ → (List ℕ → Type 0) → Type 0
+HasBehind header file P = (left : List ℕ) × (file ≡ header ++ left) × P left
+
+-- the file has the header, and behind it these entries, up to a gate at this offset that isn't open
+abbrev pub IsFound : Timetable → ℕ → List ℕ → List ℕ → List ℕ → List Entry → ℕ → Type 0
+IsFound timetable version network base file entries gate =
+    HasBehind (header_of_version version network base) file
+    (λ left. IsReadTo timetable version left 76 entries gate)
+
+-- why the bytes of a file are refused; a fault of the disk and want of memory are none of their own
+abbrev pub IsRefused : Timetable → ℕ → List ℕ → List ℕ → List ℕ → OpenFault → Type 0
+IsRefused timetable version network base file (Damaged at) =
+    HasBehind (header_of_version version network base) file
+    (λ left. IsDamagedAt timetable version left 76 at)
+IsRefused timetable version network base file (Illegal entry) =
+    HasBehind (header_of_version version network base) file
+    (λ left. IsIllegalAt timetable version left entry)
+IsRefused timetable version network base file ReadFault = Unit {0}
+IsRefused timetable version network base file Memory = Unit {0}
+IsRefused timetable version network base file fault =
+    StartIsRefused version network base file fault
+
+-- inside: why the bytes behind the header are refused
+abbrev pub WalkIsRefused : Timetable → ℕ → List ℕ → OpenFault → Type 0
+WalkIsRefused timetable version left (Damaged at) = IsDamagedAt timetable version left 76 at
+WalkIsRefused timetable version left (Illegal entry) = IsIllegalAt timetable version left entry
+WalkIsRefused timetable version left Memory = Unit {0}
+WalkIsRefused timetable version left other = ⊥

@@ -1,0 +1,84 @@
+ghost use Rattle.std.specs.Prelude.{◌≡◌, ◌+◌, ◌<◌, ◌≤◌, ◌^◌, [], ℕ, List, Some, IfErr, IfOk, IfSome, OnOk};
+ghost use Rattle.history_reading.specs.Failing.{IsAsFaulty, IsNotOfDisk, IsOnlyRead, IsUnread};
+ghost use Rattle.history_reading.specs.Files.{IsFound, IsRefused};
+
+use crate::histories::{Found, read_history};
+use grant_log::History;
+use journal_reading::{OpenFault, pass_header};
+use outside_io::Disk;
+use std::alloc::Global;
+
+// All bytes of a disk, after a sync.
+fn read_file<D: Disk>(alloc: Global, disk: &mut D) -> Result<Vec<u8>, OpenFault>
+    ensures bytes { IfOk result (λ file. IfSome (D.contents disk.old) (λ bytes. file.items ≡ bytes)) }
+    ensures durable { OnOk result ((image : List ℕ) → D.images disk.new image →
+        D.contents disk.old ≡ Some image) }
+    ensures read { IsOnlyRead D.Disk disk.old disk.new }
+    ensures tick { D.clock disk.new ≤ D.clock disk.old + 1 }
+    ensures unread { IfErr result IsUnread }
+    ensures cause { IsAsFaulty (D.faults disk.old) (D.faults disk.new) result }
+{
+    let Ok(()) = disk.sync() else {
+        return Err(OpenFault::ReadFault);
+    };
+    let Ok(count) = disk.len() else {
+        return Err(OpenFault::ReadFault);
+    };
+    let Ok(mut file) = Vec::from_elem(alloc, 0u8, count as usize) else {
+        return Err(OpenFault::Memory);
+    };
+    let Ok(got) = disk.read(0, &mut file) else {
+        return Err(OpenFault::ReadFault);
+    };
+    file.truncate(got);
+    Ok(file)
+}
+
+/// Reads a journal of a version, for a network's file and a base timetable's file with these digests: a sync, and one
+/// pass over the bytes. It begins with the empty history of their network and their base timetable, and writes nothing.
+pub fn read_journal<D: Disk>(
+    alloc: Global,
+    disk: &mut D,
+    empty: History,
+    version: u32,
+    network: &[u8; 32],
+    base: &[u8; 32],
+) -> Result<Found, OpenFault>
+    requires empty { empty.entries ≡ [] }
+    ensures timetable { IfOk result (λ found. found.history.timetable ≡ empty.timetable) }
+    ensures found { IfOk result (λ found. IfSome (D.contents disk.old) (λ file. IsFound
+        empty.timetable version network.now base.now file found.history.entries found.gate)) }
+    ensures room { IfOk result (λ found. found.gate + 1 < 2 ^ 64) }
+    ensures durable { OnOk result ((image : List ℕ) → D.images disk.new image →
+        D.contents disk.old ≡ Some image) }
+    ensures read { IsOnlyRead D.Disk disk.old disk.new }
+    ensures tick { D.clock disk.new ≤ D.clock disk.old + 1 }
+    ensures refused { IfErr result (λ fault. IfSome (D.contents disk.old) (λ file.
+        IsRefused empty.timetable version network.now base.now file fault)) }
+    ensures cause { IsAsFaulty (D.faults disk.old) (D.faults disk.new) result }
+{
+    let file = read_file(alloc, disk)?;
+    read_bytes(alloc, &file, empty, version, network, base)
+}
+
+// The history of these bytes.
+fn read_bytes(
+    alloc: Global,
+    file: &[u8],
+    empty: History,
+    version: u32,
+    network: &[u8; 32],
+    base: &[u8; 32],
+) -> Result<Found, OpenFault>
+    requires empty { empty.entries ≡ [] }
+    ensures timetable { IfOk result (λ found. found.history.timetable ≡ empty.timetable) }
+    ensures found { IfOk result (λ found. IsFound
+        empty.timetable version network.now base.now file.now found.history.entries found.gate) }
+    ensures room { IfOk result (λ found. found.gate + 1 < 2 ^ 64) }
+    ensures refused { IfErr result
+        (IsRefused empty.timetable version network.now base.now file.now) }
+    ensures quiet { IfErr result IsNotOfDisk }
+{
+    let left = pass_header(file, version, network, base)?;
+    read_history(alloc, empty, left, version)
+}

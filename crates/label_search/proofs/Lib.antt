@@ -1,0 +1,17 @@
+pub mod Exclusion
+pub mod Limiting
+pub mod Zones
+pub mod Anys
+pub mod Gaps
+pub mod Pairs
+pub mod SeenTicks
+pub mod Covers
+pub mod Growth
+pub mod Reaching
+pub mod Waiting
+pub mod Starting
+pub mod Fronts
+pub mod Members
+pub mod Rebuilding
+pub mod Seeking
+pub mod Below

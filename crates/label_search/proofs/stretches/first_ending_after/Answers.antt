@@ -1,0 +1,15 @@
+use Rattle.std.proofs.Common.{rules, of_calls, ◌≡◌, int_le, true, false}
+use Rattle.std.specs.List.Sorted.{IsPartitionPoint}
+use Rattle.std.proofs.lemmas.Fn.{always_returns_same}
+use Rattle.label_search.proofs.Zones.{ends_by_tick, ended, not_ended}
+use Rattle.label_search.proofs.stretches.first_ending_after.Goals as goal
+
+-- the spans are parted by whether they have ended
+point : (c : goal.After-partition_point) → IsPartitionPoint (λ one. int_le one.to c.args.span.now.from ≡ true) (λ one. int_le one.to c.args.span.now.from ≡ false) c.args.kept.now c.partition_point.result
+point c = c.partition_point.ensures.partitioned (λ one. int_le one.to c.args.span.now.from) (always_returns_same _ _ _ (λ a r f k. search (rules, of_calls))) (ends_by_tick _ _ c.requires)
+
+pub returns-clause-before : goal.returns-clause-before
+returns-clause-before c k other low high = ended _ _ ((point c).0 k other low high)
+
+pub returns-clause-after : goal.returns-clause-after
+returns-clause-after c k other low high = not_ended _ _ ((point c).1 k other low high)

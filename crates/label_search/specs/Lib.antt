@@ -1,0 +1,12 @@
+pub mod Free
+pub mod Spans
+pub mod Paths
+pub mod Limits
+pub mod Closed
+pub mod Known
+pub mod Labels
+pub mod Plans
+pub mod Search
+pub mod Rebuilt
+pub mod Found
+pub mod Sought

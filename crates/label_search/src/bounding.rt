@@ -1,0 +1,187 @@
+//! What is ahead of each place: the ticks of the fastest moves from there to an end. They are found without proof
+//! and tested.
+
+ghost use Rattle.std.specs.Prelude.{◌≡◌, ℕ, ◌<◌, pos, ◌+ℤ◌, ◌≤ℤ◌, All, IfOk, IsTrue, length};
+ghost use Rattle.label_search.specs.Free.{Book};
+ghost use Rattle.label_search.specs.Plans.{IsPlan, IsShort};
+ghost use Rattle.label_search.specs.Paths.{place_at as place_of};
+ghost use Rattle.label_search.specs.Limits.{IsAhead, IsConsistent, IsBound, least_wait as wait_of};
+
+use crate::limits::{Ahead, ahead_at, ahead_to};
+use crate::plans::{Move, Place, Plan, Target};
+use no_memory::NoMemory;
+use rail_types::{FAR_TICK, List, Tick};
+use std::alloc::Global;
+
+// A move into a place: where from, and its ticks with the wait before it.
+#[derive(Clone, Copy, Debug)]
+struct Entry {
+    from: usize,
+    ticks: Tick,
+}
+
+/// The ticks from each place to an end, which no train takes faster.
+pub fn bounds(alloc: Global, plan: &Plan) -> Result<List<Ahead>, NoMemory>
+    requires plan { (book : Book) × IsPlan plan.now book }
+    ensures ahead { IfOk result (All IsAhead) }
+    ensures consistent { IfOk result (IsConsistent plan.now) }
+{
+    let ahead = List::from_vec(distances(alloc, plan)?);
+    if are_ahead(&ahead) && are_bounds(plan, &ahead) {
+        return Ok(ahead);
+    }
+    Ok(List::new(alloc))
+}
+
+fn are_ahead(ahead: &List<Ahead>) -> bool
+    ensures { IsTrue result → All IsAhead ahead.now }
+{
+    ahead
+        .as_slice()
+        .iter()
+        .all(|one| 0 <= one.ticks && one.ticks <= FAR_TICK)
+}
+
+fn are_bounds(plan: &Plan, ahead: &List<Ahead>) -> bool
+    requires plan { (book : Book) × IsPlan plan.now book }
+    requires ahead { All IsAhead ahead.now }
+    ensures { IsTrue result → IsConsistent plan.now ahead.now }
+{
+    for place in 0..plan.places.len() {
+        if !is_bound(plan, ahead, place) {
+            return false;
+        }
+    }
+    true
+}
+
+fn is_bound(plan: &Plan, ahead: &List<Ahead>, place: usize) -> bool
+    requires plan { (book : Book) × IsPlan plan.now book }
+    requires ahead { All IsAhead ahead.now }
+    requires place { place < length plan.now.places }
+    ensures { IsTrue result → (number : ℕ) → number < length (place_of plan.now place).moves → IsBound plan.now ahead.now place number }
+{
+    let here = &plan.places.as_slice()[place];
+    let least = ahead_at(ahead, place);
+    let moves = here.moves.as_slice();
+    for number in 0..moves.len() {
+        let step = &moves[number];
+        if !is_least(here, step, &least, &ahead_to(ahead, &step.target)) {
+            return false;
+        }
+    }
+    true
+}
+
+// Whether a move from a place with the wait before it takes the ticks by which it brings the end nearer.
+fn is_least(place: &Place, step: &Move, here: &Ahead, there: &Ahead) -> bool
+    requires dwell { IsShort place.now.dwell }
+    requires run { IsShort step.now.run }
+    requires there { IsAhead there.now }
+    ensures { IsTrue result → here.now.ticks ≤ℤ ((wait_of place.now +ℤ step.now.run) +ℤ there.now.ticks) }
+{
+    if place.standing {
+        here.ticks <= place.dwell + step.run + there.ticks
+    } else {
+        here.ticks <= step.run + there.ticks
+    }
+}
+
+// The least ticks to the end, which stands as one place behind the others.
+fn distances(alloc: Global, plan: &Plan) -> Result<Vec<Ahead>, NoMemory> {
+    let end = plan.places.len();
+    let entries = entries_of(alloc, plan)?;
+    let mut ahead = all_far(alloc, end)?;
+    let mut open = Vec::new(alloc);
+    open.push(end)?;
+    for _ in 0..end {
+        open = nearer(
+            alloc,
+            entries.as_slice(),
+            ahead.as_mut_slice(),
+            open.as_slice(),
+        )?;
+    }
+    Ok(ahead)
+}
+
+fn all_far(alloc: Global, places: usize) -> Result<Vec<Ahead>, NoMemory> {
+    let mut ahead = Vec::new(alloc);
+    for _ in 0..places {
+        ahead.push(Ahead { ticks: FAR_TICK })?;
+    }
+    ahead.push(Ahead { ticks: 0 })?;
+    Ok(ahead)
+}
+
+// The places that come nearer by a move into one of these.
+fn nearer(
+    alloc: Global,
+    entries: &[Vec<Entry>],
+    ahead: &mut [Ahead],
+    open: &[usize],
+) -> Result<Vec<usize>, NoMemory> {
+    let mut next = Vec::new(alloc);
+    for place in open {
+        let Some(there) = ahead.get(*place) else {
+            continue;
+        };
+        let there = *there;
+        let Some(into) = entries.get(*place) else {
+            continue;
+        };
+        for entry in into.as_slice() {
+            if comes_nearer(ahead, entry, &there) {
+                next.push(entry.from)?;
+            }
+        }
+    }
+    Ok(next)
+}
+
+fn comes_nearer(ahead: &mut [Ahead], entry: &Entry, there: &Ahead) -> bool {
+    let ticks = there.ticks.saturating_add(entry.ticks);
+    let Some(here) = ahead.get_mut(entry.from) else {
+        return false;
+    };
+    if here.ticks <= ticks {
+        return false;
+    }
+    here.ticks = ticks;
+    true
+}
+
+// Of each place, and of the end, the moves into it.
+fn entries_of(alloc: Global, plan: &Plan) -> Result<Vec<Vec<Entry>>, NoMemory> {
+    let places = plan.places.as_slice();
+    let mut entries = Vec::new(alloc);
+    for _ in 0..=places.len() {
+        entries.push(Vec::new(alloc))?;
+    }
+    for from in 0..places.len() {
+        enter(entries.as_mut_slice(), places.len(), from, &places[from])?;
+    }
+    Ok(entries)
+}
+
+fn enter(
+    entries: &mut [Vec<Entry>],
+    end: usize,
+    from: usize,
+    place: &Place,
+) -> Result<(), NoMemory> {
+    let wait = if place.standing { place.dwell } else { 0 };
+    for step in place.moves.as_slice() {
+        let to = match step.target {
+            Target::Place(to) => to as usize,
+            Target::End => end,
+        };
+        if let Some(into) = entries.get_mut(to) {
+            into.push(Entry {
+                from,
+                ticks: wait.saturating_add(step.run),
+            })?;
+        }
+    }
+    Ok(())
+}

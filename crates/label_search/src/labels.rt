@@ -1,0 +1,336 @@
+//! Labels: places with windows of ticks that the train can have there, and where these came from.
+
+ghost use Rattle.rail_types.specs.declared.limits.TheConstants.{FAR_TICK};
+ghost use Rattle.std.specs.Prelude.{◌≡◌, ℕ, ◌<◌, ◌≤◌, ℤ, ◌+ℤ◌, ◌<ℤ◌, ◌≤ℤ◌, [], ◌∷◌, ◌++◌, ◌↔◌, false, length, take, All, Bool as bool_type, IfOk, IsTrue, OnOk};
+ghost use Rattle.free_windows.specs.Free.{Holds};
+ghost use Rattle.rail_types.specs.Limits.{IsNear};
+ghost use Rattle.label_search.specs.Spans.{IsNearBelow};
+ghost use Rattle.label_search.specs.Labels.{AreFronts, AreJoined, GoesOn, HasAllFrom, IsCovered, IsGrown, IsIn, IsPartOf, IsSourceOf, IsReached, IsUnseen, as_front, as_member, label_at, members_of};
+ghost use Rattle.std.specs.Prelude.{List as list_of};
+ghost use Rattle.label_search.specs.declared.labels.Front.{Front as front_type};
+ghost use Rattle.label_search.specs.Closed.{IsHeld};
+ghost use Rattle.std.specs.Int.{int_max};
+
+use crate::plans::Member;
+use crate::seen::Seen;
+use crate::stretches::behind;
+use no_memory::NoMemory;
+use rail_types::{Tick, Window};
+use std::alloc::Global;
+use std::marker::Model;
+
+/// Where the ticks of a label came from.
+#[derive(Clone, Copy, Debug)]
+pub enum Origin {
+    /// The window of departure.
+    Start,
+    /// Waits at the place, after arrivals the last of which ends a window.
+    Wait {
+        arrivals: Window,
+    },
+    /// A move from a place, where the train was `ready` or not.
+    Move {
+        from: u32,
+        ready: bool,
+        number: usize,
+    },
+}
+
+/// Ticks at which the train arrives at a place or, where it is `ready`, can go on from there.
+#[derive(Clone, Copy, Debug)]
+pub struct Label {
+    pub place: u32,
+    pub ready: bool,
+    pub ticks: Window,
+    pub origin: Origin,
+}
+
+// The number of a label, and where its ticks came from.
+#[derive(Clone, Copy, Debug)]
+pub(crate) struct Source {
+    pub(crate) number: usize,
+    pub(crate) origin: Origin,
+}
+
+/// The same without its origin.
+#[derive(Clone, Copy, Debug, PartialEq, Eq, PartialOrd, Ord)]
+pub struct Front {
+    pub place: u32,
+    pub ready: bool,
+    pub ticks: Window,
+}
+
+/// A tick of a place.
+#[derive(Clone, Copy, Debug)]
+pub(crate) struct Moment {
+    pub(crate) place: u32,
+    pub(crate) ready: bool,
+    pub(crate) tick: Tick,
+}
+
+/// Labels, and of each place the ticks that they have.
+#[derive(Debug, Drop)]
+pub(crate) struct Labels {
+    labels: Vec<Label>,
+    arrived: Vec<Seen>,
+    ready: Vec<Seen>,
+}
+
+impl Model for Labels {
+    ghost use Rattle.std.specs.Prelude.{length};
+    ghost use Rattle.label_search.specs.Known.{Known};
+    ghost use Rattle.label_search.specs.Labels.{AreCovered};
+
+    ghost Value = { Known };
+
+    ghost view = { λ a. record { labels = a.labels.items; places = length a.arrived.items } };
+
+    ghost invariant = { λ a. AreCovered a.labels.items a.arrived.items a.ready.items };
+}
+
+impl Labels {
+    // No labels, of so many places.
+    pub(crate) fn new(alloc: Global, places: usize) -> Result<Labels, NoMemory>
+        ensures labels { IfOk result (λ known. known.labels ≡ []) }
+        ensures places { IfOk result (λ known. known.places ≡ places) }
+    {
+        let mut arrived = Vec::new(alloc);
+        let mut ready = Vec::new(alloc);
+        for _ in 0..places {
+            arrived.push(Seen::new(alloc))?;
+            ready.push(Seen::new(alloc))?;
+        }
+        Ok(Labels {
+            labels: Vec::new(alloc),
+            arrived,
+            ready,
+        })
+    }
+
+    pub(crate) fn len(&self) -> usize
+        ensures { result ≡ length self.now.labels }
+    {
+        self.labels.len()
+    }
+
+    // The last label before a number that has a tick.
+    pub(crate) fn source_of(&self, moment: &Moment, until: usize) -> Source
+        requires until { until ≤ length self.now.labels }
+        requires reached { IsReached (take until self.now.labels) moment.now.place moment.now.ready moment.now.tick }
+        ensures { IsSourceOf self.now.labels until moment.now.place moment.now.ready moment.now.tick result }
+    {
+        source_among(self.labels.as_slice(), moment, until)
+    }
+
+    // The windows of ticks of the labels from a number on, each as long as can be.
+    pub(crate) fn fronts(&self, alloc: Global, from: usize) -> Result<Vec<Front>, NoMemory>
+        requires some { All (λ label. label.ticks.from ≤ℤ label.ticks.to) self.now.labels }
+        ensures some { IfOk result (λ fronts. All (λ front. front.ticks.from ≤ℤ front.ticks.to) fronts.items) }
+        ensures sound { IfOk result (λ fronts. (place : ℕ) (ready : bool_type) (tick : ℤ) → IsIn fronts.items place ready tick → IsReached self.now.labels place ready tick) }
+        ensures complete { IfOk result (λ fronts. HasAllFrom from self.now.labels fronts.items) }
+    {
+        let mut parts = fronts_from(alloc, self.labels.as_slice(), from)?;
+        parts.sort_unstable();
+        let fronts = merged(alloc, parts.as_slice())?;
+        Ok(fronts)
+    }
+
+    // The places and ticks of arrival.
+    pub(crate) fn members(&self, alloc: Global) -> Result<Vec<Member>, NoMemory>
+        requires some { All (λ label. label.ticks.from ≤ℤ label.ticks.to) self.now.labels }
+        ensures held { IfOk result (λ members. (place : ℕ) (tick : ℤ) → IsReached self.now.labels place false tick → IsHeld members.items place tick) }
+        ensures reached { IfOk result (λ members. (place : ℕ) (tick : ℤ) → IsHeld members.items place tick → IsReached self.now.labels place false tick) }
+    {
+        let fronts = self.fronts(alloc, 0)?;
+        let members = members_among(alloc, fronts.as_slice())?;
+        Ok(members)
+    }
+
+    // Labels for those ticks that no label has.
+    pub(crate) fn add(&mut self, wanted: &Label) -> Result<(), NoMemory>
+        requires place { wanted.now.place < self.old.places }
+        requires near { IsNearBelow wanted.now.ticks }
+        ensures places { self.new.places ≡ self.old.places }
+        ensures grown { IsGrown (IsPartOf wanted.now) self.old.labels self.new.labels }
+        ensures reached { OnOk result ((tick : ℤ) → Holds wanted.now.ticks tick → IsReached self.new.labels wanted.now.place wanted.now.ready tick) }
+    {
+        if wanted.ready {
+            let seen = &mut self.ready[wanted.place as usize];
+            extend(&mut self.labels, seen, wanted)
+        } else {
+            let seen = &mut self.arrived[wanted.place as usize];
+            extend(&mut self.labels, seen, wanted)
+        }
+    }
+}
+
+fn source_among(labels: &[Label], moment: &Moment, until: usize) -> Source
+    requires until { until ≤ length labels.now }
+    requires reached { IsReached (take until labels.now) moment.now.place moment.now.ready moment.now.tick }
+    ensures { IsSourceOf labels.now until moment.now.place moment.now.ready moment.now.tick result }
+{
+    let mut number = until;
+    while number > 0 {
+        number -= 1;
+        let label = &labels[number];
+        if has(label, moment) {
+            return Source {
+                number,
+                origin: label.origin,
+            };
+        }
+    }
+    unreachable!()
+}
+
+fn fronts_from(alloc: Global, labels: &[Label], from: usize) -> Result<Vec<Front>, NoMemory>
+    requires some { All (λ label. label.ticks.from ≤ℤ label.ticks.to) labels.now }
+    ensures { IfOk result (λ fronts. AreFronts labels.now from (length labels.now) fronts.items) }
+{
+    let mut fronts = Vec::new(alloc);
+    for number in from..labels.len() {
+        fronts.push(front_of(&labels[number]))?;
+    }
+    Ok(fronts)
+}
+
+fn has(label: &Label, moment: &Moment) -> bool
+    ensures { IsTrue result ↔ ((label.now.place ≡ moment.now.place) × (label.now.ready ≡ moment.now.ready) × Holds label.now.ticks moment.now.tick) }
+{
+    label.place == moment.place
+        && label.ready == moment.ready
+        && label.ticks.from <= moment.tick
+        && moment.tick <= label.ticks.to
+}
+
+fn front_of(label: &Label) -> Front
+    ensures { result ≡ as_front label.now }
+{
+    Front {
+        place: label.place,
+        ready: label.ready,
+        ticks: label.ticks,
+    }
+}
+
+// The same ticks, where windows that follow in the list and touch or overlap are one.
+fn merged(alloc: Global, parts: &[Front]) -> Result<Vec<Front>, NoMemory>
+    requires some { All (λ part. part.ticks.from ≤ℤ part.ticks.to) parts.now }
+    ensures some { IfOk result (λ fronts. All (λ front. front.ticks.from ≤ℤ front.ticks.to) fronts.items) }
+    ensures sound { IfOk result (λ fronts. (place : ℕ) (ready : bool_type) (tick : ℤ) → IsIn fronts.items place ready tick → IsIn parts.now place ready tick) }
+    ensures complete { IfOk result (λ fronts. (place : ℕ) (ready : bool_type) (tick : ℤ) → IsIn parts.now place ready tick → IsIn fronts.items place ready tick) }
+{
+    let mut fronts = Vec::new(alloc);
+    let Some(first) = parts.first() else {
+        return Ok(fronts);
+    };
+    let mut current = *first;
+    for number in 1..parts.len() {
+        join(&mut fronts, &mut current, &parts[number])?;
+    }
+    fronts.push(current)?;
+    Ok(fronts)
+}
+
+// Joins one part to the window before it, or begins with it anew.
+fn join(fronts: &mut Vec<Front>, current: &mut Front, part: &Front) -> Result<(), NoMemory>
+    requires some { part.now.ticks.from ≤ℤ part.now.ticks.to }
+    ensures { OnOk result ((parts : list_of front_type) → AreJoined parts fronts.old.items current.old → AreJoined (parts ++ part.now ∷ []) fronts.new.items current.new) }
+{
+    if goes_on(current, part) {
+        *current = joined(current, part);
+        return Ok(());
+    }
+    fronts.push(*current)?;
+    *current = *part;
+    Ok(())
+}
+
+// Whether a window begins in another of the same place, or behind its last tick.
+fn goes_on(current: &Front, part: &Front) -> bool
+    ensures { IsTrue result → GoesOn current.now part.now }
+{
+    current.place == part.place
+        && current.ready == part.ready
+        && current.ticks.from <= part.ticks.from
+        && (part.ticks.from <= current.ticks.to || part.ticks.from - 1 == current.ticks.to)
+}
+
+fn joined(current: &Front, part: &Front) -> Front
+    ensures place { result.place ≡ current.now.place }
+    ensures ready { result.ready ≡ current.now.ready }
+    ensures from { result.ticks.from ≡ current.now.ticks.from }
+    ensures to { result.ticks.to ≡ int_max current.now.ticks.to part.now.ticks.to }
+{
+    Front {
+        place: current.place,
+        ready: current.ready,
+        ticks: Window {
+            from: current.ticks.from,
+            to: current.ticks.to.max(part.ticks.to),
+        },
+    }
+}
+
+// The arrivals among windows.
+fn members_among(alloc: Global, fronts: &[Front]) -> Result<Vec<Member>, NoMemory>
+    ensures { IfOk result (λ members. members.items ≡ members_of fronts.now) }
+{
+    let arrivals = fronts.iter().filter(|front| !front.ready);
+    Ok(arrivals.map(member_of).collect(alloc)?)
+}
+
+fn member_of(front: &Front) -> Member
+    ensures { result ≡ as_member front.now }
+{
+    Member {
+        place: front.place,
+        window: front.ticks,
+    }
+}
+
+fn extend(labels: &mut Vec<Label>, seen: &mut Seen, wanted: &Label) -> Result<(), NoMemory>
+    requires near { IsNearBelow wanted.now.ticks }
+    requires covered { IsCovered labels.old.items wanted.now.place wanted.now.ready seen.old }
+    ensures covered { IsCovered labels.new.items wanted.now.place wanted.now.ready seen.new }
+    ensures grown { IsGrown (IsPartOf wanted.now) labels.old.items labels.new.items }
+    ensures reached { OnOk result ((tick : ℤ) → Holds wanted.now.ticks tick → IsReached labels.new.items wanted.now.place wanted.now.ready tick) }
+{
+    let mut rest = wanted.ticks;
+    while rest.from <= rest.to {
+        let stretch = seen.stretch(&rest);
+        keep(labels, seen, wanted, &stretch.ticks, stretch.free)?;
+        rest = behind(&rest, &stretch.ticks);
+    }
+    Ok(())
+}
+
+// Keeps a label for part of the wanted ticks where no label has them; else one has them already.
+fn keep(
+    labels: &mut Vec<Label>,
+    seen: &mut Seen,
+    wanted: &Label,
+    ticks: &Window,
+    is_new: bool,
+) -> Result<(), NoMemory>
+    requires near { IsNear ticks.now.from × (ticks.now.to <ℤ FAR_TICK) }
+    requires some { ticks.now.from ≤ℤ ticks.now.to }
+    requires part { (tick : ℤ) → Holds ticks.now tick → Holds wanted.now.ticks tick }
+    requires unseen { IsTrue is_new → (tick : ℤ) → Holds ticks.now tick → IsUnseen seen.old tick }
+    requires seen { is_new ≡ false → (tick : ℤ) → Holds ticks.now tick → ¬ IsUnseen seen.old tick }
+    requires covered { IsCovered labels.old.items wanted.now.place wanted.now.ready seen.old }
+    ensures covered { IsCovered labels.new.items wanted.now.place wanted.now.ready seen.new }
+    ensures grown { IsGrown (IsPartOf wanted.now) labels.old.items labels.new.items }
+    ensures reached { OnOk result ((tick : ℤ) → Holds ticks.now tick → IsReached labels.new.items wanted.now.place wanted.now.ready tick) }
+{
+    if !is_new {
+        return Ok(());
+    }
+    labels.push(Label {
+        place: wanted.place,
+        ready: wanted.ready,
+        ticks: *ticks,
+        origin: wanted.origin,
+    })?;
+    seen.insert(ticks)
+}

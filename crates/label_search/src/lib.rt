@@ -1,0 +1,24 @@
+//! The search for a path that leaves last as early as can be, over places with windows of ticks.
+#![tactic(auto)]
+
+mod bounding;
+mod finds;
+mod labels;
+mod laws;
+mod limits;
+mod paths;
+mod plans;
+mod searches;
+mod seeks;
+mod seen;
+mod stretches;
+
+pub use bounding::bounds;
+pub use finds::{Finding, find, find_below};
+pub use labels::{Label, Origin};
+pub use laws::{
+    closed_below_all_is_closed, closed_below_excludes_earlier_paths, closed_members_exclude_paths,
+};
+pub use limits::{Ahead, Limits};
+pub use plans::{LATEST, Member, Move, Place, Plan, Step, Target, Trip};
+pub use seeks::{Sought, search, seek};

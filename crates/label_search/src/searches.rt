@@ -1,0 +1,458 @@
+//! The search over labels, each explored once, in the order in which they came.
+
+ghost use Rattle.std.specs.Prelude.{◌≡◌, ◌⊎◌, ℕ, ◌+◌, ◌<◌, ◌≤◌, ℤ, pos, ◌+ℤ◌, ◌-ℤ◌, ◌<ℤ◌, ◌≤ℤ◌, false, true, length, All, Bool as bool_type, IfOk, IfSome, IsTrue, OnOk};
+ghost use Rattle.std.specs.Int.{int_max, int_min};
+ghost use Rattle.label_search.specs.Free.{Fits};
+ghost use Rattle.free_windows.specs.Free.{Holds};
+ghost use Rattle.rail_types.specs.Limits.{IsNear};
+ghost use Rattle.label_search.specs.Plans.{IsPlan, IsShort};
+ghost use Rattle.label_search.specs.Paths.{place_at as place_of, move_at as move_of, target_of, leave_of};
+ghost use Rattle.label_search.specs.Closed.{IsFreeMove};
+ghost use Rattle.label_search.specs.Limits.{IsAhead, IsBelow, IsLimits, last_enter};
+ghost use Rattle.label_search.specs.Labels.{IsIn, IsReached};
+ghost use Rattle.label_search.specs.Search.{AreWaitsExplored, IsAdmitted, IsBeaten, IsExplored, IsExploredTo, IsFrontOf, IsFurther, IsMoveExplored, IsOneOf, IsSearch, IsStarted, IsWaited, step_at};
+
+use crate::labels::{Front, Label, Labels, Origin};
+use crate::limits::{Ahead, Limits, ahead_to};
+use crate::plans::{Move, Place, Plan, Target, Trip};
+use crate::stretches::behind;
+use free_windows::next_start;
+use no_memory::NoMemory;
+use occupation_book::Occupations;
+use rail_types::Window;
+use std::alloc::Global;
+
+/// An end: the place before it, whether the train had to be ready there, the number of the move, and the ticks of
+/// arrival, of which a path takes the first.
+#[derive(Clone, Copy, Debug)]
+pub struct Ending {
+    pub place: u32,
+    pub ready: bool,
+    pub number: usize,
+    pub arrive: Window,
+}
+
+#[derive(Debug, Drop)]
+pub(crate) struct Search {
+    pub(crate) labels: Labels,
+    pub(crate) best: Option<Ending>,
+    pub(crate) limits: Limits,
+}
+
+// All labels, each explored.
+pub(crate) fn explore_all(
+    alloc: Global,
+    plan: &Plan,
+    book: &Occupations,
+    trip: &Trip,
+    limits: Limits,
+) -> Result<Search, NoMemory>
+    requires plan { IsPlan plan.now book.now }
+    requires limits { IsLimits limits }
+    ensures limits { IfOk result (λ search. search.limits ≡ limits) }
+    ensures search { IfOk result (IsSearch plan.now trip.now book.now) }
+    ensures started { IfOk result (IsStarted plan.now trip.now) }
+    ensures explored { IfOk result (IsExploredTo plan.now trip.now book.now (λ search. length search.labels.labels)) }
+{
+    let mut search = start(alloc, plan, book, trip, limits)?;
+    let mut next = 0;
+    while next < search.labels.len() {
+        let end = search.labels.len();
+        let fronts = search.labels.fronts(alloc, next)?;
+        explore_fronts(plan, book, trip, &mut search, fronts.as_slice())?;
+        next = end;
+    }
+    Ok(search)
+}
+
+fn explore_fronts(
+    plan: &Plan,
+    book: &Occupations,
+    trip: &Trip,
+    search: &mut Search,
+    fronts: &[Front],
+) -> Result<(), NoMemory>
+    requires plan { IsPlan plan.now book.now }
+    requires fronts { All (IsFrontOf plan.now search.old) fronts.now }
+    requires search { IsSearch plan.now trip.now book.now search.old }
+    ensures search { IsSearch plan.now trip.now book.now search.new }
+    ensures further { IsFurther search.old search.new }
+    ensures explored { OnOk result ((place : ℕ) (ready : bool_type) (tick : ℤ) → IsIn fronts.now place ready tick → IsExplored plan.now trip.now book.now search.new place ready tick) }
+{
+    for front in fronts {
+        explore(plan, book, trip, search, front)?;
+    }
+    Ok(())
+}
+
+// The label of the start.
+fn start(
+    alloc: Global,
+    plan: &Plan,
+    book: &Occupations,
+    trip: &Trip,
+    limits: Limits,
+) -> Result<Search, NoMemory>
+    requires plan { IsPlan plan.now book.now }
+    requires limits { IsLimits limits }
+    ensures limits { IfOk result (λ search. search.limits ≡ limits) }
+    ensures search { IfOk result (IsSearch plan.now trip.now book.now) }
+    ensures started { IfOk result (IsStarted plan.now trip.now) }
+{
+    let mut labels = Labels::new(alloc, plan.places.len())?;
+    labels.add(&Label {
+        place: 0,
+        ready: true,
+        ticks: departures(trip, plan),
+        origin: Origin::Start,
+    })?;
+    Ok(Search {
+        labels,
+        best: None,
+        limits,
+    })
+}
+
+fn departures(trip: &Trip, plan: &Plan) -> Window
+    ensures from { result.from ≡ int_max trip.now.depart.from (pos 0) }
+    ensures to { result.to ≡ int_min trip.now.depart.to plan.now.horizon }
+{
+    Window {
+        from: trip.depart.from.max(0),
+        to: trip.depart.to.min(plan.horizon),
+    }
+}
+
+// Explores ticks of a place: the waits, where the train stands there and has not waited, else the moves.
+fn explore(
+    plan: &Plan,
+    book: &Occupations,
+    trip: &Trip,
+    search: &mut Search,
+    front: &Front,
+) -> Result<(), NoMemory>
+    requires plan { IsPlan plan.now book.now }
+    requires front { IsFrontOf plan.now search.old front.now }
+    requires search { IsSearch plan.now trip.now book.now search.old }
+    ensures search { IsSearch plan.now trip.now book.now search.new }
+    ensures further { IsFurther search.old search.new }
+    ensures explored { OnOk result ((tick : ℤ) → Holds front.now.ticks tick → IsExplored plan.now trip.now book.now search.new front.now.place front.now.ready tick) }
+{
+    let place = place_at(plan, front.place);
+    if place.standing && !front.ready {
+        return explore_waits(plan, book, trip, search, front);
+    }
+    explore_moves(plan, book, trip, search, front)
+}
+
+fn explore_moves(
+    plan: &Plan,
+    book: &Occupations,
+    trip: &Trip,
+    search: &mut Search,
+    front: &Front,
+) -> Result<(), NoMemory>
+    requires plan { IsPlan plan.now book.now }
+    requires front { IsFrontOf plan.now search.old front.now }
+    requires goes { IsTrue (place_of plan.now front.now.place).standing → front.now.ready ≡ true }
+    requires search { IsSearch plan.now trip.now book.now search.old }
+    ensures search { IsSearch plan.now trip.now book.now search.new }
+    ensures further { IsFurther search.old search.new }
+    ensures explored { OnOk result ((tick : ℤ) → Holds front.now.ticks tick → (number : ℕ) → number < length (place_of plan.now front.now.place).moves → IsMoveExplored plan.now trip.now book.now front.now.place tick number search.new) }
+{
+    let place = place_at(plan, front.place);
+    for number in 0..place.moves.len() {
+        explore_move(plan, book, trip, search, front, number)?;
+    }
+    Ok(())
+}
+
+fn explore_move(
+    plan: &Plan,
+    book: &Occupations,
+    trip: &Trip,
+    search: &mut Search,
+    front: &Front,
+    number: usize,
+) -> Result<(), NoMemory>
+    requires plan { IsPlan plan.now book.now }
+    requires front { IsFrontOf plan.now search.old front.now }
+    requires number { number < length (place_of plan.now front.now.place).moves }
+    requires goes { IsTrue (place_of plan.now front.now.place).standing → front.now.ready ≡ true }
+    requires search { IsSearch plan.now trip.now book.now search.old }
+    ensures search { IsSearch plan.now trip.now book.now search.new }
+    ensures further { IsFurther search.old search.new }
+    ensures explored { OnOk result ((tick : ℤ) → Holds front.now.ticks tick → IsMoveExplored plan.now trip.now book.now front.now.place tick number search.new) }
+{
+    let step = move_at(plan, front.place, number);
+    let mut rest = enters(front, plan, &search.limits, step);
+    while let Some(free) = next_start(step.pieces.as_slice(), book, &rest) {
+        reach(plan, book, trip, search, front, number, &free)?;
+        rest = behind(&rest, &free);
+    }
+    Ok(())
+}
+
+// What a move leads to that is entered at any of these ticks of a label.
+fn reach(
+    plan: &Plan,
+    book: &Occupations,
+    trip: &Trip,
+    search: &mut Search,
+    front: &Front,
+    number: usize,
+    free: &Window,
+) -> Result<(), NoMemory>
+    requires plan { IsPlan plan.now book.now }
+    requires front { IsFrontOf plan.now search.old front.now }
+    requires number { number < length (place_of plan.now front.now.place).moves }
+    requires goes { IsTrue (place_of plan.now front.now.place).standing → front.now.ready ≡ true }
+    requires some { free.now.from ≤ℤ free.now.to }
+    requires held { (enter : ℤ) → Holds free.now enter → Holds front.now.ticks enter }
+    requires free { (enter : ℤ) → Holds free.now enter → IsFreeMove plan.now book.now front.now.place (step_at number enter) }
+    requires below { (enter : ℤ) → Holds free.now enter → IsBelow search.old.limits (move_of plan.now front.now.place number).target (leave_of plan.now front.now.place (step_at number enter)) }
+    requires search { IsSearch plan.now trip.now book.now search.old }
+    ensures search { IsSearch plan.now trip.now book.now search.new }
+    ensures further { IsFurther search.old search.new }
+    ensures admitted { OnOk result ((enter : ℤ) → Holds free.now enter → IsAdmitted trip.now search.new (move_of plan.now front.now.place number).target (leave_of plan.now front.now.place (step_at number enter))) }
+{
+    let step = move_at(plan, front.place, number);
+    let leaves = later(free, step);
+    match step.target {
+        Target::Place(place) => {
+            let origin = Origin::Move {
+                from: front.place,
+                ready: front.ready,
+                number,
+            };
+            search.labels.add(&Label {
+                place,
+                ready: false,
+                ticks: leaves,
+                origin,
+            })
+        }
+        Target::End => {
+            search.best = better(
+                trip,
+                search.best,
+                &Ending {
+                    place: front.place,
+                    ready: front.ready,
+                    number,
+                    arrive: leaves,
+                },
+            );
+            Ok(())
+        }
+    }
+}
+
+// The earlier of the best end so far and the first of an ending's ticks in the window of arrival.
+fn better(trip: &Trip, best: Option<Ending>, ending: &Ending) -> Option<Ending>
+    requires some { ending.now.arrive.from ≤ℤ ending.now.arrive.to }
+    ensures beaten { (leave : ℤ) → Holds ending.now.arrive leave → Holds trip.now.arrive leave → IsBeaten result leave }
+    ensures kept { (leave : ℤ) → IsBeaten best leave → IsBeaten result leave }
+    ensures one { (result ≡ best) ⊎ IsOneOf trip.now ending.now result }
+{
+    let arrive = shared(&ending.arrive, &trip.arrive);
+    if arrive.from > arrive.to {
+        return best;
+    }
+    match best {
+        Some(other) if other.arrive.from <= arrive.from => best,
+        _ => Some(Ending {
+            place: ending.place,
+            ready: ending.ready,
+            number: ending.number,
+            arrive,
+        }),
+    }
+}
+
+// The ticks of both windows.
+fn shared(one: &Window, other: &Window) -> Window
+    ensures from { result.from ≡ int_max one.now.from other.now.from }
+    ensures to { result.to ≡ int_min one.now.to other.now.to }
+{
+    Window {
+        from: one.from.max(other.from),
+        to: one.to.min(other.to),
+    }
+}
+
+fn explore_waits(
+    plan: &Plan,
+    book: &Occupations,
+    trip: &Trip,
+    search: &mut Search,
+    front: &Front,
+) -> Result<(), NoMemory>
+    requires plan { IsPlan plan.now book.now }
+    requires front { IsFrontOf plan.now search.old front.now }
+    requires standing { IsTrue (place_of plan.now front.now.place).standing }
+    requires arrived { front.now.ready ≡ false }
+    requires search { IsSearch plan.now trip.now book.now search.old }
+    ensures search { IsSearch plan.now trip.now book.now search.new }
+    ensures further { IsFurther search.old search.new }
+    ensures explored { OnOk result ((tick : ℤ) → Holds front.now.ticks tick → AreWaitsExplored plan.now book.now front.now.place tick search.new) }
+{
+    let place = place_at(plan, front.place);
+    go_on_at_once(plan, book, trip, search, front)?;
+    let mut rest = until_the_horizon(&front.ticks, plan);
+    while let Some(free) = next_start(place.waits.as_slice(), book, &rest) {
+        if free.from > front.ticks.to {
+            return Ok(());
+        }
+        wait(
+            plan,
+            book,
+            trip,
+            search,
+            front,
+            &ready_ticks(&free, place, plan),
+        )?;
+        rest = behind(&rest, &free);
+    }
+    Ok(())
+}
+
+// Where there is no dwell the train can go on when it comes.
+fn go_on_at_once(
+    plan: &Plan,
+    book: &Occupations,
+    trip: &Trip,
+    search: &mut Search,
+    front: &Front,
+) -> Result<(), NoMemory>
+    requires plan { IsPlan plan.now book.now }
+    requires front { IsFrontOf plan.now search.old front.now }
+    requires standing { IsTrue (place_of plan.now front.now.place).standing }
+    requires arrived { front.now.ready ≡ false }
+    requires search { IsSearch plan.now trip.now book.now search.old }
+    ensures search { IsSearch plan.now trip.now book.now search.new }
+    ensures further { IsFurther search.old search.new }
+    ensures reached { OnOk result ((place_of plan.now front.now.place).dwell ≡ pos 0 → (tick : ℤ) → Holds front.now.ticks tick → IsReached search.new.labels.labels front.now.place true tick) }
+{
+    if place_at(plan, front.place).dwell != 0 {
+        return Ok(());
+    }
+    wait(plan, book, trip, search, front, &front.ticks)
+}
+
+// A label for the ticks at which the train can go on, after it came at those of another.
+fn wait(
+    plan: &Plan,
+    book: &Occupations,
+    trip: &Trip,
+    search: &mut Search,
+    front: &Front,
+    ticks: &Window,
+) -> Result<(), NoMemory>
+    requires plan { IsPlan plan.now book.now }
+    requires front { IsFrontOf plan.now search.old front.now }
+    requires ticks { (pos 0 ≤ℤ ticks.now.from) × (ticks.now.to ≤ℤ plan.now.horizon) }
+    requires waited { (tick : ℤ) → Holds ticks.now tick → IsWaited plan.now book.now search.old.labels.labels front.now.ticks front.now.place tick }
+    requires search { IsSearch plan.now trip.now book.now search.old }
+    ensures search { IsSearch plan.now trip.now book.now search.new }
+    ensures further { IsFurther search.old search.new }
+    ensures reached { OnOk result ((tick : ℤ) → Holds ticks.now tick → IsReached search.new.labels.labels front.now.place true tick) }
+{
+    let origin = Origin::Wait {
+        arrivals: front.ticks,
+    };
+    search.labels.add(&Label {
+        place: front.place,
+        ready: true,
+        ticks: *ticks,
+        origin,
+    })
+}
+
+pub(crate) fn place_at(plan: &Plan, place: u32) -> &Place
+    requires { place < length plan.now.places }
+    ensures { result.now ≡ place_of plan.now place }
+{
+    &plan.places.as_slice()[place as usize]
+}
+
+pub(crate) fn move_at(plan: &Plan, place: u32, number: usize) -> &Move
+    requires place { place < length plan.now.places }
+    requires number { number < length (place_of plan.now place).moves }
+    ensures { result.now ≡ move_of plan.now place number }
+{
+    &place_at(plan, place).moves.as_slice()[number]
+}
+
+// The ticks of a label at which a move can be entered, leave by the horizon and end below the limit.
+fn enters(front: &Front, plan: &Plan, limits: &Limits, step: &Move) -> Window
+    requires horizon { IsShort plan.now.horizon }
+    requires run { IsShort step.now.run }
+    requires limits { IsLimits limits.now }
+    ensures from { result.from ≡ front.now.ticks.from }
+    ensures to { result.to ≡ int_min (int_min front.now.ticks.to (plan.now.horizon -ℤ step.now.run)) (last_enter limits.now step.now) }
+{
+    let ahead = ahead_to(&limits.ahead, &step.target);
+    let within = enters_within(front, plan, step);
+    until_the_limit(&within, limits, step, &ahead)
+}
+
+fn enters_within(front: &Front, plan: &Plan, step: &Move) -> Window
+    requires horizon { IsShort plan.now.horizon }
+    requires run { IsShort step.now.run }
+    ensures from { result.from ≡ front.now.ticks.from }
+    ensures to { result.to ≡ int_min front.now.ticks.to (plan.now.horizon -ℤ step.now.run) }
+{
+    Window {
+        from: front.ticks.from,
+        to: front.ticks.to.min(plan.horizon - step.run),
+    }
+}
+
+fn until_the_limit(within: &Window, limits: &Limits, step: &Move, ahead: &Ahead) -> Window
+    requires run { IsShort step.now.run }
+    requires below { IsNear limits.now.below }
+    requires ahead { IsAhead ahead.now }
+    ensures from { result.from ≡ within.now.from }
+    ensures to { result.to ≡ int_min within.now.to (((limits.now.below -ℤ pos 1) -ℤ step.now.run) -ℤ ahead.now.ticks) }
+{
+    Window {
+        from: within.from,
+        to: within.to.min(limits.below - 1 - step.run - ahead.ticks),
+    }
+}
+
+fn later(free: &Window, step: &Move) -> Window
+    requires near { IsNear free.now.from × IsNear free.now.to }
+    requires run { IsShort step.now.run }
+    ensures from { result.from ≡ free.now.from +ℤ step.now.run }
+    ensures to { result.to ≡ free.now.to +ℤ step.now.run }
+{
+    Window {
+        from: free.from + step.run,
+        to: free.to + step.run,
+    }
+}
+
+fn until_the_horizon(ticks: &Window, plan: &Plan) -> Window
+    ensures from { result.from ≡ ticks.now.from }
+    ensures to { result.to ≡ plan.now.horizon }
+{
+    Window {
+        from: ticks.from,
+        to: plan.horizon,
+    }
+}
+
+// The ticks at which the train can go on that stands at free ticks: it may leave as the last of them ends.
+fn ready_ticks(free: &Window, place: &Place, plan: &Plan) -> Window
+    requires near { IsNear free.now.from × IsNear free.now.to }
+    requires dwell { IsShort place.now.dwell }
+    ensures from { result.from ≡ free.now.from +ℤ place.now.dwell }
+    ensures to { result.to ≡ int_min (free.now.to +ℤ pos 1) plan.now.horizon }
+{
+    Window {
+        from: free.from + place.dwell,
+        to: (free.to + 1).min(plan.horizon),
+    }
+}

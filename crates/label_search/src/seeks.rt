@@ -1,0 +1,54 @@
+//! The path that arrives first, or none, each with members that show it.
+
+ghost use Rattle.std.specs.Prelude.{IfOk};
+ghost use Rattle.label_search.specs.Plans.{IsPlan};
+ghost use Rattle.label_search.specs.Sought.{IsSearched, IsSought};
+ghost use Rattle.label_search.specs.Limits.{IsConsistent, IsLimits};
+
+use crate::limits::{Limits, no_limits};
+use crate::paths::path_to;
+use crate::plans::{Member, Plan, Step, Trip};
+use crate::searches::explore_all;
+use no_memory::NoMemory;
+use occupation_book::Occupations;
+use rail_types::List;
+use std::alloc::Global;
+
+/// A path that arrives as early as any, or none; with the places and ticks that can be reached.
+#[derive(Debug, Drop)]
+pub enum Sought {
+    Found(List<Step>, List<Member>),
+    NoPath(List<Member>),
+}
+
+/// Looks for a path that fits and arrives as early as any, below a limit. Beside it the members are closed below the
+/// limit for the trip that would arrive before it, and beside `NoPath` for the trip itself.
+pub fn search(
+    alloc: Global,
+    plan: &Plan,
+    book: &Occupations,
+    trip: &Trip,
+    limits: Limits,
+) -> Result<Sought, NoMemory>
+    requires plan { IsPlan plan.now book.now }
+    requires limits { IsLimits limits }
+    requires consistent { IsConsistent plan.now limits.ahead }
+    ensures { IfOk result (IsSearched plan.now trip.now book.now limits) }
+{
+    let search = explore_all(alloc, plan, book, trip, limits)?;
+    let members = List::from_vec(search.labels.members(alloc)?);
+    let Some(ending) = search.best else {
+        return Ok(Sought::NoPath(members));
+    };
+    let steps = path_to(alloc, plan, book, trip, &search, &ending)?;
+    Ok(Sought::Found(steps, members))
+}
+
+/// The same below no limit.
+pub fn seek(alloc: Global, plan: &Plan, book: &Occupations, trip: &Trip) -> Result<Sought, NoMemory>
+    requires plan { IsPlan plan.now book.now }
+    ensures { IfOk result (IsSought plan.now trip.now book.now) }
+{
+    let sought = search(alloc, plan, book, trip, no_limits(alloc))?;
+    Ok(sought)
+}

@@ -1,9 +1,0 @@
--- A list of data is the list of its items.
-use Rattle.std.proofs.Common.{◌≡◌, List, [], ◌∷◌, refl, ap}
-use Rattle.serde_json.specs.Data.{Data}
-use Rattle.serde_json.specs.View.{items_of}
-use Rattle.railjson_read.specs.Fields.{list_of}
-
-pub list_back : (ds : List Data) → list_of (items_of ds) ≡ ds
-list_back [] = refl
-list_back (d ∷ ds) = ap (λ (rest : List Data). d ∷ rest) (list_back ds)

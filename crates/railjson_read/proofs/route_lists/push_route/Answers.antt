@@ -1,7 +1,0 @@
-use Rattle.std.proofs.Common.{length}
-use Rattle.std.proofs.lemmas.List.Elements.{All-push}
-use Rattle.infra_types.specs.Infras.{IsRoute}
-use Rattle.railjson_read.proofs.route_lists.push_route.Goals as goal
-
-pub returns-clause-within : goal.returns-clause-within
-returns-clause-within c = rw c.in_ok-push.ensures.ok (All-push (IsRoute (length c.args.switches.now) (length c.args.detectors.now) (length c.args.buffer_stops.now)) c.args.routes.now c.in_ok-route.route c.requires.within c.in_ok-route.ensures.within)

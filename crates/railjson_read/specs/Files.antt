@@ -1,0 +1,53 @@
+-- What the bytes of a file of infrastructure read as: its lists, or the first fault.
+use Rattle.std.specs.Prelude.{ℕ, ◌+◌, pos, List, length, codes, if◌then◌else◌, nat_le, is_some, Result, Ok, Err}
+use Rattle.serde_json.specs.Data.{Data}
+use Rattle.serde_json.specs.Find.{as_object}
+use Rattle.rail_types.specs.declared.limits.TheConstants.{MAX_NETWORK_FILE_BYTES}
+use Rattle.json_fields.specs.Places.{whole_file, spot_of}
+use Rattle.json_fields.specs.Reading.{◌>>=◌, or_fault}
+use Rattle.json_fields.specs.Texts.{data_of}
+use Rattle.infra_types.specs.declared.infras.Infra.{Infra}
+use Rattle.infra_fields.specs.declared.faults.InfraFault.{InfraFault}
+use Rattle.infra_fields.specs.declared.faults.InfraFault.TheVariants.{NotJson, Kind, Limit}
+use Rattle.infra_fields.specs.declared.faults.What.TheVariants as what
+use Rattle.infra_lists.specs.Objects.{tracks_in, switches_in, all_placed_in}
+use Rattle.infra_lists.specs.Signals.{signals_in}
+use Rattle.infra_routes.specs.Points.{points_in}
+use Rattle.infra_routes.specs.Routes.{routes_in}
+use Rattle.infra_routes.specs.Speeds.{speeds_in}
+
+-- The lists of an object, in this order, each with the names of those before it.
+unfoldable pub lists_in : Data → Result Infra InfraFault
+lists_in d = do
+  tracks ← tracks_in d
+  switches ← switches_in tracks d
+  detectors ← all_placed_in (codes "detectors") tracks d
+  buffer_stops ← all_placed_in (codes "buffer_stops") tracks d
+  signals ← signals_in tracks d
+  routes ← routes_in switches detectors buffer_stops d
+  points ← points_in tracks d
+  speeds ← speeds_in tracks d
+  Ok (record {
+    tracks = tracks;
+    switches = switches;
+    detectors = detectors;
+    buffer_stops = buffer_stops;
+    signals = signals;
+    routes = routes;
+    points = points;
+    speeds = speeds;
+  })
+
+abbrev pub object_of : Data → Result Infra InfraFault
+object_of d = if is_some (as_object d) then lists_in d else Err (Kind (spot_of whole_file (codes "file")))
+
+abbrev pub text_at : List ℕ → Result Infra InfraFault
+text_at quoted = do
+  d ← or_fault NotJson (data_of quoted)
+  object_of d
+
+-- What bytes read as, where `quoted` is their text with its numbers quoted. The size of a file comes before all else.
+abbrev pub infra_at : List ℕ → List ℕ → Result Infra InfraFault
+infra_at bytes quoted =
+    if nat_le (length bytes) MAX_NETWORK_FILE_BYTES then text_at quoted
+    else Err (Limit what.File (pos (MAX_NETWORK_FILE_BYTES + 1)))

@@ -1,0 +1,10 @@
+pub mod Sound
+pub mod Places
+pub mod Passages
+pub mod Ways
+pub mod Courses
+pub mod Counts
+pub mod Entries
+pub mod Legs
+pub mod Releases
+pub mod Walks
