@@ -1,5 +1,5 @@
 -- The network of a railway without fault has no flaw.
-use Rattle.std.proofs.Common.{◌≡◌, ℕ, ◌+◌, ◌<◌, ◌≤◌, Bool, true, false, ◌||◌, nat_lt, if◌then◌else◌, List, [], ◌∷◌, ◌++◌, map, sum, length, Option, Some, None, option_map, slice_index, slice_index_or, refl, arith}
+use Rattle.std.proofs.Common.{◌≡◌, ℕ, ◌+◌, ◌<◌, ◌≤◌, Bool, true, false, ◌||◌, nat_lt, if◌then◌else◌, List, [], ◌∷◌, ◌++◌, map, sum, length, Option, Some, None, option_map, slice_index, slice_index_or, refl, arith, ltb-false}
 use Rattle.std.specs.List.{All}
 use Rattle.std.proofs.lemmas.List.Elements.{All-nil, All-cons, All-append, All-head, All-tail}
 use Rattle.rail_types.specs.declared.limits.TheConstants.{MAX_OBJECTS, MAX_CELLS}
@@ -60,6 +60,16 @@ not_over what most count none = over_if (nat_lt most count) (Limit what (told co
 
 none_past : (a b c d e : Bool) → a ≡ false → b ≡ false → c ≡ false → d ≡ false → e ≡ false → (if (a || (b || (c || (d || e)))) then Some flaws.Limit else None) ≡ None
 none_past a b c d e fa fb fc fd fe = rw (fa, fb, fc, fd, fe) refl
+
+pub few_blocks : (railway : Railway) → railway_fault railway ≡ None → count_blocks railway.lines.sights railway.walks ≤ MAX_OBJECTS
+few_blocks railway none =
+    let sights = railway.lines.sights in
+    let first = none_or (empty_fault sights 0 railway.walks) (or_fault (count_fault railway) (long_fault sights railway.walks)) none in
+    let rest = none_or (count_fault railway) (long_fault sights railway.walks) first.1 in
+    let of_zones = none_or (limit_over Zones MAX_OBJECTS railway.zones) (or_fault (limit_over Points MAX_OBJECTS railway.points) (or_fault (limit_over Blocks MAX_OBJECTS (count_blocks sights railway.walks)) (limit_over Cells MAX_CELLS (count_cells railway.walks)))) rest.0 in
+    let of_points = none_or (limit_over Points MAX_OBJECTS railway.points) (or_fault (limit_over Blocks MAX_OBJECTS (count_blocks sights railway.walks)) (limit_over Cells MAX_CELLS (count_cells railway.walks))) of_zones.1 in
+    let of_blocks = none_or (limit_over Blocks MAX_OBJECTS (count_blocks sights railway.walks)) (limit_over Cells MAX_CELLS (count_cells railway.walks)) of_points.1 in
+    ltb-false _ _ (not_over Blocks MAX_OBJECTS (count_blocks sights railway.walks) of_blocks.0)
 
 -- the network of a railway without fault has no flaw
 pub no_flaw_in : (railway : Railway) (net : Network) → IsRailway railway → railway_fault railway ≡ None → IsNetwork railway net → first_flaw net ≡ None

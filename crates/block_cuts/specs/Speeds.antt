@@ -2,10 +2,10 @@
 use Rattle.std.specs.Prelude.{ℕ, Bool, true, false, ◌&&◌, nat_eq, nat_lt, min, max, List, map}
 use Rattle.std.specs.List.{filter, flat_map, fold}
 use Rattle.rail_types.specs.declared.limits.TheConstants.{MAX_SPEED_MM_S}
-use Rattle.railjson_read.specs.declared.ends.Applies.{Applies}
-use Rattle.railjson_read.specs.declared.ends.Applies.TheVariants as applies
-use Rattle.railjson_read.specs.declared.ends.Direction.{Direction}
-use Rattle.railjson_read.specs.declared.ends.Direction.TheVariants.{StartToStop, StopToStart}
+use Rattle.infra_types.specs.declared.ends.Applies.{Applies}
+use Rattle.infra_types.specs.declared.ends.Applies.TheVariants as applies
+use Rattle.infra_types.specs.declared.ends.Direction.{Direction}
+use Rattle.infra_types.specs.declared.ends.Direction.TheVariants.{StartToStop, StopToStart}
 use Rattle.block_cuts.specs.declared.lines.SpeedRange.{SpeedRange}
 use Rattle.route_walk.specs.declared.walks.Stretch.{Stretch}
 

@@ -2,7 +2,7 @@
 
 use crate::rows::{ByRow, InRow};
 use rail_types::List;
-use railjson_read::{Part, Range};
+use infra_types::{Part, Range};
 
 /// A range of a speed section that sets a limit, in millimetres a second.
 #[derive(Clone, Copy, Debug, PartialEq, Eq)]

@@ -1,7 +1,8 @@
 //! The network of a railway.
 
-ghost use Rattle.std.specs.Prelude.{◌≡◌, length, None, IfOk};
+ghost use Rattle.std.specs.Prelude.{◌≡◌, ◌≤◌, length, None, IfOk};
 ghost use Rattle.std.specs.List.{All};
+ghost use Rattle.rail_types.specs.declared.limits.TheConstants.{MAX_OBJECTS};
 ghost use Rattle.rail_types.specs.Flaws.{first_flaw};
 ghost use Rattle.block_cuts.specs.Faults.{count_blocks, railway_fault};
 ghost use Rattle.block_cuts.specs.Networks.{IsRailway, AreInOrder, IsNetwork, AreFine};
@@ -33,6 +34,8 @@ pub fn network_of(alloc: Global, railway: &Railway) -> Result<Network, NoMemory>
     requires none { railway_fault railway.now ≡ None }
     ensures network { IfOk result (λ network. IsNetwork railway.now network) }
     ensures sound { IfOk result (λ network. first_flaw network ≡ None) }
+    ensures few { IfOk result (λ network.
+        count_blocks railway.now.lines.sights railway.now.walks ≤ MAX_OBJECTS) }
     ensures count { IfOk result (λ network.
         length network.blocks ≡ count_blocks railway.now.lines.sights railway.now.walks) }
 {
