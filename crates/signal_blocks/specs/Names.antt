@@ -35,13 +35,17 @@ block_names sights (route ∷ routes) (walk ∷ walks) =
 abbrev pub no_piece : Piece
 no_piece = record { track = 0; begin = 0; end = 0 }
 
--- the pieces of a track with their zones, from its begin to its end
-abbrev pub zoned_on : Layout → ℕ → List ZonedPiece
-zoned_on layout track =
+-- the first pieces of a track, so many, with their zones
+abbrev pub zoned_up_to : Layout → ℕ → ℕ → List ZonedPiece
+zoned_up_to layout track count =
     map (λ n. record {
       zone = zone_at layout track n;
       piece = slice_index_or (pieces_of layout.pieces track) n no_piece;
-    }) (range_with_len 0 (length (pieces_of layout.pieces track)))
+    }) (range_with_len 0 count)
+
+-- the pieces of a track with their zones, from its begin to its end
+abbrev pub zoned_on : Layout → ℕ → List ZonedPiece
+zoned_on layout track = zoned_up_to layout track (length (pieces_of layout.pieces track))
 
 -- the pieces of all tracks with their zones, by track in file order
 abbrev pub zoned_pieces : Layout → ℕ → List ZonedPiece

@@ -20,7 +20,7 @@ point_count infra = 2 * (length infra.detectors + length infra.buffer_stops)
 
 -- The railway of an infrastructure with this layout.
 pub record IsRailwayOf (infra : Infra) (layout : Layout) (railway : Railway) : Type 0 where
-  pub layout : IsLayoutOf infra layout
+  pub laid_out : IsLayoutOf infra layout
   pub zones : railway.zones ≡ layout.count
   pub points : railway.points ≡ point_count infra
   pub stops : railway.stops ≡ length infra.points

@@ -1,7 +1,7 @@
 //! Block signals at their detectors.
 
 ghost use Rattle.std.specs.Prelude.{◌≡◌, ℕ, ◌+◌, ◌*◌, ◌<◌, ◌≤◌, ◌^◌, length, map, filter, option_map, slice_get, slice_set, nat_le, OnOk, IfOk, IfSome, Some, None};
-ghost use Rattle.std.specs.List.{All, AllPairs};
+ghost use Rattle.std.specs.List.{All, AllPairs, Contains};
 ghost use Rattle.block_cuts.specs.Cuts.{sight_at};
 ghost use Rattle.infra_types.specs.Infras.{IsInfra, IsSignal};
 ghost use Rattle.rail_types.specs.declared.limits.TheConstants.{MAX_SIGHT_M};
@@ -25,8 +25,10 @@ pub struct Post {
     pub sight_m: u32,
 }
 
+#[tactic(auto, using(crate::proofs::Ahead::member_at))]
 fn stand_at(stands: &[Stand], place: usize) -> Option<Stand>
-    ensures { result ≡ slice_get stands.now place }
+    ensures stand { result ≡ slice_get stands.now place }
+    ensures member { IfSome result (Contains stands.now) }
 {
     match stands.get(place) {
         Some(stand) => Some(*stand),
@@ -37,7 +39,9 @@ fn stand_at(stands: &[Stand], place: usize) -> Option<Stand>
 /// The first that stands at or after a position, on the way from the track's begin.
 fn first_from(stands: &[Stand], position: u64) -> Option<Stand>
     requires { AllPairs ComesBefore stands.now }
-    ensures { result ≡ first_in StartToStop (filter (λ stand. nat_le position stand.position) stands.now) }
+    ensures first { result
+        ≡ first_in StartToStop (filter (λ stand. nat_le position stand.position) stands.now) }
+    ensures member { IfSome result (Contains stands.now) }
 {
     let first = stands.partition_point(|stand| stand.position < position);
     stand_at(stands, first)
@@ -46,7 +50,9 @@ fn first_from(stands: &[Stand], position: u64) -> Option<Stand>
 /// The last that stands at or before a position, on the way from the track's begin.
 fn last_to(stands: &[Stand], position: u64) -> Option<Stand>
     requires { AllPairs ComesBefore stands.now }
-    ensures { result ≡ first_in StopToStart (filter (λ stand. nat_le stand.position position) stands.now) }
+    ensures last { result
+        ≡ first_in StopToStart (filter (λ stand. nat_le stand.position position) stands.now) }
+    ensures member { IfSome result (Contains stands.now) }
 {
     let count = stands.partition_point(|stand| stand.position <= position);
     if count == 0 {
@@ -58,7 +64,8 @@ fn last_to(stands: &[Stand], position: u64) -> Option<Stand>
 /// Of the detectors along a signal's track the first at or after it, in its direction.
 fn detector_among(bal: &Bal, stands: &[Stand]) -> Option<Stand>
     requires { AllPairs ComesBefore stands.now }
-    ensures { result ≡ detector_among bal.now stands.now }
+    ensures detector { result ≡ detector_among bal.now stands.now }
+    ensures member { IfSome result (Contains stands.now) }
 {
     match bal.direction {
         Direction::StartToStop => first_from(stands, bal.position),

@@ -1,9 +1,10 @@
 //! The pieces of zones, and their names.
 
-ghost use Rattle.std.specs.Prelude.{◌≡◌, ◌++◌, ◌+◌, ◌<◌, ◌≤◌, length, map, OnOk, IfOk};
-ghost use Rattle.std.specs.List.{All};
+ghost use Rattle.std.specs.Prelude.{◌≡◌, ◌++◌, ◌+◌, ◌<◌, ◌≤◌, ◌^◌, length, map, OnOk, IfOk};
+ghost use Rattle.std.specs.List.{All, sum_by};
 ghost use Rattle.infra_types.specs.Infras.{IsInfra};
 ghost use Rattle.track_graph.specs.Layouts.{IsLayoutOf};
+ghost use Rattle.track_graph.specs.Pieces.{pieces_of};
 ghost use Rattle.signal_blocks.specs.Inside.{IsZoned};
 ghost use Rattle.signal_blocks.specs.Names.{track_piece, zone_names, zoned_on, zoned_pieces};
 
@@ -36,7 +37,8 @@ fn zoned_pieces(
     graph: &Graph,
     tracks: u32,
 ) -> Result<List<ZonedPiece>, NoMemory>
-    requires { tracks ≤ length graph.now.infra.tracks }
+    requires tracks { tracks ≤ length graph.now.infra.tracks }
+    requires few { sum_by length graph.now.pieces < 2 ^ 32 }
     ensures { IfOk result (λ pieces. pieces ≡ zoned_pieces graph.now tracks) }
 {
     let mut pieces = List::new(alloc);
@@ -47,14 +49,15 @@ fn zoned_pieces(
 }
 
 fn add_zoned(graph: &Graph, track: u32, to: &mut List<ZonedPiece>) -> Result<(), NoMemory>
-    requires { track < length graph.now.infra.tracks }
+    requires track { track < length graph.now.infra.tracks }
+    requires few { length (pieces_of graph.now.pieces track) < 2 ^ 32 }
     ensures ok { OnOk result (to.new ≡ to.old ++ zoned_on graph.now track) }
 {
     let pieces = graph.pieces(track);
-    'pieces: for number in 0..pieces.len() {
+    'pieces: for number in 0..pieces.len() as u32 {
         to.push(ZonedPiece {
-            zone: graph.zone_of(track, number as u32),
-            piece: pieces[number],
+            zone: graph.zone_of(track, number),
+            piece: pieces[number as usize],
         })?;
     }
     Ok(())
