@@ -9,7 +9,7 @@ use outside_io::Disk;
 use std::alloc::Global;
 
 // All bytes of a disk, after a sync.
-fn read_file<D: Disk>(alloc: Global, disk: &mut D) -> Result<Vec<u8>, OpenFault>
+pub(crate) fn read_file<D: Disk>(alloc: Global, disk: &mut D) -> Result<Vec<u8>, OpenFault>
     ensures bytes { IfOk result (λ file. IfSome (D.contents disk.old) (λ bytes. file.items ≡ bytes)) }
     ensures durable { OnOk result ((image : List ℕ) → D.images disk.new image →
         D.contents disk.old ≡ Some image) }
@@ -62,7 +62,7 @@ pub fn read_journal<D: Disk>(
 }
 
 // The history of these bytes.
-fn read_bytes(
+pub(crate) fn read_bytes(
     alloc: Global,
     file: &[u8],
     empty: History,

@@ -4,9 +4,11 @@
 mod files;
 mod histories;
 mod joins;
+mod moves;
 
 pub use files::read_journal;
 pub use histories::Found;
+pub use moves::{MoveFault, init_from};
 
 #[cfg(test)]
 mod tests;

@@ -13,7 +13,8 @@ use Rattle.label_search.specs.Limits.{IsBelow}
 use Rattle.label_search.specs.Paths.{IsMove, MoveFits, Enters, WaitFits, place_at, target_of, leave_of}
 
 abbrev pub IsHeld : List Member → ℕ → ℤ → Type 0
-IsHeld members place tick = Any (λ member. (member.place ≡ place) × Holds member.window tick) members
+IsHeld members place tick = Any (λ member. (member.place ≡ place)
+    × Holds member.window tick) members
 
 -- what is reached is held, or an end outside the window of arrival
 abbrev pub Admits : Trip → (ℕ → ℤ → Type 0) → Target → ℤ → Type 0
@@ -27,14 +28,27 @@ IsFreeMove plan book place step = IsMove plan place step × MoveFits plan book p
 -- the members hold what each free move from the start and from a member leads to, and no free end arrives in the
 -- window of arrival
 pub record IsClosed (plan : Plan) (trip : Trip) (book : Book) (members : List Member) : Type 0 where
-  pub start : (step : Step) → Holds trip.depart step.enter → IsFreeMove plan book 0 step → Admits trip (IsHeld members) (target_of plan 0 step) (leave_of plan 0 step)
-  pub moves : (place : ℕ) (tick : ℤ) (step : Step) → IsHeld members place tick → Enters (place_at plan place) tick step.enter → WaitFits book (place_at plan place) tick step.enter → IsFreeMove plan book place step → Admits trip (IsHeld members) (target_of plan place step) (leave_of plan place step)
+  pub start : (step : Step) → Holds trip.depart step.enter → IsFreeMove plan book 0 step
+      → Admits trip (IsHeld members) (target_of plan 0 step) (leave_of plan 0 step)
+  pub moves : (place : ℕ) (tick : ℤ) (step : Step) → IsHeld members place tick
+      → Enters (place_at plan place) tick step.enter
+      → WaitFits book (place_at plan place) tick step.enter → IsFreeMove plan book place step
+      → Admits trip (IsHeld members) (target_of plan place step) (leave_of plan place step)
 
 -- the same of all that may end below a limit, for places and ticks that are held somehow
 pub record IsClosedBelow (plan : Plan) (limits : Limits) (trip : Trip) (book : Book) (Held : ℕ → ℤ → Type 0) : Type 0 where
-  pub start : (step : Step) → Holds trip.depart step.enter → IsFreeMove plan book 0 step → IsBelow limits (target_of plan 0 step) (leave_of plan 0 step) → Admits trip Held (target_of plan 0 step) (leave_of plan 0 step)
-  pub moves : (place : ℕ) (tick : ℤ) (step : Step) → Held place tick → Enters (place_at plan place) tick step.enter → WaitFits book (place_at plan place) tick step.enter → IsFreeMove plan book place step → IsBelow limits (target_of plan place step) (leave_of plan place step) → Admits trip Held (target_of plan place step) (leave_of plan place step)
+  pub start : (step : Step) → Holds trip.depart step.enter → IsFreeMove plan book 0 step
+      → IsBelow limits (target_of plan 0 step) (leave_of plan 0 step)
+      → Admits trip Held (target_of plan 0 step) (leave_of plan 0 step)
+  pub moves : (place : ℕ) (tick : ℤ) (step : Step) → Held place tick
+      → Enters (place_at plan place) tick step.enter
+      → WaitFits book (place_at plan place) tick step.enter → IsFreeMove plan book place step
+      → IsBelow limits (target_of plan place step) (leave_of plan place step)
+      → Admits trip Held (target_of plan place step) (leave_of plan place step)
 
 -- the trip whose window of arrival ends one tick before a tick
 abbrev pub before : Trip → ℤ → Trip
-before trip tick = record { depart = trip.depart; arrive = record { from = trip.arrive.from; to = tick -ℤ pos 1 } }
+before trip tick = record {
+  depart = trip.depart;
+  arrive = record { from = trip.arrive.from; to = tick -ℤ pos 1 };
+}

@@ -13,7 +13,8 @@ use Rattle.rail_types.specs.Limits.{IsNear}
 
 -- no path that fits arrives before the tick
 abbrev pub ArriveFrom : Plan → Trip → Book → ℤ → Type 0
-ArriveFrom plan trip book tick = (other : List Step) → IsPath plan trip other → PathFits plan book other → tick ≤ℤ arrival plan other
+ArriveFrom plan trip book tick = (other : List Step) → IsPath plan trip other
+    → PathFits plan book other → tick ≤ℤ arrival plan other
 
 -- a path that fits, none of which arrives earlier
 pub record IsLeast (plan : Plan) (trip : Trip) (book : Book) (steps : List Step) : Type 0 where

@@ -12,7 +12,8 @@ use Rattle.label_search.specs.Spans.{IsFreeOf}
 
 -- a label of the place has the tick
 abbrev pub IsReached : List Label → ℕ → Bool → ℤ → Type 0
-IsReached labels place ready tick = Any (λ label. (label.place ≡ place) × (label.ready ≡ ready) × Holds label.ticks tick) labels
+IsReached labels place ready tick = Any (λ label. (label.place ≡ place) × (label.ready ≡ ready)
+    × Holds label.ticks tick) labels
 
 -- the claim of tick 0 alone
 abbrev pub one_tick : Claim
@@ -23,7 +24,8 @@ IsUnseen spans tick = IsFreeOf spans one_tick tick
 
 -- a label has each tick that is seen
 abbrev pub IsCovered : List Label → ℕ → Bool → List Span → Type 0
-IsCovered labels place ready spans = (tick : ℤ) → IsUnseen spans tick ⊎ IsReached labels place ready tick
+IsCovered labels place ready spans = (tick : ℤ) → IsUnseen spans tick
+    ⊎ IsReached labels place ready tick
 
 abbrev pub spans_at : List (List Span) → ℕ → List Span
 spans_at seen place = slice_index_or seen place []
@@ -31,8 +33,10 @@ spans_at seen place = slice_index_or seen place []
 -- this holds of the arrivals and of the ready ticks of each place
 pub record AreCovered (labels : List Label) (arrived ready : List (List Span)) : Type 0 where
   pub counted : length arrived ≡ length ready
-  pub arrivals : (place : ℕ) → place < length arrived → IsCovered labels place false (spans_at arrived place)
-  pub readies : (place : ℕ) → place < length arrived → IsCovered labels place true (spans_at ready place)
+  pub arrivals : (place : ℕ) → place < length arrived
+      → IsCovered labels place false (spans_at arrived place)
+  pub readies : (place : ℕ) → place < length arrived
+      → IsCovered labels place true (spans_at ready place)
 
 -- more labels, each of which is so
 abbrev pub IsGrown : (Label → Type 0) → List Label → List Label → Type 0
@@ -48,20 +52,31 @@ pub record IsPartOf (wanted label : Label) : Type 0 where
 
 -- the label of that number
 abbrev pub label_at : List Label → ℕ → Label
-label_at labels number = slice_index_or labels number (record { place = 0; ready = false; ticks = record { from = pos 0; to = pos 0 }; origin = Start })
+label_at labels number = slice_index_or labels number (record {
+  place = 0;
+  ready = false;
+  ticks =
+      record { from = pos 0; to = pos 0 };
+  origin = Start;
+})
 
 -- one of the windows has the tick
 abbrev pub IsIn : List Front → ℕ → Bool → ℤ → Type 0
-IsIn fronts place ready tick = Any (λ front. (front.place ≡ place) × (front.ready ≡ ready) × Holds front.ticks tick) fronts
+IsIn fronts place ready tick = Any (λ front. (front.place ≡ place) × (front.ready ≡ ready)
+    × Holds front.ticks tick) fronts
 
 -- the windows have the ticks of the labels from a number on
 abbrev pub HasAllFrom : ℕ → List Label → List Front → Type 0
-HasAllFrom from labels fronts = (number : ℕ) → from ≤ number → number < length labels → (tick : ℤ) → Holds (label_at labels number).ticks tick → IsIn fronts (label_at labels number).place (label_at labels number).ready tick
+HasAllFrom from labels fronts = (number : ℕ) → from ≤ number → number < length labels
+    → (tick : ℤ) → Holds (label_at labels number).ticks tick
+    → IsIn fronts (label_at labels number).place (label_at labels number).ready tick
 
 -- a label that has the tick, before a number, with its origin
 pub record IsSourceOf (labels : List Label) (until : ℕ) (place : ℕ) (ready : Bool) (tick : ℤ) (source : Source) : Type 0 where
   pub before : source.number < until
-  pub has : ((label_at labels source.number).place ≡ place) × ((label_at labels source.number).ready ≡ ready) × Holds (label_at labels source.number).ticks tick
+  pub has : ((label_at labels source.number).place ≡ place)
+      × ((label_at labels source.number).ready ≡ ready)
+      × Holds (label_at labels source.number).ticks tick
   pub origin : (label_at labels source.number).origin ≡ source.origin
 
 abbrev pub as_front : Label → Front
@@ -69,7 +84,8 @@ as_front label = record { place = label.place; ready = label.ready; ticks = labe
 
 -- a window begins in the one before, or behind its last tick
 abbrev pub GoesOn : Front → Front → Type 0
-GoesOn current part = (part.place ≡ current.place) × (part.ready ≡ current.ready) × (current.ticks.from ≤ℤ part.ticks.from) × (part.ticks.from ≤ℤ (current.ticks.to +ℤ pos 1))
+GoesOn current part = (part.place ≡ current.place) × (part.ready ≡ current.ready)
+    × (current.ticks.from ≤ℤ part.ticks.from) × (part.ticks.from ≤ℤ (current.ticks.to +ℤ pos 1))
 
 abbrev pub as_member : Front → Member
 as_member front = record { place = front.place; window = front.ticks }
@@ -86,11 +102,16 @@ IsOf place ready tick front = (front.place ≡ place) × (front.ready ≡ ready)
 pub record AreJoined (parts fronts : List Front) (current : Front) : Type 0 where
   pub some : All (λ front. front.ticks.from ≤ℤ front.ticks.to) fronts
   pub last : current.ticks.from ≤ℤ current.ticks.to
-  pub sound : (place : ℕ) (ready : Bool) (tick : ℤ) → IsIn fronts place ready tick ⊎ IsOf place ready tick current → IsIn parts place ready tick
-  pub complete : (place : ℕ) (ready : Bool) (tick : ℤ) → IsIn parts place ready tick → IsIn fronts place ready tick ⊎ IsOf place ready tick current
+  pub sound : (place : ℕ) (ready : Bool) (tick : ℤ) → IsIn fronts place ready tick
+      ⊎ IsOf place ready tick current → IsIn parts place ready tick
+  pub complete : (place : ℕ) (ready : Bool) (tick : ℤ) → IsIn parts place ready tick
+      → IsIn fronts place ready tick ⊎ IsOf place ready tick current
 
 -- the windows of labels from a number on
 pub record AreFronts (labels : List Label) (from next : ℕ) (parts : List Front) : Type 0 where
   pub some : All (λ part. part.ticks.from ≤ℤ part.ticks.to) parts
-  pub sound : (place : ℕ) (ready : Bool) (tick : ℤ) → IsIn parts place ready tick → IsReached labels place ready tick
-  pub complete : (number : ℕ) → from ≤ number → number < next → (tick : ℤ) → Holds (label_at labels number).ticks tick → IsIn parts (label_at labels number).place (label_at labels number).ready tick
+  pub sound : (place : ℕ) (ready : Bool) (tick : ℤ) → IsIn parts place ready tick
+      → IsReached labels place ready tick
+  pub complete : (number : ℕ) → from ≤ number → number < next → (tick : ℤ)
+      → Holds (label_at labels number).ticks tick → IsIn parts (label_at labels number).place
+      (label_at labels number).ready tick

@@ -39,7 +39,8 @@ pub record IsLimits (limits : Limits) : Type 0 where
 
 -- whatever leaves by the horizon may end below the limit
 abbrev pub IsUnlimited : Plan → Limits → Type 0
-IsUnlimited plan limits = (target : Target) (leave : ℤ) → leave ≤ℤ plan.horizon → IsBelow limits target leave
+IsUnlimited plan limits = (target : Target) (leave : ℤ) → leave ≤ℤ plan.horizon
+    → IsBelow limits target leave
 
 -- a train that stands at the place waits so long at least
 abbrev pub least_wait : Place → ℤ
@@ -47,7 +48,9 @@ least_wait place = if place.standing then place.dwell else pos 0
 
 -- a move brings an end no nearer than by the ticks that it takes with the wait before it
 abbrev pub IsBound : Plan → List Ahead → ℕ → ℕ → Type 0
-IsBound plan ahead place number = (ahead_at ahead place).ticks ≤ℤ ((least_wait (place_at plan place) +ℤ (move_at plan place number).run) +ℤ ahead_of ahead (move_at plan place number).target)
+IsBound plan ahead place number = (ahead_at ahead place).ticks ≤ℤ ((least_wait (place_at plan
+    place) +ℤ (move_at plan place number).run) +ℤ ahead_of ahead (move_at plan place number).target)
 
 abbrev pub IsConsistent : Plan → List Ahead → Type 0
-IsConsistent plan ahead = (place number : ℕ) → number < length (place_at plan place).moves → IsBound plan ahead place number
+IsConsistent plan ahead = (place number : ℕ) → number < length (place_at plan place).moves
+    → IsBound plan ahead place number

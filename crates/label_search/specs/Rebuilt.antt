@@ -23,6 +23,8 @@ pub record FollowsLeave (plan : Plan) (trip : Trip) (book : Book) (last : ℤ) (
   pub arrives : last_leave plan (target_of plan place step) (leave_of plan place step) steps ≡ last
 
 abbrev pub Follows : Plan → Trip → Book → ℤ → ℕ → Bool → ℤ → List Step → Type 0
-Follows plan trip book last place false tick steps = FollowsArrival plan trip book last place tick steps
+Follows plan trip book last place false tick steps = FollowsArrival plan trip book last place tick
+    steps
 Follows plan trip book last place true tick [] = ⊥
-Follows plan trip book last place true tick (step ∷ steps) = FollowsLeave plan trip book last place tick step steps
+Follows plan trip book last place true tick (step ∷ steps) = FollowsLeave plan trip book last
+    place tick step steps

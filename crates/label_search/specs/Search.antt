@@ -22,7 +22,8 @@ use Rattle.label_search.specs.Limits.{IsBelow, IsLimits}
 
 -- the train is reached at the tick so that it can go on
 abbrev pub CanGo : Plan → List Label → ℕ → Bool → ℤ → Type 0
-CanGo plan labels place ready tick = IsReached labels place ready tick × (IsTrue (place_at plan place).standing → ready ≡ true)
+CanGo plan labels place ready tick = IsReached labels place ready tick
+    × (IsTrue (place_at plan place).standing → ready ≡ true)
 
 -- when a train that goes on at a tick came, at the latest
 abbrev pub came_at : Plan → ℕ → Window → ℤ → ℤ
@@ -50,15 +51,19 @@ pub record IsMoved (plan : Plan) (book : Book) (labels : List Label) (from : ℕ
 
 -- where a tick came from
 abbrev pub IsCome : Plan → Trip → Book → List Label → Origin → ℕ → Bool → ℤ → Type 0
-IsCome plan trip book labels Start place ready tick = (place ≡ 0) × (ready ≡ true) × Holds trip.depart tick
-IsCome plan trip book labels (Wait arrivals) place ready tick = (ready ≡ true) × IsWaited plan book labels arrivals place tick
-IsCome plan trip book labels (Move from before number) place ready tick = (ready ≡ false) × IsMoved plan book labels from before number place tick
+IsCome plan trip book labels Start place ready tick = (place ≡ 0) × (ready ≡ true)
+    × Holds trip.depart tick
+IsCome plan trip book labels (Wait arrivals) place ready tick = (ready ≡ true)
+    × IsWaited plan book labels arrivals place tick
+IsCome plan trip book labels (Move from before number) place ready tick = (ready ≡ false)
+    × IsMoved plan book labels from before number place tick
 
 -- ticks that a search may note: within the plan, and each came from somewhere
 pub record IsWanted (plan : Plan) (trip : Trip) (book : Book) (labels : List Label) (label : Label) : Type 0 where
   pub place : label.place < length plan.places
   pub ticks : (pos 0 ≤ℤ label.ticks.from) × (label.ticks.to ≤ℤ plan.horizon)
-  pub come : (tick : ℤ) → Holds label.ticks tick → IsCome plan trip book labels label.origin label.place label.ready tick
+  pub come : (tick : ℤ) → Holds label.ticks tick → IsCome plan trip book labels label.origin
+      label.place label.ready tick
 
 pub record IsLabelOf (plan : Plan) (trip : Trip) (book : Book) (labels : List Label) (label : Label) : Type 0 where
   pub wanted : IsWanted plan trip book labels label
@@ -66,7 +71,8 @@ pub record IsLabelOf (plan : Plan) (trip : Trip) (book : Book) (labels : List La
 
 -- the ticks of each label came from labels before it
 abbrev pub IsSound : Plan → Trip → Book → List Label → Type 0
-IsSound plan trip book labels = (number : ℕ) (d : Label) → number < length labels → IsLabelOf plan trip book (take number labels) (slice_index_or labels number d)
+IsSound plan trip book labels = (number : ℕ) (d : Label) → number < length labels
+    → IsLabelOf plan trip book (take number labels) (slice_index_or labels number d)
 
 -- an end in the window of arrival, by a free move at a tick that is reached
 pub record IsEnd (plan : Plan) (trip : Trip) (book : Book) (labels : List Label) (place : ℕ) (ready : Bool) (number : ℕ) (leave : ℤ) : Type 0 where
@@ -77,7 +83,8 @@ pub record IsEnd (plan : Plan) (trip : Trip) (book : Book) (labels : List Label)
   pub arrives : Holds trip.arrive leave
 
 abbrev pub IsEnding : Plan → Trip → Book → List Label → Ending → Type 0
-IsEnding plan trip book labels ending = IsEnd plan trip book labels ending.place ending.ready ending.number ending.arrive.from
+IsEnding plan trip book labels ending = IsEnd plan trip book labels ending.place ending.ready
+    ending.number ending.arrive.from
 
 -- the best end lies below the limit
 abbrev pub IsLow : ℤ → Option Ending → Type 0
@@ -102,29 +109,43 @@ IsAdmitted trip search (To place) leave = IsReached search.labels.labels place f
 IsAdmitted trip search End leave = Holds trip.arrive leave → IsBeaten search.best leave
 
 abbrev pub IsMoveExplored : Plan → Trip → Book → ℕ → ℤ → ℕ → Search → Type 0
-IsMoveExplored plan trip book place tick number search = IsFreeMove plan book place (step_at number tick) → IsBelow search.limits (move_at plan place number).target (leave_of plan place (step_at number tick)) → IsAdmitted trip search (move_at plan place number).target (leave_of plan place (step_at number tick))
+IsMoveExplored plan trip book place tick number search = IsFreeMove plan book place (step_at
+    number tick) → IsBelow search.limits (move_at plan place number).target (leave_of plan place
+    (step_at number tick)) → IsAdmitted trip search (move_at plan place number).target (leave_of
+    plan place (step_at number tick))
 
 abbrev pub AreWaitsExplored : Plan → Book → ℕ → ℤ → Search → Type 0
-AreWaitsExplored plan book place tick search = (enter : ℤ) → (tick +ℤ (place_at plan place).dwell) ≤ℤ enter → enter ≤ℤ plan.horizon → WaitFits book (place_at plan place) tick enter → IsReached search.labels.labels place true enter
+AreWaitsExplored plan book place tick search = (enter : ℤ)
+    → (tick +ℤ (place_at plan place).dwell) ≤ℤ enter → enter ≤ℤ plan.horizon
+    → WaitFits book (place_at plan place) tick enter
+    → IsReached search.labels.labels place true enter
 
 -- all that a train can do at a tick of a place is in the search
 pub record IsExplored (plan : Plan) (trip : Trip) (book : Book) (search : Search) (place : ℕ) (ready : Bool) (tick : ℤ) : Type 0 where
-  pub waits : IsTrue (place_at plan place).standing → ready ≡ false → AreWaitsExplored plan book place tick search
-  pub moves : (IsTrue (place_at plan place).standing → ready ≡ true) → (number : ℕ) → number < length (place_at plan place).moves → IsMoveExplored plan trip book place tick number search
+  pub waits : IsTrue (place_at plan place).standing → ready ≡ false
+      → AreWaitsExplored plan book place tick search
+  pub moves : (IsTrue (place_at plan place).standing → ready ≡ true) → (number : ℕ)
+      → number < length (place_at plan place).moves
+      → IsMoveExplored plan trip book place tick number search
 
 -- the train can start at each tick in the window of departure
 abbrev pub IsStarted : Plan → Trip → Search → Type 0
-IsStarted plan trip search = (enter : ℤ) → Holds trip.depart enter → pos 0 ≤ℤ enter → enter ≤ℤ plan.horizon → IsReached search.labels.labels 0 true enter
+IsStarted plan trip search = (enter : ℤ) → Holds trip.depart enter → pos 0 ≤ℤ enter
+    → enter ≤ℤ plan.horizon → IsReached search.labels.labels 0 true enter
 
 -- the ticks of so many labels are explored
 abbrev pub IsExploredTo : Plan → Trip → Book → (Search → ℕ) → Search → Type 0
-IsExploredTo plan trip book count search = (number : ℕ) → number < count search → (tick : ℤ) → Holds (label_at search.labels.labels number).ticks tick → IsExplored plan trip book search (label_at search.labels.labels number).place (label_at search.labels.labels number).ready tick
+IsExploredTo plan trip book count search = (number : ℕ) → number < count search → (tick : ℤ)
+    → Holds (label_at search.labels.labels number).ticks tick
+    → IsExplored plan trip book search (label_at search.labels.labels number).place (label_at
+    search.labels.labels number).ready tick
 
 -- a window of ticks that are reached
 pub record IsFrontOf (plan : Plan) (search : Search) (front : Front) : Type 0 where
   pub place : front.place < length plan.places
   pub ticks : (pos 0 ≤ℤ front.ticks.from) × (front.ticks.to ≤ℤ plan.horizon)
-  pub reached : (tick : ℤ) → Holds front.ticks tick → IsReached search.labels.labels front.place front.ready tick
+  pub reached : (tick : ℤ) → Holds front.ticks tick
+      → IsReached search.labels.labels front.place front.ready tick
 
 -- more labels, and no later end, below the same limit
 pub record IsFurther (old new : Search) : Type 0 where
@@ -135,4 +156,6 @@ pub record IsFurther (old new : Search) : Type 0 where
 -- one of the ticks of an ending, in the window of arrival
 abbrev pub IsOneOf : Trip → Ending → Option Ending → Type 0
 IsOneOf trip ending None = ⊥
-IsOneOf trip ending (Some one) = (one.place ≡ ending.place) × (one.ready ≡ ending.ready) × (one.number ≡ ending.number) × Holds ending.arrive one.arrive.from × Holds trip.arrive one.arrive.from
+IsOneOf trip ending (Some one) = (one.place ≡ ending.place) × (one.ready ≡ ending.ready)
+    × (one.number ≡ ending.number) × Holds ending.arrive one.arrive.from
+    × Holds trip.arrive one.arrive.from

@@ -16,7 +16,8 @@ use Rattle.label_search.specs.Found.{IsLeast, ArriveFrom}
 pub record IsFound (plan : Plan) (trip : Trip) (book : Book) (steps : List Step) (members : List Member) : Type 0 where
   pub path : IsPath plan trip steps
   pub fits : PathFits plan book steps
-  pub least : (other : List Step) → IsPath plan trip other → PathFits plan book other → arrival plan steps ≤ℤ arrival plan other
+  pub least : (other : List Step) → IsPath plan trip other → PathFits plan book other
+      → arrival plan steps ≤ℤ arrival plan other
   pub closed : IsClosed plan (before trip (arrival plan steps)) book members
 
 pub record IsNone (plan : Plan) (trip : Trip) (book : Book) (members : List Member) : Type 0 where
@@ -29,5 +30,7 @@ IsSought plan trip book (NoPath members) = IsNone plan trip book members
 
 -- the same where members are closed below a limit, and no path ends below it where none is found
 abbrev pub IsSearched : Plan → Trip → Book → Limits → Sought → Type 0
-IsSearched plan trip book limits (Found steps members) = IsLeast plan trip book steps × IsClosedBelow plan limits (before trip (arrival plan steps)) book (IsHeld members)
-IsSearched plan trip book limits (NoPath members) = ArriveFrom plan trip book limits.below × IsClosedBelow plan limits trip book (IsHeld members)
+IsSearched plan trip book limits (Found steps members) = IsLeast plan trip book steps
+    × IsClosedBelow plan limits (before trip (arrival plan steps)) book (IsHeld members)
+IsSearched plan trip book limits (NoPath members) = ArriveFrom plan trip book limits.below
+    × IsClosedBelow plan limits trip book (IsHeld members)

@@ -59,7 +59,8 @@ fn is_bound(plan: &Plan, ahead: &List<Ahead>, place: usize) -> bool
     requires plan { (book : Book) × IsPlan plan.now book }
     requires ahead { All IsAhead ahead.now }
     requires place { place < length plan.now.places }
-    ensures { IsTrue result → (number : ℕ) → number < length (place_of plan.now place).moves → IsBound plan.now ahead.now place number }
+    ensures { IsTrue result → (number : ℕ) → number < length (place_of plan.now place).moves
+        → IsBound plan.now ahead.now place number }
 {
     let here = &plan.places.as_slice()[place];
     let least = ahead_at(ahead, place);
@@ -78,7 +79,8 @@ fn is_least(place: &Place, step: &Move, here: &Ahead, there: &Ahead) -> bool
     requires dwell { IsShort place.now.dwell }
     requires run { IsShort step.now.run }
     requires there { IsAhead there.now }
-    ensures { IsTrue result → here.now.ticks ≤ℤ ((wait_of place.now +ℤ step.now.run) +ℤ there.now.ticks) }
+    ensures { IsTrue result → here.now.ticks ≤ℤ ((wait_of place.now +ℤ step.now.run) +ℤ
+        there.now.ticks) }
 {
     if place.standing {
         here.ticks <= place.dwell + step.run + there.ticks

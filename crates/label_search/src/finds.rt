@@ -78,7 +78,8 @@ pub fn find_below(
 
 // Whether no path can leave last at this tick or later.
 fn is_past(plan: &Plan, trip: &Trip, reach: &Reach) -> bool
-    ensures past { IsTrue result → (plan.now.horizon <ℤ reach.now.below) ⊎ (trip.now.arrive.to <ℤ reach.now.below) }
+    ensures past { IsTrue result → (plan.now.horizon <ℤ reach.now.below)
+        ⊎ (trip.now.arrive.to <ℤ reach.now.below) }
     ensures near { result ≡ false → reach.now.below ≤ℤ plan.now.horizon }
 {
     plan.horizon < reach.below || trip.arrive.to < reach.below

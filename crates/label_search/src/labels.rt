@@ -116,8 +116,10 @@ impl Labels {
     // The last label before a number that has a tick.
     pub(crate) fn source_of(&self, moment: &Moment, until: usize) -> Source
         requires until { until ≤ length self.now.labels }
-        requires reached { IsReached (take until self.now.labels) moment.now.place moment.now.ready moment.now.tick }
-        ensures { IsSourceOf self.now.labels until moment.now.place moment.now.ready moment.now.tick result }
+        requires reached { IsReached (take until self.now.labels) moment.now.place
+            moment.now.ready moment.now.tick }
+        ensures { IsSourceOf self.now.labels until moment.now.place moment.now.ready
+            moment.now.tick result }
     {
         source_among(self.labels.as_slice(), moment, until)
     }
@@ -125,8 +127,10 @@ impl Labels {
     // The windows of ticks of the labels from a number on, each as long as can be.
     pub(crate) fn fronts(&self, alloc: Global, from: usize) -> Result<Vec<Front>, NoMemory>
         requires some { All (λ label. label.ticks.from ≤ℤ label.ticks.to) self.now.labels }
-        ensures some { IfOk result (λ fronts. All (λ front. front.ticks.from ≤ℤ front.ticks.to) fronts.items) }
-        ensures sound { IfOk result (λ fronts. (place : ℕ) (ready : bool_type) (tick : ℤ) → IsIn fronts.items place ready tick → IsReached self.now.labels place ready tick) }
+        ensures some { IfOk result (λ fronts. All (λ front. front.ticks.from ≤ℤ front.ticks.to)
+            fronts.items) }
+        ensures sound { IfOk result (λ fronts. (place : ℕ) (ready : bool_type) (tick : ℤ)
+            → IsIn fronts.items place ready tick → IsReached self.now.labels place ready tick) }
         ensures complete { IfOk result (λ fronts. HasAllFrom from self.now.labels fronts.items) }
     {
         let mut parts = fronts_from(alloc, self.labels.as_slice(), from)?;
@@ -138,8 +142,10 @@ impl Labels {
     // The places and ticks of arrival.
     pub(crate) fn members(&self, alloc: Global) -> Result<Vec<Member>, NoMemory>
         requires some { All (λ label. label.ticks.from ≤ℤ label.ticks.to) self.now.labels }
-        ensures held { IfOk result (λ members. (place : ℕ) (tick : ℤ) → IsReached self.now.labels place false tick → IsHeld members.items place tick) }
-        ensures reached { IfOk result (λ members. (place : ℕ) (tick : ℤ) → IsHeld members.items place tick → IsReached self.now.labels place false tick) }
+        ensures held { IfOk result (λ members. (place : ℕ) (tick : ℤ)
+            → IsReached self.now.labels place false tick → IsHeld members.items place tick) }
+        ensures reached { IfOk result (λ members. (place : ℕ) (tick : ℤ)
+            → IsHeld members.items place tick → IsReached self.now.labels place false tick) }
     {
         let fronts = self.fronts(alloc, 0)?;
         let members = members_among(alloc, fronts.as_slice())?;
@@ -152,7 +158,8 @@ impl Labels {
         requires near { IsNearBelow wanted.now.ticks }
         ensures places { self.new.places ≡ self.old.places }
         ensures grown { IsGrown (IsPartOf wanted.now) self.old.labels self.new.labels }
-        ensures reached { OnOk result ((tick : ℤ) → Holds wanted.now.ticks tick → IsReached self.new.labels wanted.now.place wanted.now.ready tick) }
+        ensures reached { OnOk result ((tick : ℤ) → Holds wanted.now.ticks tick
+            → IsReached self.new.labels wanted.now.place wanted.now.ready tick) }
     {
         if wanted.ready {
             let seen = &mut self.ready[wanted.place as usize];
@@ -166,7 +173,8 @@ impl Labels {
 
 fn source_among(labels: &[Label], moment: &Moment, until: usize) -> Source
     requires until { until ≤ length labels.now }
-    requires reached { IsReached (take until labels.now) moment.now.place moment.now.ready moment.now.tick }
+    requires reached { IsReached (take until labels.now) moment.now.place moment.now.ready
+        moment.now.tick }
     ensures { IsSourceOf labels.now until moment.now.place moment.now.ready moment.now.tick result }
 {
     let mut number = until;
@@ -195,7 +203,8 @@ fn fronts_from(alloc: Global, labels: &[Label], from: usize) -> Result<Vec<Front
 }
 
 fn has(label: &Label, moment: &Moment) -> bool
-    ensures { IsTrue result ↔ ((label.now.place ≡ moment.now.place) × (label.now.ready ≡ moment.now.ready) × Holds label.now.ticks moment.now.tick) }
+    ensures { IsTrue result ↔ ((label.now.place ≡ moment.now.place)
+        × (label.now.ready ≡ moment.now.ready) × Holds label.now.ticks moment.now.tick) }
 {
     label.place == moment.place
         && label.ready == moment.ready
@@ -216,9 +225,12 @@ fn front_of(label: &Label) -> Front
 // The same ticks, where windows that follow in the list and touch or overlap are one.
 fn merged(alloc: Global, parts: &[Front]) -> Result<Vec<Front>, NoMemory>
     requires some { All (λ part. part.ticks.from ≤ℤ part.ticks.to) parts.now }
-    ensures some { IfOk result (λ fronts. All (λ front. front.ticks.from ≤ℤ front.ticks.to) fronts.items) }
-    ensures sound { IfOk result (λ fronts. (place : ℕ) (ready : bool_type) (tick : ℤ) → IsIn fronts.items place ready tick → IsIn parts.now place ready tick) }
-    ensures complete { IfOk result (λ fronts. (place : ℕ) (ready : bool_type) (tick : ℤ) → IsIn parts.now place ready tick → IsIn fronts.items place ready tick) }
+    ensures some { IfOk result (λ fronts. All (λ front. front.ticks.from ≤ℤ front.ticks.to)
+        fronts.items) }
+    ensures sound { IfOk result (λ fronts. (place : ℕ) (ready : bool_type) (tick : ℤ)
+        → IsIn fronts.items place ready tick → IsIn parts.now place ready tick) }
+    ensures complete { IfOk result (λ fronts. (place : ℕ) (ready : bool_type) (tick : ℤ)
+        → IsIn parts.now place ready tick → IsIn fronts.items place ready tick) }
 {
     let mut fronts = Vec::new(alloc);
     let Some(first) = parts.first() else {
@@ -235,7 +247,9 @@ fn merged(alloc: Global, parts: &[Front]) -> Result<Vec<Front>, NoMemory>
 // Joins one part to the window before it, or begins with it anew.
 fn join(fronts: &mut Vec<Front>, current: &mut Front, part: &Front) -> Result<(), NoMemory>
     requires some { part.now.ticks.from ≤ℤ part.now.ticks.to }
-    ensures { OnOk result ((parts : list_of front_type) → AreJoined parts fronts.old.items current.old → AreJoined (parts ++ part.now ∷ []) fronts.new.items current.new) }
+    ensures { OnOk result ((parts : list_of front_type)
+        → AreJoined parts fronts.old.items current.old
+        → AreJoined (parts ++ part.now ∷ []) fronts.new.items current.new) }
 {
     if goes_on(current, part) {
         *current = joined(current, part);
@@ -294,7 +308,8 @@ fn extend(labels: &mut Vec<Label>, seen: &mut Seen, wanted: &Label) -> Result<()
     requires covered { IsCovered labels.old.items wanted.now.place wanted.now.ready seen.old }
     ensures covered { IsCovered labels.new.items wanted.now.place wanted.now.ready seen.new }
     ensures grown { IsGrown (IsPartOf wanted.now) labels.old.items labels.new.items }
-    ensures reached { OnOk result ((tick : ℤ) → Holds wanted.now.ticks tick → IsReached labels.new.items wanted.now.place wanted.now.ready tick) }
+    ensures reached { OnOk result ((tick : ℤ) → Holds wanted.now.ticks tick
+        → IsReached labels.new.items wanted.now.place wanted.now.ready tick) }
 {
     let mut rest = wanted.ticks;
     while rest.from <= rest.to {
@@ -321,7 +336,8 @@ fn keep(
     requires covered { IsCovered labels.old.items wanted.now.place wanted.now.ready seen.old }
     ensures covered { IsCovered labels.new.items wanted.now.place wanted.now.ready seen.new }
     ensures grown { IsGrown (IsPartOf wanted.now) labels.old.items labels.new.items }
-    ensures reached { OnOk result ((tick : ℤ) → Holds ticks.now tick → IsReached labels.new.items wanted.now.place wanted.now.ready tick) }
+    ensures reached { OnOk result ((tick : ℤ) → Holds ticks.now tick
+        → IsReached labels.new.items wanted.now.place wanted.now.ready tick) }
 {
     if !is_new {
         return Ok(());

@@ -14,18 +14,28 @@ ghost use Rattle.label_search.specs.Closed.{IsClosed, IsClosedBelow, IsHeld, bef
 /// Where members are closed no path is possible, and where they are closed for a window of arrival that ends before
 /// a tick, each path that fits arrives at that tick or later.
 pub fn closed_members_exclude_paths()
-    ensures none { (plan : plan_type) (trip : trip_type) (book : Book) (members : List member_type) → IsClosed plan trip book members → Possible plan trip book → ⊥ }
-    ensures later { (plan : plan_type) (trip : trip_type) (book : Book) (members : List member_type) (tick : ℤ) → IsClosed plan (before trip tick) book members → (steps : List step_type) → IsPath plan trip steps → PathFits plan book steps → tick ≤ℤ arrival plan steps }
+    ensures none { (plan : plan_type) (trip : trip_type) (book : Book) (members : List
+        member_type) → IsClosed plan trip book members → Possible plan trip book → ⊥ }
+    ensures later { (plan : plan_type) (trip : trip_type) (book : Book) (members : List
+        member_type) (tick : ℤ) → IsClosed plan (before trip tick) book members
+        → (steps : List step_type) → IsPath plan trip steps → PathFits plan book steps
+        → tick ≤ℤ arrival plan steps }
 {}
 
 /// Where members are closed below a limit and what is ahead of the places is consistent, each path that fits arrives
 /// at the limit or later.
 pub fn closed_below_excludes_earlier_paths()
-    ensures { (plan : plan_type) (trip : trip_type) (book : Book) (limits : limits_type) (members : List member_type) → IsConsistent plan limits.ahead → IsClosedBelow plan limits trip book (IsHeld members) → (steps : List step_type) → IsPath plan trip steps → PathFits plan book steps → limits.below ≤ℤ arrival plan steps }
+    ensures { (plan : plan_type) (trip : trip_type) (book : Book) (limits : limits_type) (members
+        : List member_type) → IsConsistent plan limits.ahead
+        → IsClosedBelow plan limits trip book (IsHeld members) → (steps : List step_type)
+        → IsPath plan trip steps → PathFits plan book steps → limits.below ≤ℤ arrival plan steps }
 {}
 
 /// Where nothing is ahead and the limit lies behind the horizon, members are closed below it where they are closed.
 pub fn closed_below_all_is_closed()
-    ensures unlimited { (plan : plan_type) (limits : limits_type) → limits.ahead ≡ [] → plan.horizon <ℤ limits.below → IsUnlimited plan limits }
-    ensures same { (plan : plan_type) (trip : trip_type) (book : Book) (limits : limits_type) (members : List member_type) → IsUnlimited plan limits → (IsClosed plan trip book members ↔ IsClosedBelow plan limits trip book (IsHeld members)) }
+    ensures unlimited { (plan : plan_type) (limits : limits_type) → limits.ahead ≡ []
+        → plan.horizon <ℤ limits.below → IsUnlimited plan limits }
+    ensures same { (plan : plan_type) (trip : trip_type) (book : Book) (limits : limits_type)
+        (members : List member_type) → IsUnlimited plan limits
+        → (IsClosed plan trip book members ↔ IsClosedBelow plan limits trip book (IsHeld members)) }
 {}

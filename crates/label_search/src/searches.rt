@@ -52,7 +52,8 @@ pub(crate) fn explore_all(
     ensures limits { IfOk result (λ search. search.limits ≡ limits) }
     ensures search { IfOk result (IsSearch plan.now trip.now book.now) }
     ensures started { IfOk result (IsStarted plan.now trip.now) }
-    ensures explored { IfOk result (IsExploredTo plan.now trip.now book.now (λ search. length search.labels.labels)) }
+    ensures explored { IfOk result (IsExploredTo plan.now trip.now book.now (λ search. length
+        search.labels.labels)) }
 {
     let mut search = start(alloc, plan, book, trip, limits)?;
     let mut next = 0;
@@ -77,7 +78,9 @@ fn explore_fronts(
     requires search { IsSearch plan.now trip.now book.now search.old }
     ensures search { IsSearch plan.now trip.now book.now search.new }
     ensures further { IsFurther search.old search.new }
-    ensures explored { OnOk result ((place : ℕ) (ready : bool_type) (tick : ℤ) → IsIn fronts.now place ready tick → IsExplored plan.now trip.now book.now search.new place ready tick) }
+    ensures explored { OnOk result ((place : ℕ) (ready : bool_type) (tick : ℤ)
+        → IsIn fronts.now place ready tick → IsExplored plan.now trip.now book.now search.new
+        place ready tick) }
 {
     for front in fronts {
         explore(plan, book, trip, search, front)?;
@@ -136,7 +139,8 @@ fn explore(
     requires search { IsSearch plan.now trip.now book.now search.old }
     ensures search { IsSearch plan.now trip.now book.now search.new }
     ensures further { IsFurther search.old search.new }
-    ensures explored { OnOk result ((tick : ℤ) → Holds front.now.ticks tick → IsExplored plan.now trip.now book.now search.new front.now.place front.now.ready tick) }
+    ensures explored { OnOk result ((tick : ℤ) → Holds front.now.ticks tick
+        → IsExplored plan.now trip.now book.now search.new front.now.place front.now.ready tick) }
 {
     let place = place_at(plan, front.place);
     if place.standing && !front.ready {
@@ -158,7 +162,9 @@ fn explore_moves(
     requires search { IsSearch plan.now trip.now book.now search.old }
     ensures search { IsSearch plan.now trip.now book.now search.new }
     ensures further { IsFurther search.old search.new }
-    ensures explored { OnOk result ((tick : ℤ) → Holds front.now.ticks tick → (number : ℕ) → number < length (place_of plan.now front.now.place).moves → IsMoveExplored plan.now trip.now book.now front.now.place tick number search.new) }
+    ensures explored { OnOk result ((tick : ℤ) → Holds front.now.ticks tick → (number : ℕ)
+        → number < length (place_of plan.now front.now.place).moves
+        → IsMoveExplored plan.now trip.now book.now front.now.place tick number search.new) }
 {
     let place = place_at(plan, front.place);
     for number in 0..place.moves.len() {
@@ -182,7 +188,8 @@ fn explore_move(
     requires search { IsSearch plan.now trip.now book.now search.old }
     ensures search { IsSearch plan.now trip.now book.now search.new }
     ensures further { IsFurther search.old search.new }
-    ensures explored { OnOk result ((tick : ℤ) → Holds front.now.ticks tick → IsMoveExplored plan.now trip.now book.now front.now.place tick number search.new) }
+    ensures explored { OnOk result ((tick : ℤ) → Holds front.now.ticks tick
+        → IsMoveExplored plan.now trip.now book.now front.now.place tick number search.new) }
 {
     let step = move_at(plan, front.place, number);
     let mut rest = enters(front, plan, &search.limits, step);
@@ -209,12 +216,17 @@ fn reach(
     requires goes { IsTrue (place_of plan.now front.now.place).standing → front.now.ready ≡ true }
     requires some { free.now.from ≤ℤ free.now.to }
     requires held { (enter : ℤ) → Holds free.now enter → Holds front.now.ticks enter }
-    requires free { (enter : ℤ) → Holds free.now enter → IsFreeMove plan.now book.now front.now.place (step_at number enter) }
-    requires below { (enter : ℤ) → Holds free.now enter → IsBelow search.old.limits (move_of plan.now front.now.place number).target (leave_of plan.now front.now.place (step_at number enter)) }
+    requires free { (enter : ℤ) → Holds free.now enter
+        → IsFreeMove plan.now book.now front.now.place (step_at number enter) }
+    requires below { (enter : ℤ) → Holds free.now enter
+        → IsBelow search.old.limits (move_of plan.now front.now.place number).target (leave_of
+        plan.now front.now.place (step_at number enter)) }
     requires search { IsSearch plan.now trip.now book.now search.old }
     ensures search { IsSearch plan.now trip.now book.now search.new }
     ensures further { IsFurther search.old search.new }
-    ensures admitted { OnOk result ((enter : ℤ) → Holds free.now enter → IsAdmitted trip.now search.new (move_of plan.now front.now.place number).target (leave_of plan.now front.now.place (step_at number enter))) }
+    ensures admitted { OnOk result ((enter : ℤ) → Holds free.now enter
+        → IsAdmitted trip.now search.new (move_of plan.now front.now.place number).target
+        (leave_of plan.now front.now.place (step_at number enter))) }
 {
     let step = move_at(plan, front.place, number);
     let leaves = later(free, step);
@@ -251,7 +263,8 @@ fn reach(
 // The earlier of the best end so far and the first of an ending's ticks in the window of arrival.
 fn better(trip: &Trip, best: Option<Ending>, ending: &Ending) -> Option<Ending>
     requires some { ending.now.arrive.from ≤ℤ ending.now.arrive.to }
-    ensures beaten { (leave : ℤ) → Holds ending.now.arrive leave → Holds trip.now.arrive leave → IsBeaten result leave }
+    ensures beaten { (leave : ℤ) → Holds ending.now.arrive leave → Holds trip.now.arrive leave
+        → IsBeaten result leave }
     ensures kept { (leave : ℤ) → IsBeaten best leave → IsBeaten result leave }
     ensures one { (result ≡ best) ⊎ IsOneOf trip.now ending.now result }
 {
@@ -295,7 +308,8 @@ fn explore_waits(
     requires search { IsSearch plan.now trip.now book.now search.old }
     ensures search { IsSearch plan.now trip.now book.now search.new }
     ensures further { IsFurther search.old search.new }
-    ensures explored { OnOk result ((tick : ℤ) → Holds front.now.ticks tick → AreWaitsExplored plan.now book.now front.now.place tick search.new) }
+    ensures explored { OnOk result ((tick : ℤ) → Holds front.now.ticks tick
+        → AreWaitsExplored plan.now book.now front.now.place tick search.new) }
 {
     let place = place_at(plan, front.place);
     go_on_at_once(plan, book, trip, search, front)?;
@@ -332,7 +346,9 @@ fn go_on_at_once(
     requires search { IsSearch plan.now trip.now book.now search.old }
     ensures search { IsSearch plan.now trip.now book.now search.new }
     ensures further { IsFurther search.old search.new }
-    ensures reached { OnOk result ((place_of plan.now front.now.place).dwell ≡ pos 0 → (tick : ℤ) → Holds front.now.ticks tick → IsReached search.new.labels.labels front.now.place true tick) }
+    ensures reached { OnOk result ((place_of plan.now front.now.place).dwell ≡ pos 0
+        → (tick : ℤ) → Holds front.now.ticks tick → IsReached search.new.labels.labels
+        front.now.place true tick) }
 {
     if place_at(plan, front.place).dwell != 0 {
         return Ok(());
@@ -352,11 +368,13 @@ fn wait(
     requires plan { IsPlan plan.now book.now }
     requires front { IsFrontOf plan.now search.old front.now }
     requires ticks { (pos 0 ≤ℤ ticks.now.from) × (ticks.now.to ≤ℤ plan.now.horizon) }
-    requires waited { (tick : ℤ) → Holds ticks.now tick → IsWaited plan.now book.now search.old.labels.labels front.now.ticks front.now.place tick }
+    requires waited { (tick : ℤ) → Holds ticks.now tick
+        → IsWaited plan.now book.now search.old.labels.labels front.now.ticks front.now.place tick }
     requires search { IsSearch plan.now trip.now book.now search.old }
     ensures search { IsSearch plan.now trip.now book.now search.new }
     ensures further { IsFurther search.old search.new }
-    ensures reached { OnOk result ((tick : ℤ) → Holds ticks.now tick → IsReached search.new.labels.labels front.now.place true tick) }
+    ensures reached { OnOk result ((tick : ℤ) → Holds ticks.now tick
+        → IsReached search.new.labels.labels front.now.place true tick) }
 {
     let origin = Origin::Wait {
         arrivals: front.ticks,
@@ -390,7 +408,8 @@ fn enters(front: &Front, plan: &Plan, limits: &Limits, step: &Move) -> Window
     requires run { IsShort step.now.run }
     requires limits { IsLimits limits.now }
     ensures from { result.from ≡ front.now.ticks.from }
-    ensures to { result.to ≡ int_min (int_min front.now.ticks.to (plan.now.horizon -ℤ step.now.run)) (last_enter limits.now step.now) }
+    ensures to { result.to ≡ int_min (int_min front.now.ticks.to (plan.now.horizon -ℤ
+        step.now.run)) (last_enter limits.now step.now) }
 {
     let ahead = ahead_to(&limits.ahead, &step.target);
     let within = enters_within(front, plan, step);
@@ -414,7 +433,8 @@ fn until_the_limit(within: &Window, limits: &Limits, step: &Move, ahead: &Ahead)
     requires below { IsNear limits.now.below }
     requires ahead { IsAhead ahead.now }
     ensures from { result.from ≡ within.now.from }
-    ensures to { result.to ≡ int_min within.now.to (((limits.now.below -ℤ pos 1) -ℤ step.now.run) -ℤ ahead.now.ticks) }
+    ensures to { result.to ≡ int_min within.now.to (((limits.now.below -ℤ pos 1) -ℤ step.now.run)
+        -ℤ ahead.now.ticks) }
 {
     Window {
         from: within.from,

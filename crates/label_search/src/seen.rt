@@ -54,7 +54,8 @@ impl Seen {
         requires near { IsNear ticks.now.from × (ticks.now.to <ℤ FAR_TICK) }
         requires some { ticks.now.from ≤ℤ ticks.now.to }
         requires unseen { (tick : ℤ) → Holds ticks.now tick → IsUnseen self.old tick }
-        ensures others { (tick : ℤ) → IsUnseen self.old tick → ¬ Holds ticks.now tick → IsUnseen self.new tick }
+        ensures others { (tick : ℤ) → IsUnseen self.old tick → ¬ Holds ticks.now tick
+            → IsUnseen self.new tick }
     {
         let span = span_of(ticks);
         let at = first_ending_after(self.spans.as_slice(), &span);

@@ -1,17 +1,14 @@
 -- What a route comes to stands on a track.
-use Rattle.std.proofs.Common.{◌≡◌, ◌∙◌, ℕ, zero, suc, ◌+◌, ◌-◌, ◌<◌, ◌≤◌, Bool, true, false, cond, List, [], ◌∷◌, length, get_or, nat_eq, Option, Some, None, refl, sym, ap, subst, arith}
+use Rattle.std.proofs.Common.{◌≡◌, ◌∙◌, ℕ, zero, suc, ◌-◌, ◌<◌, ◌≤◌, Bool, true, false, cond, List, length, Option, Some, None, refl, sym, ap, subst, arith}
 use Rattle.std.proofs.lemmas.Bool.{ne_eqb}
 use Rattle.std.specs.Prelude.{slice_get, IfSome, is_some}
-use Rattle.std.specs.List.{All, Contains}
 use Rattle.infra_types.specs.Infras.{IsInfra, IsSwitch}
 use Rattle.infra_types.specs.declared.ends.Direction.{Direction}
 use Rattle.infra_types.specs.declared.ends.Direction.TheVariants.{StartToStop, StopToStart}
 use Rattle.infra_types.specs.declared.ends.TrackEnd.{TrackEnd}
 use Rattle.infra_types.specs.declared.infras.Infra.{Infra}
 use Rattle.infra_types.specs.declared.switches.Group.{Group}
-use Rattle.infra_types.specs.declared.switches.Switch.{Switch}
 use Rattle.infra_types.specs.declared.switches.Way.{Way}
-use Rattle.infra_types.specs.declared.tracks.Placed.{Placed}
 use Rattle.track_graph.specs.declared.stands.Stand.{Stand}
 use Rattle.track_graph.specs.Layouts.{Layout, IsStep, IsSwitchAt}
 use Rattle.track_graph.specs.Pieces.{AreOn, length_of}
@@ -21,7 +18,7 @@ use Rattle.route_walk.specs.declared.places.Place.{Place}
 use Rattle.route_walk.specs.declared.places.Point.{Point}
 use Rattle.route_walk.specs.declared.places.Spot.{Spot}
 use Rattle.route_walk.specs.Places.{IsPlace, IsSpot, ahead_in, at_detector, at_wall, begin_of, come, come_to, gap_behind, stands_first}
-use Rattle.route_walk.specs.Ways.{ComesFrom, IsLead, Leads, end_of, group_of}
+use Rattle.route_walk.specs.Ways.{ComesFrom, IsLead, end_of, group_of}
 use Rattle.route_walk.proofs.Groups.{got_within}
 
 one_ahead : (direction : Direction) (row : List Stand) (gap : ℕ) (stand : Stand) → ahead_in direction row gap ≡ Some stand → gap ≤ length row → (gap_behind direction gap ≤ length row) × ((i : ℕ) × (slice_get row i ≡ Some stand))

@@ -1,17 +1,16 @@
 -- A run of places, one place further.
-use Rattle.std.proofs.Common.{◌≡◌, ◌≢◌, ℕ, zero, suc, ◌+◌, ◌<◌, List, [], ◌∷◌, ◌++◌, length, get_or, Option, Some, None, refl, sym, ap, subst, ◌∙◌, inl, inr, arith, append-nil, ◌⊎◌}
+use Rattle.std.proofs.Common.{◌≡◌, ◌≢◌, ℕ, List, [], ◌∷◌, ◌++◌, Option, Some, None, refl, sym, ap, subst, ◌∙◌, inl, inr, arith, append-nil, ◌⊎◌}
 use Rattle.std.proofs.lemmas.List.Elements.{All-push, All-nil, Contains-get_or, filter_map-append}
 use Rattle.std.proofs.lemmas.List.Quantifiers.{all_pairs_push}
-use Rattle.std.specs.List.{Contains, All, AllPairs, cons_option}
+use Rattle.std.specs.List.{Contains, cons_option}
 use Rattle.std.specs.Option.{option_to_list}
-use Rattle.route_walk.specs.declared.courses.Ending.{Ending}
 use Rattle.route_walk.specs.declared.courses.Ending.TheVariants as endings
 use Rattle.route_walk.specs.declared.passages.Passage.{Passage}
 use Rattle.route_walk.specs.declared.passages.Passage.TheVariants.{On, Exit, Twice, Barred}
 use Rattle.route_walk.specs.declared.places.Place.{Place}
 use Rattle.route_walk.specs.declared.places.Point.{Point}
 use Rattle.route_walk.specs.Passages.{Is, detector_of, GoesOn, ComesAgain}
-use Rattle.route_walk.specs.Courses.{Follows, last_of, detectors_of, NoneTwice, IsOpen, IsThrough, IsRound, HasNoWay, Ends, ending_of}
+use Rattle.route_walk.specs.Courses.{Follows, last_of, detectors_of, NoneTwice, IsOpen, Ends, ending_of}
 
 pub follows_on : (next : Place → Place → Type 0) (a : Place) (ps : List Place) (p : Place) → Follows next a ps → next (last_of a ps) p → Follows next a (ps ++ p ∷ [])
 follows_on next a [] p f h = (h, tt)

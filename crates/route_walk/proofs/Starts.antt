@@ -1,5 +1,5 @@
 -- Where a route begins stands on a track.
-use Rattle.std.proofs.Common.{◌≡◌, ◌∙◌, ℕ, zero, suc, ◌+◌, ◌-◌, ◌<◌, ◌≤◌, Bool, true, false, cond, List, [], ◌∷◌, length, get_or, nat_eq, nat_lt, Option, Some, None, refl, sym, ap, subst, arith}
+use Rattle.std.proofs.Common.{◌≡◌, ◌∙◌, ℕ, zero, suc, ◌-◌, ◌<◌, ◌≤◌, Bool, true, false, cond, List, [], ◌∷◌, length, get_or, nat_eq, nat_lt, Option, Some, None, refl, sym, ap, subst, arith}
 use Rattle.std.proofs.lemmas.Bool.{ne_eqb, eq-eqb, le-ltb}
 use Rattle.std.proofs.lemmas.List.Sums.{count_by-le-length}
 use Rattle.std.specs.Prelude.{slice_get, IfSome}
@@ -15,8 +15,8 @@ use Rattle.track_graph.specs.declared.stands.Stand.{Stand}
 use Rattle.track_graph.specs.Layouts.{Layout}
 use Rattle.track_graph.specs.Pieces.{AreOn, length_of}
 use Rattle.track_graph.specs.Stands.{AreStands, Stands, stands_of}
-use Rattle.route_walk.specs.Counts.{below, rank_of, stands_before}
-use Rattle.route_walk.specs.Entries.{detector_spot, gap_past, is_beside, metre_at, metre_of, side_of_stop, side_past_stop, stop_from, stop_spot, track_at, track_of}
+use Rattle.route_walk.specs.Counts.{rank_of, stands_before}
+use Rattle.route_walk.specs.Entries.{detector_spot, gap_past, is_beside, metre_at, metre_of, side_of_stop, stop_spot, track_at, track_of}
 use Rattle.route_walk.specs.Places.{IsSpot, ahead_in, position_of}
 use Rattle.route_walk.proofs.Groups.{got_within}
 use Rattle.route_walk.proofs.Parted.{one_counts}

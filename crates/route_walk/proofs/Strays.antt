@@ -1,8 +1,8 @@
 -- The first release that is no detector passed, one further.
-use Rattle.std.proofs.Common.{◌≡◌, ◌∙◌, ℕ, ◌+◌, ◌<◌, Bool, true, false, cond, List, [], ◌∷◌, ◌++◌, length, get_or, drop, take, find, Option, Some, None, refl, sym, ap, append-nil}
+use Rattle.std.proofs.Common.{◌≡◌, ◌∙◌, ℕ, ◌+◌, ◌<◌, Bool, true, false, cond, List, [], ◌∷◌, ◌++◌, length, get_or, drop, take, Option, Some, None, sym, ap, append-nil}
 use Rattle.std.proofs.lemmas.List.{at_drop_more}
 use Rattle.std.specs.Prelude.{not}
-use Rattle.std.specs.List.{cons_option, filter_map}
+use Rattle.std.specs.List.{cons_option}
 use Rattle.route_walk.specs.declared.walks.Passed.{Passed}
 use Rattle.route_walk.specs.Releases.{first_stray, has, release_at, releases_at}
 use Rattle.route_walk.proofs.Passing.{one_more}

@@ -1,10 +1,10 @@
 -- What holds of a whole walk.
-use Rattle.std.proofs.Common.{◌≡◌, ◌∙◌, ℕ, zero, suc, ◌+◌, ◌-◌, ◌*◌, ◌/◌, ◌<◌, ◌≤◌, Bool, true, false, cond, nat_eq, nat_lt, List, [], ◌∷◌, ◌++◌, length, get_or, map, take, Option, Some, None, refl, sym, ap, subst, inl, inr, arith}
+use Rattle.std.proofs.Common.{◌≡◌, ◌∙◌, ℕ, zero, suc, ◌+◌, ◌*◌, ◌/◌, ◌<◌, ◌≤◌, Bool, true, false, cond, nat_eq, nat_lt, List, [], ◌∷◌, length, get_or, map, take, Option, Some, None, refl, sym, ap, subst, inl, inr, arith}
 use Rattle.std.proofs.lemmas.Bool.{cases_order, eqb-true}
 use Rattle.std.proofs.lemmas.List.{length-map}
 use Rattle.std.proofs.lemmas.List.Sums.{sum_by-cons, sum_by-take-le}
-use Rattle.std.specs.Prelude.{slice_get, slice_index_or, IfSome}
-use Rattle.std.specs.List.{All, AllPairs, cons_option, filter_map, sum_by}
+use Rattle.std.specs.Prelude.{slice_index_or, IfSome}
+use Rattle.std.specs.List.{All, cons_option}
 use Rattle.std.specs.List.Sorted.{IsNonDecreasing, IsNonDecreasingBy}
 use Rattle.infra_types.specs.Infras.{IsInfra}
 use Rattle.infra_types.specs.declared.infras.Infra.{Infra}
@@ -18,16 +18,15 @@ use Rattle.route_walk.specs.declared.places.Place.{Place}
 use Rattle.route_walk.specs.declared.places.Point.{Point}
 use Rattle.route_walk.specs.declared.places.Spot.{Spot}
 use Rattle.route_walk.specs.declared.walks.Passed.{Passed}
-use Rattle.route_walk.specs.declared.walks.Stretch.{Stretch}
 use Rattle.route_walk.specs.declared.walks.Walk.{Walk}
 use Rattle.route_walk.specs.declared.courses.Ending.{Ending}
-use Rattle.route_walk.specs.Courses.{Ends, Follows, IsThrough, detectors_of, last_of}
+use Rattle.route_walk.specs.Courses.{Ends, Follows, IsThrough, detectors_of}
 use Rattle.route_walk.specs.Entries.{entry_of, exit_of}
 use Rattle.route_walk.specs.Walks.{limit_of, stray_of}
 use Rattle.route_walk.specs.Legs.{ArePassed, IsBehind, length_m, metres_to, number_at, numbers_at, stretch_of}
-use Rattle.route_walk.specs.Places.{IsPlace, ahead_in, at_detector, at_metre, at_wall, begin_of, come, come_to, far_end, stands_first, wall_at}
+use Rattle.route_walk.specs.Places.{IsPlace, ahead_in, at_detector, at_metre, begin_of, come, come_to, wall_at}
 use Rattle.route_walk.specs.Releases.{first_stray, has, release_at, releases_at}
-use Rattle.route_walk.specs.Sound.{AreSound, IsSound, IsWalk}
+use Rattle.route_walk.specs.Sound.{AreSound, IsSound}
 use Rattle.route_walk.specs.Ways.{Comes, ComesFrom}
 use Rattle.route_walk.proofs.Groups.{got_within}
 use Rattle.route_walk.proofs.Runs.{follows_on}

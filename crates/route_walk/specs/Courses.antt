@@ -1,5 +1,5 @@
 -- The places that a route comes by.
-use Rattle.std.specs.Prelude.{◌≡◌, ◌≢◌, ℕ, ◌≤◌, ◌⊎◌, List, [], ◌∷◌, ◌++◌, length, Option, Some, None}
+use Rattle.std.specs.Prelude.{◌≡◌, ◌≢◌, ℕ, ◌≤◌, ◌⊎◌, List, [], ◌∷◌, ◌++◌, length, Some}
 use Rattle.std.specs.List.{All, AllPairs, filter_map}
 use Rattle.route_walk.specs.declared.courses.Ending.{Ending}
 use Rattle.route_walk.specs.declared.courses.Ending.TheVariants.{Exit, NoWay, Loop}

@@ -1,5 +1,5 @@
 -- What a walk passes: its points with their metres, and the zones between them.
-use Rattle.std.specs.Prelude.{◌≡◌, ℕ, ◌+◌, ◌-◌, ◌*◌, ◌<◌, ◌⊎◌, min, max, Bool, true, false, nat_eq, nat_lt, List, [], ◌∷◌, map, take, length, slice_get, Option, Some, None, option_map, if◌then◌else◌}
+use Rattle.std.specs.Prelude.{◌≡◌, ℕ, ◌+◌, ◌-◌, ◌*◌, ◌<◌, min, max, true, nat_eq, List, ◌∷◌, map, take, slice_get, Option, Some, None, option_map, if◌then◌else◌}
 use Rattle.std.specs.List.{All, AllPairs, filter_map, sum_by}
 use Rattle.infra_types.specs.declared.ends.Direction.{Direction}
 use Rattle.infra_types.specs.declared.ends.Direction.TheVariants.{StartToStop, StopToStart}

@@ -1,5 +1,5 @@
 -- What a place is to a walk.
-use Rattle.std.specs.Prelude.{◌≡◌, ◌≢◌, ℕ, ◌⊎◌, List, Option, Some, None}
+use Rattle.std.specs.Prelude.{◌≡◌, ◌≢◌, ℕ, List, Option, Some, None}
 use Rattle.std.specs.List.{Contains}
 use Rattle.route_walk.specs.declared.places.Point.{Point}
 use Rattle.route_walk.specs.declared.places.Point.TheVariants.{Detector, Stop}

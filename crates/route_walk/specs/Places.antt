@@ -1,5 +1,5 @@
 -- What a route comes to along a track.
-use Rattle.std.specs.Prelude.{◌≡◌, ℕ, ◌+◌, ◌-◌, ◌<◌, ◌≤◌, Bool, true, false, nat_eq, nat_le, nat_lt, List, length, slice_get, Option, Some, None, option_map, if◌then◌else◌, IfSome}
+use Rattle.std.specs.Prelude.{ℕ, ◌+◌, ◌-◌, ◌<◌, ◌≤◌, Bool, true, false, nat_eq, nat_le, nat_lt, List, length, slice_get, Option, Some, None, option_map, if◌then◌else◌, IfSome}
 use Rattle.infra_types.specs.declared.ends.Direction.{Direction}
 use Rattle.infra_types.specs.declared.ends.Direction.TheVariants.{StartToStop, StopToStart}
 use Rattle.infra_types.specs.declared.ends.End.{End}

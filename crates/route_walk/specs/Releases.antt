@@ -1,5 +1,5 @@
 -- The release detectors of a walk.
-use Rattle.std.specs.Prelude.{◌≡◌, ℕ, ◌*◌, ◌/◌, Bool, not, nat_eq, nat_lt, List, find, Option, Some, None, if◌then◌else◌}
+use Rattle.std.specs.Prelude.{ℕ, ◌*◌, ◌/◌, Bool, not, nat_eq, nat_lt, List, find, Option, Some, None, if◌then◌else◌}
 use Rattle.std.specs.List.{filter_map, list_any}
 use Rattle.route_walk.specs.declared.walks.Passed.{Passed}
 

@@ -1,5 +1,7 @@
 pub mod Numbers
 mod Moving
+mod Windows
+mod Entering
 mod Adding
 mod Firsts
 mod Counting

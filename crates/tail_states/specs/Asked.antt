@@ -4,7 +4,12 @@ use Rattle.rail_types.specs.declared.tracks.Network.{Network}
 use Rattle.rail_types.specs.declared.trains.Request.{Request}
 use Rattle.rail_types.specs.declared.limits.TheConstants.{MAX_OBJECTS, MAX_STOPS}
 use Rattle.rail_types.specs.Flaws.{first_flaw}
-use Rattle.rail_types.specs.Limits.{IsBlockWithinLimits, IsTrainWithinLimits}
+use Rattle.rail_types.specs.declared.entries.Settings.{Settings}
+use Rattle.rail_types.specs.Limits.{IsBlockWithinLimits, IsTrainWithinLimits, IsSettingsWithinLimits}
+use Rattle.stair_pieces.specs.declared.places.Place.{Place}
+use Rattle.stair_pieces.specs.Places.{start_place}
+use Rattle.stair_pieces.specs.Steps.{IsPlaceIn}
+use Rattle.stair_pieces.specs.Moves.{IsPlace}
 
 -- the blocks begin and end at points of the network
 pub record HasPoints (net : Network) : Type 0 where
@@ -24,3 +29,15 @@ abbrev pub SoundNetworksAreAsked : Type 0
 SoundNetworksAreAsked =
     (net : Network) (request : Request) → first_flaw net ≡ None
     → IsTrainWithinLimits request.train → length request.stops ≤ MAX_STOPS → IsAsked net request
+
+-- the start place and each place of a request is one of which pieces and standing zones may be asked
+pub record MayBeCut (net : Network) (settings : Settings) (request : Request) : Type 0 where
+  pub start : IsPlaceIn net settings request.train start_place
+  pub places : (place : Place) → IsPlace net request place
+      → IsPlaceIn net settings request.train place
+
+-- so it is for each request within its limits
+abbrev pub PlacesMayBeCut : Type 0
+PlacesMayBeCut =
+    (net : Network) (settings : Settings) (request : Request) → IsAsked net request
+    → IsSettingsWithinLimits settings → MayBeCut net settings request

@@ -1,6 +1,7 @@
 //! Laws of places and of closed members, each on a function that calls other laws alone.
 
-ghost use Rattle.tail_states.specs.Asked.{SoundNetworksAreAsked};
+ghost use Rattle.tail_states.specs.Alike.{WindowsChangeNoPlaces};
+ghost use Rattle.tail_states.specs.Asked.{PlacesMayBeCut, SoundNetworksAreAsked};
 ghost use Rattle.tail_states.specs.Closing.{ExcludesAllPaths, ExcludesEarlierPaths};
 
 use rail_types::networks_without_flaws;
@@ -22,3 +23,13 @@ pub fn closed_members_exclude_paths()
     a_path_is_a_list_of_moves();
     a_path_fits_run_by_run();
 }
+
+/// Two requests that differ in their windows alone have the same places, and the same moves.
+pub fn windows_change_no_places()
+    ensures { WindowsChangeNoPlaces }
+{}
+
+/// Of the start place and of each place of a request pieces and standing zones may be asked.
+pub fn places_may_be_cut()
+    ensures { PlacesMayBeCut }
+{}

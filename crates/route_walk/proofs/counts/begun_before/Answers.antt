@@ -1,7 +1,5 @@
-use Rattle.std.proofs.Common.{rules, of_calls, ◌≡◌, nat_lt, true, false}
-use Rattle.std.specs.List.Sorted.{IsPartitionPoint}
+use Rattle.std.proofs.Common.{rules, of_calls, nat_lt}
 use Rattle.std.proofs.lemmas.Fn.{always_returns_same}
-use Rattle.route_walk.specs.Counts.{stands_before}
 use Rattle.route_walk.proofs.Parted.{parted_count, parted_begins}
 use Rattle.route_walk.proofs.counts.begun_before.Goals as goal
 

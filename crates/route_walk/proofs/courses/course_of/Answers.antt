@@ -1,10 +1,6 @@
-use Rattle.std.proofs.Common.{◌≡◌, ◌∙◌, ◌∷◌, ◌<◌, ◌+◌, arith, sym, subst, length, length-append, List, add-one}
+use Rattle.std.proofs.Common.{◌≡◌, ◌∙◌, arith, sym, length-append}
 use Rattle.std.proofs.lemmas.List.Elements.{All-push}
-use Rattle.std.specs.List.{All}
-use Rattle.route_walk.specs.declared.passages.Passage.TheVariants.{On, Twice}
-use Rattle.route_walk.specs.declared.places.Place.{Place}
-use Rattle.route_walk.specs.Courses.{Ends, ending_of, detectors_of}
-use Rattle.route_walk.specs.Passages.{Is}
+use Rattle.route_walk.specs.declared.passages.Passage.TheVariants.{On}
 use Rattle.route_walk.specs.Places.{IsPlace}
 use Rattle.route_walk.specs.Ways.{Comes}
 use Rattle.route_walk.proofs.Runs.{last_on, ends_here, goes_on, seen_on, not_twice, on_or_twice}

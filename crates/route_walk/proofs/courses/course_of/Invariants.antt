@@ -1,4 +1,4 @@
-use Rattle.std.proofs.Common.{◌≡◌, ◌∷◌, ◌<◌, length}
+use Rattle.std.proofs.Common.{◌≡◌, ◌∷◌, length}
 use Rattle.std.specs.List.{All}
 use Rattle.route_walk.specs.Courses.{IsOpen, last_of, detectors_of}
 use Rattle.route_walk.specs.Places.{IsPlace}

@@ -1,7 +1,7 @@
-use Rattle.std.proofs.Common.{◌≡◌, ◌∙◌, sym, subst, ap, arith, length, ◌<◌, ◌≤◌, ◌+◌, ℕ, List}
+use Rattle.std.proofs.Common.{◌≡◌, ◌∙◌, sym, subst, ap, arith, length, ◌<◌, ℕ, List}
 use Rattle.infra_types.specs.declared.infras.Infra.{Infra}
 use Rattle.infra_types.specs.declared.tracks.Placed.{Placed}
-use Rattle.track_graph.specs.Pieces.{AreOn, length_of}
+use Rattle.track_graph.specs.Pieces.{AreOn}
 use Rattle.track_graph.specs.Stands.{AreStands, stands_of}
 use Rattle.route_walk.specs.Entries.{metre_at, track_at}
 use Rattle.route_walk.proofs.Starts.{stop_on, metre_short, track_in}

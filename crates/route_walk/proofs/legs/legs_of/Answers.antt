@@ -1,7 +1,6 @@
-use Rattle.std.proofs.Common.{rules, ◌≡◌, ◌∙◌, ◌<◌, ◌+◌, ◌*◌, ◌∷◌, ◌++◌, [], sym, ap, subst, List, Option, ℕ, Some, length}
+use Rattle.std.proofs.Common.{rules, ◌∙◌, ◌<◌, ◌+◌, ◌*◌, sym, subst, Option, ℕ, length}
 use Rattle.std.specs.Prelude.{IfSome}
-use Rattle.route_walk.specs.declared.walks.Passed.{Passed}
-use Rattle.route_walk.proofs.Passing.{ArePassedTo, short_step, step_none, step_some}
+use Rattle.route_walk.proofs.Passing.{short_step, step_none, step_some}
 use Rattle.route_walk.proofs.legs.legs_of.Goals.{in-Some+in_ok-push-2+in_ok-push-3, in_default}
 use Rattle.route_walk.proofs.legs.legs_of.Goals as goal
 

@@ -1,4 +1,4 @@
-use Rattle.std.proofs.Common.{◌≡◌, ap, ◌∙◌, sym, Some}
+use Rattle.std.proofs.Common.{ap, ◌∙◌, sym, Some}
 use Rattle.std.proofs.lemmas.Map.Views.{Contains-from_any}
 use Rattle.std.proofs.lemmas.Bool.{eqb-true, not-false}
 use Rattle.route_walk.specs.declared.places.Point.{Point}

@@ -1,4 +1,4 @@
-use Rattle.std.proofs.Common.{◌≡◌, ◌∙◌, sym, subst, ap, List, length, Some}
+use Rattle.std.proofs.Common.{◌∙◌, sym, subst, ap, List}
 use Rattle.infra_types.specs.declared.infras.Infra.{Infra}
 use Rattle.track_graph.specs.Pieces.{AreOn}
 use Rattle.track_graph.specs.Stands.{AreStands, stands_of}

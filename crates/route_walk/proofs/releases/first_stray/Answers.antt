@@ -1,4 +1,4 @@
-use Rattle.std.proofs.Common.{◌≡◌, ◌∙◌, sym}
+use Rattle.std.proofs.Common.{◌∙◌, sym}
 use Rattle.route_walk.proofs.Strays.{stray_here, stray_further}
 use Rattle.route_walk.proofs.releases.first_stray.Goals as goal
 

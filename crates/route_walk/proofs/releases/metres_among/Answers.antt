@@ -1,4 +1,4 @@
-use Rattle.std.proofs.Common.{◌≡◌, ◌∙◌, sym}
+use Rattle.std.proofs.Common.{◌∙◌, sym}
 use Rattle.route_walk.proofs.Strays.{release_more, release_none}
 use Rattle.route_walk.proofs.releases.metres_among.Goals.{in-Some+in_ok-push, in_default}
 use Rattle.route_walk.proofs.releases.metres_among.Goals as goal

@@ -1,14 +1,11 @@
 use Rattle.std.specs.Prelude.{slice_index_or}
-use Rattle.std.proofs.Common.{◌≡◌, ◌∙◌, ◌∷◌, ◌<◌, ◌≤◌, ℕ, List, length, refl, sym, ap, subst, Some, None}
+use Rattle.std.proofs.Common.{◌∙◌, ◌∷◌, ◌<◌, ◌≤◌, ℕ, List, length, refl, sym, ap, subst}
 use Rattle.std.proofs.lemmas.Option.{slice_get_read}
 use Rattle.std.specs.List.{All, sum_by}
-use Rattle.infra_types.specs.declared.routes.Route.{Route}
 use Rattle.route_walk.specs.declared.courses.Ending.{Ending}
-use Rattle.route_walk.specs.declared.courses.Ending.TheVariants.{Exit}
 use Rattle.route_walk.specs.declared.places.Place.{Place}
-use Rattle.route_walk.specs.Courses.{Ends, detectors_of}
+use Rattle.route_walk.specs.Courses.{Ends}
 use Rattle.route_walk.specs.Legs.{IsBehind, length_m}
-use Rattle.route_walk.specs.Releases.{first_stray}
 use Rattle.route_walk.specs.Walks.{TellsOf}
 use Rattle.route_walk.specs.Ways.{Comes}
 use Rattle.route_walk.proofs.Wholes.{all_behind, all_short, ends_are, strays_are}

@@ -1,6 +1,4 @@
-use Rattle.std.proofs.Common.{◌≡◌, ◌∙◌, ◌+◌, ◌*◌, sym, ap, subst, length, List, ℕ, Option}
-use Rattle.route_walk.specs.declared.walks.Passed.{Passed}
-use Rattle.route_walk.specs.Releases.{releases_at}
+use Rattle.std.proofs.Common.{◌∙◌, ◌+◌, ◌*◌, sym, subst, length, List, ℕ, Option}
 use Rattle.route_walk.specs.Sound.{AreSound}
 use Rattle.route_walk.proofs.Wholes.{whole_sound, released_are}
 use Rattle.route_walk.proofs.routes.walk_along.Goals as goal

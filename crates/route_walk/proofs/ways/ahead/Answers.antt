@@ -1,7 +1,7 @@
-use Rattle.std.proofs.Common.{◌≡◌, ◌∙◌, sym, subst, ap, Some, None, Option}
+use Rattle.std.proofs.Common.{◌≡◌, ◌∙◌, sym, subst, ap, Some, None}
 use Rattle.infra_types.specs.declared.ends.TrackEnd.{TrackEnd}
 use Rattle.route_walk.specs.declared.places.Place.{Place}
-use Rattle.route_walk.specs.Ways.{IsLead, end_of}
+use Rattle.route_walk.specs.Ways.{IsLead}
 use Rattle.route_walk.specs.Places.{come}
 use Rattle.route_walk.proofs.Coming.{comes_nowhere, comes_across, across_comes}
 use Rattle.route_walk.proofs.ways.ahead.Goals as goal

@@ -1,4 +1,4 @@
-use Rattle.std.proofs.Common.{rules, of_calls, ◌≡◌, ℕ, List, get_or, nat_lt, true, false, sym, ap, subst, inl, inr, arith, ◌<◌}
+use Rattle.std.proofs.Common.{rules, of_calls, ◌≡◌, ℕ, List, get_or, nat_lt, true, false, sym, subst, inl, inr, arith, ◌<◌}
 use Rattle.std.specs.List.Sorted.{IsPartitionPoint, IsPartitionedBy}
 use Rattle.std.proofs.lemmas.Bool.{cases_order, ltb-true, ltb-false, lt-ltb}
 use Rattle.std.proofs.lemmas.Fn.{always_returns_same}

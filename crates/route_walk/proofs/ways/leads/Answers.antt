@@ -1,7 +1,5 @@
-use Rattle.std.proofs.Common.{◌≡◌, ◌∙◌, sym, subst, ap, Some, None, Option}
-use Rattle.infra_types.specs.declared.ends.TrackEnd.{TrackEnd}
+use Rattle.std.proofs.Common.{subst}
 use Rattle.track_graph.specs.Layouts.{IsSwitchAt}
-use Rattle.route_walk.specs.Ways.{IsLead}
 use Rattle.route_walk.proofs.Coming.{no_lead, lead_is, lead_known}
 use Rattle.route_walk.proofs.ways.leads.Goals as goal
 

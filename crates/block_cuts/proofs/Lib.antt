@@ -1,0 +1,14 @@
+pub mod Ranges
+pub mod Releases
+pub mod Stretches
+pub mod Stops
+pub mod Cuttings
+pub mod Lengths
+pub mod Orders
+pub mod CellOrders
+pub mod Ranks
+pub mod TrackRows
+pub mod Empties
+pub mod Flawless
+pub mod NetFlaws
+pub mod Counts

@@ -1,0 +1,7 @@
+use Rattle.std.proofs.Common.{◌≡◌, rules}
+use Rattle.block_cuts.specs.Speeds.{limits_in}
+use Rattle.block_cuts.proofs.TrackRows.{limits_of_row}
+use Rattle.block_cuts.proofs.speeds.least_at.Goals as goal
+
+pub returns : goal.returns
+returns c = let row = limits_of_row c.args.ranges.now c.args.stretch.now in cc

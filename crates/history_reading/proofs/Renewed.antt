@@ -1,0 +1,50 @@
+-- A file of version 1 in the version of today.
+use Rattle.std.proofs.Common.{◌≡◌, ℕ, List, [], ◌∷◌, ◌++◌, length, take, Option, None, Some, refl, sym, ap, ◌∙◌, arith, append_assoc, length-append}
+use Rattle.std.specs.Prelude.{IfSome, slice_set}
+use Rattle.std.proofs.lemmas.List.{take_at, nil_from_length}
+use Rattle.rail_types.specs.declared.entries.Entry.{Entry}
+use Rattle.rail_types.specs.Timetables.{Timetable}
+use Rattle.journal_text.specs.Headers.{header_of, header_of_version}
+use Rattle.journal_text.specs.Histories.{bodies_of, opened}
+use Rattle.history_reading.specs.Files.{IsFound}
+use Rattle.history_reading.specs.Moving.{IsMoved}
+
+pub if-some : {X : Type 0} (P Q : X → Type 0) (o : Option X) → ((x : X) → o ≡ Some x → P x → Q x) → IfSome o P → IfSome o Q
+if-some P Q None more holds = tt
+if-some P Q (Some x) more holds = more x refl holds
+
+with_version : (network base behind : List ℕ) → slice_set (header_of_version 1 network base ++ behind) 11 2 ≡ header_of network base ++ behind
+with_version network base behind = refl
+
+header_size : (network base : List ℕ) → length network ≡ 32 → length base ≡ 32 → length (header_of_version 1 network base) ≡ 76
+header_size network base n b = omega (arith, length-append network base)
+
+pub is-renewed : (timetable : Timetable) (network base file bytes : List ℕ) (entries : List Entry) (gate count : ℕ) → length network ≡ 32 → length base ≡ 32 → IsFound timetable 1 network base file entries gate → bytes ≡ slice_set (take gate file) 11 2 ++ 0 ∷ [] → count ≡ length entries → IsMoved timetable network base count (λ image. image ≡ bytes) file
+is-renewed timetable network base file bytes entries gate count n b found is counted =
+    let header = header_of_version 1 network base in
+    let all = opened (bodies_of entries) in
+    let read = found.2 in
+    let split : file ≡ (header ++ all) ++ read.rest = found.1 ∙ ap (λ (l : List ℕ). header ++ l) read.passes.split ∙ sym (append_assoc header all read.rest) in
+    let size : length (header ++ all) ≡ gate = omega (arith, length-append header all, header_size network base n b, read.place) in
+    let front : take gate file ≡ header ++ all = ap (take gate) split ∙ take_at (header ++ all) read.rest gate size in
+    let whole : bytes ≡ (header_of network base ++ all) ++ 0 ∷ [] = is ∙ ap (λ (l : List ℕ). slice_set l 11 2 ++ 0 ∷ []) front ∙ ap (λ (l : List ℕ). l ++ 0 ∷ []) (with_version network base all) in
+    record {
+      entries = entries;
+      gate = gate;
+      found = found;
+      count_is = counted;
+      reads = λ image same. record { gate = 0; rest = []; split = same ∙ whole; closed = λ e. absurd (omega (arith, e)) };
+    }
+
+-- an image that is the bytes reads as they do
+pub moved-on : (timetable : Timetable) (network base file bytes : List ℕ) (count : ℕ) (P : List ℕ → Type 0) → ((image : List ℕ) → P image → image ≡ bytes) → IsMoved timetable network base count (λ image. image ≡ bytes) file → IsMoved timetable network base count P file
+moved-on timetable network base file bytes count P is moved = record {
+  entries = moved.entries;
+  gate = moved.gate;
+  found = moved.found;
+  count_is = moved.count_is;
+  reads = λ image has. moved.reads image (is image has);
+}
+
+pub was-empty : (contents : Option (List ℕ)) (len : ℕ) → len ≡ 0 → IfSome contents (λ bytes. len ≡ length bytes) → IfSome contents (λ bytes. bytes ≡ [])
+was-empty contents len none counts = if-some (λ bytes. len ≡ length bytes) (λ bytes. bytes ≡ []) contents (λ bytes told count. nil_from_length bytes (omega (arith, count, none))) counts

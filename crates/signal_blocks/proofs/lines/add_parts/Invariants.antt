@@ -1,0 +1,7 @@
+use Rattle.std.proofs.Common.{◌≡◌, ◌++◌, drop, map}
+use Rattle.signal_blocks.specs.Lines.{parts_of}
+use Rattle.block_cuts.specs.declared.lines.StopPart.{StopPart}
+use Rattle.signal_blocks.proofs.lines.add_parts.Given as goal
+
+abbrev pub invariant-parts : goal.invariant-parts
+invariant-parts l = l.to ++ parts_of l.stop record { id = l.point.id; parts = drop l.part-index l.point.parts } ≡ l.initial.to ++ parts_of l.stop l.point

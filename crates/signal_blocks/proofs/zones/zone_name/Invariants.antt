@@ -1,0 +1,6 @@
+use Rattle.std.proofs.Common.{◌≡◌, ◌++◌, drop, map}
+use Rattle.signal_blocks.specs.Names.{track_piece}
+use Rattle.signal_blocks.proofs.zones.zone_name.Given as goal
+
+abbrev pub invariant-pieces : goal.invariant-pieces
+invariant-pieces l = l.named ++ map (track_piece l.tracks) (drop l.one-index l.pieces) ≡ map (track_piece l.tracks) l.pieces

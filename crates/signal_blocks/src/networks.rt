@@ -1,0 +1,65 @@
+//! The network of an infrastructure.
+
+ghost use Rattle.std.specs.Prelude.{◌≡◌, IfErr, IfOk};
+ghost use Rattle.infra_types.specs.Infras.{IsInfra};
+ghost use Rattle.named_network.specs.Named.{IsNamed};
+ghost use Rattle.track_graph.specs.Layouts.{IsLayoutOf};
+ghost use Rattle.signal_blocks.specs.Inside.{told_blocks};
+ghost use Rattle.signal_blocks.specs.Networks.{IsNetworkOf, NetTells};
+
+use crate::faults::NetFault;
+use crate::names::{block_names, route_name, stop_names};
+use crate::railways::{railway_of, walks_of};
+use crate::zones::zone_names;
+use block_cuts::{Fault, fault_of};
+use infra_types::Infra;
+use named_network::Named;
+use no_memory::NoMemory;
+use std::alloc::Global;
+use track_graph::Graph;
+
+/// A railway's fault, told by names.
+fn told_blocks(alloc: Global, infra: &Infra, fault: Fault) -> Result<NetFault, NoMemory>
+    ensures { IfOk result (λ told. told ≡ told_blocks infra.now fault) }
+{
+    match fault {
+        Fault::EmptyBlock { route, at } => {
+            let route = route_name(alloc, infra, route)?;
+            Ok(NetFault::EmptyBlock { route, at })
+        }
+        Fault::Limit { what, count } => Ok(NetFault::Limit { what, count }),
+    }
+}
+
+/// The network of an infrastructure, with the names of its operational points, blocks and zones.
+///
+/// A block reaches from one cut of a route to the next: routes are cut at their ends and at each detector to which a
+/// block signal of the route's direction belongs. Blocks stand by route in file order, then along the route.
+///
+/// # Errors
+///
+/// The first fault in this order: `Graph` where two ports name one end of a track, or a position is beyond its track;
+/// `Walk` of the first route that has no walk; `EmptyBlock` by route, then by metre; `Limit` of zones, points, blocks,
+/// cells, and of the first block that is too long. `Memory` where memory runs out.
+pub fn network_of(alloc: Global, infra: &Infra) -> Result<Named, NetFault>
+    requires { IsInfra infra.now }
+    ensures network { IfOk result (IsNetworkOf infra.now) }
+    ensures named { IfOk result IsNamed }
+    ensures fault { IfErr result (NetTells infra.now) }
+{
+    let graph = Graph::of(alloc, infra)?;
+    let walks = walks_of(alloc, &graph, infra)?;
+    let railway = railway_of(alloc, &graph, infra, walks)?;
+    if let Some(fault) = fault_of(alloc, &railway)? {
+        return Err(told_blocks(alloc, infra, fault)?);
+    }
+    let network = block_cuts::network_of(alloc, &railway)?;
+    let sights = railway.lines.sights.as_slice();
+    let routes = infra.routes.as_slice();
+    Ok(Named {
+        network,
+        stops: stop_names(alloc, infra.points.as_slice())?,
+        blocks: block_names(alloc, sights, routes, railway.walks.as_slice())?,
+        zones: zone_names(alloc, &graph, infra)?,
+    })
+}
