@@ -1,5 +1,5 @@
 -- A path that keeps a request is a list of its moves.
-use Rattle.std.proofs.Common.{◌≡◌, ◌∙◌, ◌⊎◌, inl, inr, sym, ap, refl, subst, ℕ, zero, suc, ◌+◌, ◌<◌, ◌≤◌, ℤ, pos, ◌+ℤ◌, ◌≤ℤ◌, Bool, true, false, List, [], ◌∷◌, ◌++◌, length, drop, get_or, All, Contains, Option, Some, None, arith, length-drop, add-one}
+use Rattle.std.proofs.Common.{◌≡◌, inl, inr, sym, ap, refl, subst, ℕ, zero, suc, ◌+◌, ◌<◌, ◌≤◌, pos, ◌+ℤ◌, ◌≤ℤ◌, Bool, true, false, List, [], ◌∷◌, ◌++◌, length, drop, All, Contains, Option, Some, None, arith, length-drop, add-one}
 use Rattle.std.specs.Prelude.{slice_get}
 use Rattle.std.proofs.lemmas.Bool.Decides.{leb_tells}
 use Rattle.std.proofs.lemmas.List.Elements.{All-head, All-tail}
@@ -13,17 +13,16 @@ use Rattle.rail_types.specs.declared.paths.Run.{Run}
 use Rattle.rail_types.specs.declared.paths.Path.{Path}
 use Rattle.running_time.specs.declared.edges.Enter.{Enter}
 use Rattle.running_time.specs.declared.edges.Enter.TheVariants.{Still}
-use Rattle.running_time.specs.declared.edges.Edge.{Edge}
 use Rattle.running_time.specs.declared.edges.Edge.TheVariants.{Still as Halted, Rolling}
 use Rattle.blocking_time.specs.Runs.{block_at, exit_of, entry_behind}
-use Rattle.blocking_time.specs.Legs.{Leg, legs_from, EntersFrom, KeepsRules, KeepAll, KeepsByLegs}
+use Rattle.blocking_time.specs.Legs.{Leg, legs_from, EntersFrom, KeepAll, KeepsByLegs}
 use Rattle.stair_pieces.specs.declared.places.Place.{Place}
 use Rattle.stair_pieces.specs.declared.places.Step.{Step}
 use Rattle.stair_pieces.specs.Places.{start_place, step_of, head_block, entry_of, under_train, metres_of, made_after, place_after}
-use Rattle.stair_pieces.specs.Moves.{Reaches, Arrives, MakesStop, MayLeave, IsMove, IsEnd, IsPlace, begun, gone_on, AreMoves, ArePlaces, TakesItsTime, GoesOnAfter, TakeTheirTime}
+use Rattle.stair_pieces.specs.Moves.{Reaches, IsMove, IsEnd, IsPlace, begun, gone_on, AreMoves, ArePlaces, GoesOnAfter, TakeTheirTime}
 use Rattle.stair_pieces.proofs.Keeping.{StopsOn, StopsAsNamed, FirstServes, LastServes, KeepsRequest}
 use Rattle.stair_pieces.proofs.Tails.{is_cleared, head_is}
-use Rattle.stair_pieces.proofs.Moments.{leg_of, entry_after}
+use Rattle.stair_pieces.proofs.Moments.{entry_after}
 
 -- the stops that are left
 stop_there : (stops : List Stop) (made : ℕ) (stop : Stop) (left : List Stop) → drop made stops ≡ stop ∷ left → slice_get stops made ≡ Some stop

@@ -1,7 +1,7 @@
 -- Claims fit where they share no tick.
-use Rattle.std.proofs.Common.{◌≡◌, ◌∙◌, ◌↔◌, ◌⊎◌, sym, ap, refl, subst, ℕ, zero, suc, ◌+◌, ◌-◌, ◌<◌, ◌≤◌, ℤ, pos, neg_ℤ, ◌+ℤ◌, ◌-ℤ◌, ◌<ℤ◌, ◌≤ℤ◌, Bool, true, false, cond, int_lt, nat_le, if◌then◌else◌, List, [], ◌∷◌, ◌++◌, map, length, get_or, Option, Some, None, All, inl, inr, arith}
+use Rattle.std.proofs.Common.{◌≡◌, ◌∙◌, ◌↔◌, sym, refl, ℕ, zero, suc, ◌<◌, ◌≤◌, ℤ, pos, ◌+ℤ◌, ◌<ℤ◌, ◌≤ℤ◌, Bool, true, false, int_lt, nat_le, if◌then◌else◌, List, [], ◌∷◌, map, length, get_or, All, inl, inr, arith}
 use Rattle.std.proofs.lemmas.Int.{ints, by_lt_z}
-use Rattle.std.proofs.lemmas.List.Elements.{All-nil, All-cons, All-head, All-tail, All-append, All-map}
+use Rattle.std.proofs.lemmas.List.Elements.{All-nil, All-head, All-tail, All-append, All-map}
 use Rattle.rail_types.specs.declared.tracks.Network.{Network}
 use Rattle.rail_types.specs.declared.trains.Train.{Train}
 use Rattle.rail_types.specs.declared.entries.Settings.{Settings}
@@ -12,18 +12,14 @@ use Rattle.rail_types.specs.declared.paths.Path.{Path}
 use Rattle.rail_types.specs.Occupation.{Clash, Fits, HasTicks, IsTickOf, Overlap}
 use Rattle.running_time.specs.declared.edges.Enter.{Enter}
 use Rattle.running_time.specs.declared.edges.Enter.TheVariants.{Still, From}
-use Rattle.running_time.specs.declared.edges.Edge.{Edge}
-use Rattle.running_time.specs.Times.{part_ticks}
 use Rattle.running_time.proofs.Ticks.{takes_a_tick}
-use Rattle.blocking_time.specs.declared.passages.Passage.{Passage}
-use Rattle.blocking_time.specs.Runs.{block_at, exit_of, entry_behind}
+use Rattle.blocking_time.specs.Runs.{block_at}
 use Rattle.blocking_time.specs.Passages.{passages_of}
-use Rattle.blocking_time.specs.Legs.{Leg, legs_from, legs_of, reached, KeepsRules, KeepAll, KeepsByLegs, gone, begin_of, claim_until, claims_behind, claims_by_legs}
 use Rattle.blocking_time.specs.Ticks.{Takes, Covers}
 use Rattle.stair_pieces.specs.declared.places.Place.{Place}
 use Rattle.stair_pieces.specs.declared.places.Step.{Step}
 use Rattle.stair_pieces.specs.Places.{start_place, step_of, head_block, entry_of, place_after, uncleared, standing_zones}
-use Rattle.stair_pieces.specs.Pieces.{step_end, step_approach, step_begin, piece, pieces_of, later_by, kept, wait_end, steps_from, steps_of_path}
+use Rattle.stair_pieces.specs.Pieces.{step_end, step_begin, piece, pieces_of, later_by, kept, wait_end, steps_from, steps_of_path}
 use Rattle.blocking_time.specs.Joined.{CoverTheSame}
 
 abbrev HaveTicks : List Claim → Type 0

@@ -1,5 +1,5 @@
 -- The steps of a path cover what its stairway covers.
-use Rattle.std.proofs.Common.{◌≡◌, ◌∙◌, ◌↔◌, ◌⊎◌, sym, ap, refl, subst, ℕ, ◌≤◌, ℤ, pos, ◌+ℤ◌, ◌≤ℤ◌, Bool, true, false, List, [], ◌∷◌, ◌++◌, map, Option, Some, None, All, inl, inr, arith}
+use Rattle.std.proofs.Common.{◌≡◌, ◌↔◌, ◌⊎◌, sym, ap, refl, subst, ℕ, ◌≤◌, ℤ, pos, ◌+ℤ◌, ◌≤ℤ◌, List, [], ◌∷◌, ◌++◌, map, Option, Some, None, inl, inr, arith}
 use Rattle.std.proofs.lemmas.Int.{ints}
 use Rattle.std.proofs.lemmas.List.{map-append}
 use Rattle.rail_types.specs.declared.tracks.Network.{Network}
@@ -9,15 +9,15 @@ use Rattle.rail_types.specs.declared.paths.Claim.{Claim}
 use Rattle.rail_types.specs.declared.paths.Run.{Run}
 use Rattle.rail_types.specs.declared.paths.Path.{Path}
 use Rattle.running_time.specs.declared.edges.Enter.{Enter}
-use Rattle.running_time.specs.declared.edges.Enter.TheVariants.{Still, From}
+use Rattle.running_time.specs.declared.edges.Enter.TheVariants.{Still}
 use Rattle.blocking_time.specs.Runs.{block_at, entry_behind}
 use Rattle.blocking_time.specs.Passages.{passages_of}
-use Rattle.blocking_time.specs.Legs.{Leg, legs_from, reached, KeepsRules, KeepAll, KeepsByLegs, gone, begin_of, claims_behind, claims_by_legs}
+use Rattle.blocking_time.specs.Legs.{Leg, legs_from, reached, KeepAll, KeepsByLegs, gone, begin_of, claims_behind, claims_by_legs}
 use Rattle.blocking_time.specs.Ticks.{Covers}
 use Rattle.blocking_time.specs.Joined.{CoverTheSame}
 use Rattle.blocking_time.specs.declared.passages.Passage.{Passage}
 use Rattle.stair_pieces.specs.declared.places.Place.{Place}
-use Rattle.stair_pieces.specs.Places.{start_place, step_of, head_block, entry_of, place_after, under_train, uncleared, left_after, standing_zones}
+use Rattle.stair_pieces.specs.Places.{start_place, step_of, head_block, entry_of, place_after, uncleared, left_after, standing_zones}
 use Rattle.stair_pieces.specs.Pieces.{step_begin, pieces_of, later_by, kept, wait_end, steps_from, steps_of_path}
 use Rattle.stair_pieces.proofs.Sound.{ReleaseWithin}
 use Rattle.stair_pieces.proofs.Covering.{over, kept_covers, whole, first, rest, covers_left, covers_right, covers_cases, cut, with_first, with_rest, wait_and_on, with_wait, with_on}

@@ -12,3 +12,5 @@ mod Asked
 mod Made
 mod Requests
 mod Paths
+mod Bounding
+mod Claiming

@@ -1,12 +1,11 @@
 -- Moves of a request that take their time are a path that keeps it.
-use Rattle.std.proofs.Common.{◌≡◌, ◌∙◌, ◌⊎◌, inl, inr, sym, ap, refl, subst, ℕ, zero, suc, ◌+◌, ◌<◌, ◌≤◌, ℤ, pos, ◌+ℤ◌, ◌≤ℤ◌, Bool, true, false, List, [], ◌∷◌, ◌++◌, length, drop, get_or, All, Contains, Option, Some, None, arith, add-one}
+use Rattle.std.proofs.Common.{◌≡◌, ◌∙◌, inl, inr, sym, ap, refl, subst, ℕ, zero, suc, ◌+◌, ◌<◌, ◌≤◌, Bool, true, false, List, [], ◌∷◌, length, drop, All, Contains, Option, Some, None, arith, add-one}
 use Rattle.std.specs.Prelude.{slice_get}
 use Rattle.std.proofs.lemmas.Grind.{common_steps}
 use Rattle.std.proofs.lemmas.Int.{ints}
 use Rattle.std.proofs.lemmas.List.Elements.{All-nil, All-cons}
 use Rattle.rail_types.specs.declared.tracks.Block.{Block}
 use Rattle.rail_types.specs.declared.tracks.Network.{Network}
-use Rattle.rail_types.specs.declared.trains.Train.{Train}
 use Rattle.rail_types.specs.declared.trains.Stop.{Stop}
 use Rattle.rail_types.specs.declared.trains.Request.{Request}
 use Rattle.rail_types.specs.declared.entries.Settings.{Settings}
@@ -14,14 +13,12 @@ use Rattle.rail_types.specs.declared.paths.Run.{Run}
 use Rattle.rail_types.specs.declared.paths.Path.{Path}
 use Rattle.running_time.specs.declared.edges.Enter.{Enter}
 use Rattle.running_time.specs.declared.edges.Enter.TheVariants.{Still}
-use Rattle.running_time.specs.declared.edges.Edge.{Edge}
-use Rattle.running_time.specs.declared.edges.Edge.TheVariants.{Still as Halted, Rolling}
+use Rattle.running_time.specs.declared.edges.Edge.TheVariants.{Still as Halted}
 use Rattle.blocking_time.specs.Runs.{block_at, exit_of, entry_behind}
-use Rattle.blocking_time.specs.Legs.{Leg, legs_from, reached, EntersFrom, Follows, Enters, StopsWell, KeepsRules, KeepAll, KeepsByLegs}
+use Rattle.blocking_time.specs.Legs.{Leg, legs_from, EntersFrom, Follows, Enters, KeepAll, KeepsByLegs}
 use Rattle.stair_pieces.specs.declared.places.Place.{Place}
-use Rattle.stair_pieces.specs.declared.places.Step.{Step}
 use Rattle.stair_pieces.specs.Places.{start_place, step_of, head_block, entry_of, made_after, place_after}
-use Rattle.stair_pieces.specs.Moves.{Reaches, Arrives, MakesStop, MayLeave, IsMove, IsEnd, IsMadeOfMoves, AreMoves, TakesItsTime, GoesOnAfter, TakeTheirTime}
+use Rattle.stair_pieces.specs.Moves.{Reaches, MakesStop, MayLeave, IsMove, IsEnd, IsMadeOfMoves, AreMoves, GoesOnAfter, TakeTheirTime}
 use Rattle.stair_pieces.proofs.Keeping.{StopsOn, StopsAsNamed, FirstServes, LastServes, KeepsRequest}
 use Rattle.stair_pieces.proofs.Tails.{head_is}
 use Rattle.stair_pieces.proofs.Moments.{leg_of, entry_after}

@@ -1,28 +1,20 @@
 -- The moments of a path's legs, one behind the other, and those of a step from a place.
-use Rattle.std.proofs.Common.{◌≡◌, ◌∙◌, sym, ap, refl, subst, ℕ, ◌+◌, ◌-◌, ◌≤◌, ℤ, pos, neg_ℤ, ◌+ℤ◌, ◌-ℤ◌, ◌≤ℤ◌, Bool, true, false, cond, List, [], ◌∷◌, ◌++◌, map, Option, Some, None, nat_le, if◌then◌else◌, inl, inr, arith}
+use Rattle.std.proofs.Common.{◌≡◌, ap, refl, ℕ, ◌-◌, ◌≤◌, ℤ, pos, ◌+ℤ◌, ◌≤ℤ◌, Bool, true, false, List, [], ◌∷◌, map, Some, None, nat_le, if◌then◌else◌, arith}
 use Rattle.std.proofs.lemmas.Int.{ints}
-use Rattle.std.proofs.lemmas.Bool.Decides.{leb_tells}
-use Rattle.std.proofs.lemmas.List.{map-append}
-use Rattle.rail_types.specs.declared.tracks.Block.{Block}
 use Rattle.rail_types.specs.declared.tracks.Network.{Network}
 use Rattle.rail_types.specs.declared.trains.Train.{Train}
 use Rattle.rail_types.specs.declared.entries.Settings.{Settings}
-use Rattle.rail_types.specs.declared.paths.Claim.{Claim}
 use Rattle.rail_types.specs.declared.paths.Run.{Run}
 use Rattle.running_time.specs.declared.edges.Enter.{Enter}
 use Rattle.running_time.specs.declared.edges.Enter.TheVariants.{Still, From}
-use Rattle.running_time.specs.declared.edges.Edge.{Edge}
-use Rattle.running_time.specs.declared.edges.Edge.TheVariants.{Rolling}
-use Rattle.running_time.specs.Times.{part_ticks, run_ticks, sight_ticks}
+use Rattle.running_time.specs.Times.{part_ticks}
 use Rattle.blocking_time.specs.Runs.{block_at, exit_of, entry_behind}
-use Rattle.blocking_time.specs.Passages.{passages_of}
-use Rattle.blocking_time.specs.Legs.{Leg, legs_from, reached, EntersFrom, Enters, KeepsRules, KeepAll, gone, begin_of, approach, claim_until}
+use Rattle.blocking_time.specs.Legs.{Leg, reached, EntersFrom, KeepAll, gone, begin_of, approach}
 use Rattle.blocking_time.specs.declared.passages.Passage.{Passage}
 use Rattle.stair_pieces.specs.declared.places.Place.{Place}
-use Rattle.stair_pieces.specs.declared.places.Step.{Step}
-use Rattle.stair_pieces.specs.Places.{start_place, step_of, head_block, entry_of, stands_after, place_after, uncleared, left_after}
-use Rattle.stair_pieces.specs.Pieces.{step_end, step_approach, step_begin, piece, pieces_of, later_by}
-use Rattle.stair_pieces.proofs.Covering.{on, first}
+use Rattle.stair_pieces.specs.Places.{start_place, step_of, head_block, entry_of, stands_after, place_after}
+use Rattle.stair_pieces.specs.Pieces.{step_end, step_begin, piece, later_by}
+use Rattle.stair_pieces.proofs.Covering.{first}
 use Rattle.stair_pieces.proofs.Tails.{head_is}
 
 pub enters_late : (left enter : ℤ) (stops : Bool) → EntersFrom left enter stops → left ≤ℤ enter

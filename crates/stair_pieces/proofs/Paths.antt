@@ -1,10 +1,5 @@
 -- Paths that keep a request, and paths made of its moves.
-use Rattle.std.proofs.Common.{◌≡◌, ◌↔◌, ◌≤◌, ◌<◌, length, All, None}
-use Rattle.rail_types.specs.declared.tracks.Network.{Network}
-use Rattle.rail_types.specs.declared.trains.Request.{Request}
-use Rattle.rail_types.specs.declared.entries.Settings.{Settings}
 use Rattle.rail_types.specs.declared.entries.Wanted.TheVariants.{Asked}
-use Rattle.rail_types.specs.declared.paths.Path.{Path}
 use Rattle.blocking_time.specs.Laws.{LegsAreTheRuns, TheFirstIsTold}
 use Rattle.stair_pieces.specs.Places.{start_place}
 use Rattle.stair_pieces.specs.Moves.{PathsAreMoves, MovesAreAPath}

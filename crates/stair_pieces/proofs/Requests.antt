@@ -1,5 +1,5 @@
 -- The rules of a request by the numbers of runs, and run by run.
-use Rattle.std.proofs.Common.{◌≡◌, ◌≢◌, ◌∙◌, ◌⊎◌, inl, inr, sym, ap, refl, subst, ℕ, zero, suc, ◌+◌, ◌<◌, ◌≤◌, ℤ, pos, ◌+ℤ◌, ◌≤ℤ◌, ◌<ℤ◌, Bool, true, false, cond, nat_eq, List, [], ◌∷◌, length, drop, take, get_or, All, Contains, Decides, arith, length-drop, add-one}
+use Rattle.std.proofs.Common.{◌≡◌, ◌⊎◌, inl, inr, sym, ap, refl, subst, ℕ, zero, suc, ◌+◌, ◌<◌, ◌≤◌, ℤ, pos, ◌+ℤ◌, ◌≤ℤ◌, ◌<ℤ◌, Bool, true, false, cond, nat_eq, List, [], ◌∷◌, length, drop, take, get_or, Contains, Decides, arith, length-drop, add-one}
 use Rattle.std.specs.List.{list_any}
 use Rattle.std.proofs.lemmas.Int.{ints, by_lt_z}
 use Rattle.std.proofs.lemmas.Bool.Decides.{leb_tells, Decides-and, Decides-or, Decides-eqb, Decides-like}
@@ -14,7 +14,7 @@ use Rattle.rail_types.specs.declared.paths.Path.{Path}
 use Rattle.rail_types.specs.declared.paths.Window.{Window}
 use Rattle.blocking_time.specs.Broken.{is_same_train}
 use Rattle.blocking_time.specs.Runs.{block_at, run_at}
-use Rattle.blocking_time.specs.Rules.{AskedRule, BreaksRequest, IsOutside, KeepsRequestRules, Serves, StopsWrongly, named_stop, stops_before, rule_7, rule_8, rule_9, rule_10, rule_11, rule_12}
+use Rattle.blocking_time.specs.Rules.{IsOutside, KeepsRequestRules, StopsWrongly, named_stop, stops_before, rule_7, rule_8, rule_9, rule_10, rule_11, rule_12}
 use Rattle.stair_pieces.specs.Moves.{IsInside, OfFirst, OfLast}
 use Rattle.stair_pieces.proofs.Keeping.{KeepsRequest, StopsAsNamed, StopsOn}
 

@@ -1,5 +1,5 @@
 -- A path fits run by run.
-use Rattle.std.proofs.Common.{◌≡◌, ◌↔◌, ℕ, ◌≤◌, List, [], ◌∷◌, ◌++◌, All}
+use Rattle.std.proofs.Common.{◌↔◌, List, [], ◌∷◌, ◌++◌, All}
 use Rattle.std.proofs.lemmas.List.Elements.{All-nil, All-cons, All-head, All-tail, All-append}
 use Rattle.rail_types.specs.declared.tracks.Network.{Network}
 use Rattle.rail_types.specs.declared.trains.Train.{Train}
@@ -8,9 +8,9 @@ use Rattle.rail_types.specs.declared.paths.Claim.{Claim}
 use Rattle.rail_types.specs.declared.paths.Run.{Run}
 use Rattle.rail_types.specs.Occupation.{Clash, Fits}
 use Rattle.stair_pieces.specs.declared.places.Place.{Place}
-use Rattle.stair_pieces.specs.Places.{start_place, step_of, place_after, standing_zones}
+use Rattle.stair_pieces.specs.Places.{step_of, place_after, standing_zones}
 use Rattle.stair_pieces.specs.Pieces.{pieces_of, later_by, kept, wait_end, steps_from}
-use Rattle.stair_pieces.specs.Fitting.{IsFree, AreFree}
+use Rattle.stair_pieces.specs.Fitting.{AreFree}
 
 all_left : {X : Type 0} (P : X → Type 0) (xs ys : List X) → All P (xs ++ ys) → All P xs
 all_left P [] ys all = All-nil P

@@ -1,5 +1,5 @@
 -- Blocks release within them.
-use Rattle.std.proofs.Common.{◌≡◌, inl, inr, sym, subst, ℕ, ◌≤◌, List, [], length, All}
+use Rattle.std.proofs.Common.{inl, inr, sym, subst, ℕ, ◌≤◌, [], length, All}
 use Rattle.std.proofs.lemmas.Bool.Decides.{leb_tells}
 use Rattle.std.proofs.lemmas.List.Elements.{All-nil}
 use Rattle.std.proofs.lemmas.List.{get_or_past}

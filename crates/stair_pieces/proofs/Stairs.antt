@@ -1,25 +1,22 @@
 -- The laws of stairways, by the laws of the rules and claims below.
-use Rattle.std.proofs.Common.{◌≡◌, ◌↔◌, ◌≤◌, List, All, None, sym, subst}
+use Rattle.std.proofs.Common.{◌≡◌, ◌≤◌, All, None, sym, subst}
 use Rattle.rail_types.specs.declared.tracks.Network.{Network}
-use Rattle.rail_types.specs.declared.trains.Request.{Request}
 use Rattle.rail_types.specs.declared.entries.Settings.{Settings}
 use Rattle.rail_types.specs.declared.entries.Wanted.{Wanted}
 use Rattle.rail_types.specs.declared.entries.Wanted.TheVariants.{Asked, Pinned}
-use Rattle.rail_types.specs.declared.paths.Claim.{Claim}
 use Rattle.rail_types.specs.declared.paths.Path.{Path}
 use Rattle.rail_types.specs.Flaws.{first_flaw}
 use Rattle.rail_types.specs.Limits.{IsBlockWithinLimits}
-use Rattle.rail_types.specs.Occupation.{Fits, HasTicks}
 use Rattle.blocking_time.specs.Broken.{broken}
 use Rattle.blocking_time.specs.Firsts.{Keeps}
-use Rattle.blocking_time.specs.Joined.{CoverTheSame, blocked}
+use Rattle.blocking_time.specs.Joined.{CoverTheSame}
 use Rattle.blocking_time.specs.Laws.{JoinedClaimsAreOne, JoinedFitAlike, LegsAreTheRuns, StairwaysHaveTicks, TheFirstIsTold}
 use Rattle.blocking_time.specs.Rules.{KeepsRunRules}
 use Rattle.blocking_time.specs.Stairway.{claims_of_path}
 use Rattle.stair_pieces.specs.Places.{start_place}
 use Rattle.stair_pieces.specs.Pieces.{steps_of_path}
-use Rattle.stair_pieces.specs.Joining.{StepsCoverTheStairway, StepsAreTheStairway}
-use Rattle.stair_pieces.specs.Fitting.{FitsByRuns, FitsRunByRun}
+use Rattle.stair_pieces.specs.Joining.{StepsAreTheStairway}
+use Rattle.stair_pieces.specs.Fitting.{FitsRunByRun}
 use Rattle.stair_pieces.proofs.Sound.{releases_within}
 use Rattle.stair_pieces.proofs.Joining.{steps_cover_legs}
 use Rattle.stair_pieces.proofs.Fitting.{fits_by_its_steps}

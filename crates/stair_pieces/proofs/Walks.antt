@@ -1,8 +1,7 @@
 -- The steps of the loops over cells and over the blocks under a train.
-use Rattle.std.proofs.Common.{◌≡◌, ◌∙◌, ◌⊎◌, inl, inr, suc, sym, ap, refl, subst, ℕ, ◌+◌, ◌-◌, ◌<◌, ◌≤◌, List, [], ◌∷◌, ◌++◌, map, length, get_or, take, drop, All, arith, append_assoc, append-nil}
-use Rattle.std.proofs.lemmas.Grind.{common_steps}
+use Rattle.std.proofs.Common.{◌≡◌, ◌∙◌, ◌⊎◌, inl, inr, suc, sym, ap, refl, ℕ, ◌+◌, ◌-◌, ◌<◌, ◌≤◌, List, [], ◌∷◌, ◌++◌, map, length, get_or, take, drop, All, arith, append_assoc, append-nil}
 use Rattle.std.proofs.lemmas.Bool.Decides.{leb_tells}
-use Rattle.std.proofs.lemmas.List.{map_more, map-append, get_or_past, take-append-drop}
+use Rattle.std.proofs.lemmas.List.{map_more, take-append-drop}
 use Rattle.std.proofs.lemmas.List.Elements.{All-nil, All-cons, All-tail, All-append}
 use Rattle.rail_types.specs.declared.tracks.Cell.{Cell}
 use Rattle.rail_types.specs.declared.tracks.Network.{Network}
@@ -14,7 +13,6 @@ use Rattle.blocking_time.specs.declared.passages.Passage.{Passage}
 use Rattle.std.proofs.lemmas.List.Sums.{sum_by-append}
 use Rattle.stair_pieces.specs.Places.{metres_of, under_train, left_after, uncleared}
 use Rattle.stair_pieces.specs.Steps.{IsTailIn}
-use Rattle.stair_pieces.proofs.Sound.{ReleaseWithin}
 use Rattle.stair_pieces.proofs.Sound.{releases_within}
 use Rattle.stair_pieces.proofs.Tails.{is_cleared, is_left, left_after-append, uncleared_behind}
 

@@ -1,6 +1,6 @@
 -- When two places are the same, as a table of places asks.
 use mathlib.Core.Bool.{beq}
-use Rattle.std.proofs.Common.{◌≡◌, sym, ap, refl, arith, ℕ, ◌+◌, ◌++◌, Bool, List, nat_eq}
+use Rattle.std.proofs.Common.{◌≡◌, ap, refl, arith, ℕ, ◌+◌, ◌++◌, Bool, nat_eq}
 use Rattle.std.specs.Bool.{Decides}
 use Rattle.std.specs.Cmp.{IsEquivalence, bool_eq_equiv, booleans_Decides}
 use Rattle.std.specs.Cmp.Lexicographic.{pointwise, bytes_decides}

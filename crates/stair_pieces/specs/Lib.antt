@@ -4,4 +4,5 @@ pub mod Joining
 pub mod Fitting
 pub mod Moves
 pub mod Steps
+pub mod Claiming
 pub mod Alike

@@ -1,6 +1,5 @@
 -- The place of a train at the end of a run, and the place after one more step.
 use Rattle.std.specs.Prelude.{◌≡◌, ℕ, ◌+◌, ◌-◌, Bool, true, false, List, [], ◌∷◌, ◌++◌, map, length, sum_by, nat_le, nat_lt, if◌then◌else◌, slice_index}
-use Rattle.rail_types.specs.declared.tracks.Block.{Block}
 use Rattle.rail_types.specs.declared.tracks.Network.{Network}
 use Rattle.rail_types.specs.declared.trains.Train.{Train}
 use Rattle.rail_types.specs.declared.paths.Run.{Run}

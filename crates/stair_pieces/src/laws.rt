@@ -1,5 +1,6 @@
 //! The laws that join a path's steps and moves to its stairway and rules, each on a function that calls others alone.
 
+ghost use Rattle.stair_pieces.specs.Claiming.{PiecesAreClaims, StandingZonesAreOfTheNetwork};
 ghost use Rattle.stair_pieces.specs.Places.{TailsAreLongest};
 ghost use Rattle.stair_pieces.specs.Joining.{StepsAreTheStairway};
 ghost use Rattle.stair_pieces.specs.Moves.{MovesAreAPath, PathsAreMoves};
@@ -59,3 +60,12 @@ pub fn moves_make_a_path()
 pub fn tails_are_longest()
     ensures { TailsAreLongest }
 {}
+
+/// The pieces of a step from a place have ticks, which are near, on zones of a network without a flaw; and so are the
+/// zones that a train keeps while it waits there.
+pub fn pieces_are_claims()
+    ensures pieces { PiecesAreClaims }
+    ensures standing { StandingZonesAreOfTheNetwork }
+{
+    networks_without_flaws();
+}

@@ -1,5 +1,4 @@
 use Rattle.std.proofs.Common.{◌≡◌, ◌++◌, map, take}
-use Rattle.blocking_time.specs.Runs.{block_at}
 use Rattle.blocking_time.specs.Passages.{passages_of}
 use Rattle.stair_pieces.specs.Pieces.{piece}
 use Rattle.stair_pieces.proofs.claims.pieces.Given as goal

@@ -1,4 +1,4 @@
-use Rattle.std.proofs.Common.{rules, refl, ◌≡◌, ◌∙◌, ap, arith, get_or}
+use Rattle.std.proofs.Common.{◌∙◌, ap}
 use Rattle.stair_pieces.proofs.Walks.{left_kept, left_out}
 use Rattle.stair_pieces.proofs.claims.push_left.Goals as goal
 use Rattle.stair_pieces.proofs.claims.push_left.Goals.{then-gone-passage+in_ok-push, else-gone-passage}

@@ -1,4 +1,4 @@
-use Rattle.std.proofs.Common.{rules, refl, inl, inr}
+use Rattle.std.proofs.Common.{inl, inr}
 use Rattle.stair_pieces.proofs.Walks.{walk_ends}
 use Rattle.stair_pieces.proofs.claims.uncleared.Goals as goal
 use Rattle.stair_pieces.proofs.claims.uncleared.Goals.{then-loop-at-test+else-gone-train, else-loop-at-test}
