@@ -1,6 +1,5 @@
 -- A train enters the block behind each place of a request at a speed that it may have.
-use Rattle.std.proofs.Common.{◌≡◌, sym, refl, subst, ℕ, ◌<◌, ◌≤◌, Bool, true, false, List, [], ◌∷◌, length, arith}
-use Rattle.std.specs.Prelude.{min}
+use Rattle.std.proofs.Common.{refl, Bool, true, false, length, arith}
 use Rattle.rail_types.specs.declared.tracks.Block.{Block}
 use Rattle.rail_types.specs.declared.tracks.Network.{Network}
 use Rattle.rail_types.specs.declared.trains.Train.{Train}
@@ -8,12 +7,9 @@ use Rattle.rail_types.specs.declared.trains.Request.{Request}
 use Rattle.rail_types.specs.declared.entries.Settings.{Settings}
 use Rattle.rail_types.specs.Limits.{IsBlockWithinLimits, IsTrainWithinLimits, IsSettingsWithinLimits}
 use Rattle.running_time.specs.Limits.{IsEnterWithinLimits}
-use Rattle.running_time.specs.Times.{lesser_speed}
 use Rattle.blocking_time.specs.Runs.{block_at, entry_behind}
 use Rattle.stair_pieces.specs.declared.places.Place.{Place}
-use Rattle.stair_pieces.specs.declared.places.Step.{Step}
-use Rattle.stair_pieces.specs.Places.{start_place, head_block, entry_of}
-use Rattle.stair_pieces.specs.Steps.{IsPlaceIn}
+use Rattle.stair_pieces.specs.Places.{head_block, entry_of}
 use Rattle.stair_pieces.specs.Moves.{IsPlace, begun, gone_on}
 use Rattle.tail_states.specs.Asked.{IsAsked, MayBeCut, PlacesMayBeCut}
 use Rattle.tail_states.proofs.Firsts.{head_within}

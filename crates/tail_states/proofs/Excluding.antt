@@ -1,28 +1,23 @@
 -- Closed members exclude paths.
-use Rattle.std.proofs.Common.{◌≡◌, ◌⊎◌, inl, inr, sym, ap, refl, subst, ℕ, ◌+◌, ◌-◌, ◌≤◌, ℤ, pos, ◌+ℤ◌, ◌<ℤ◌, ◌≤ℤ◌, Bool, true, false, List, [], ◌∷◌, length, All, Some, None, arith}
+use Rattle.std.proofs.Common.{◌≡◌, inl, inr, sym, ap, refl, subst, ℕ, ◌-◌, ◌≤◌, ℤ, pos, ◌+ℤ◌, ◌<ℤ◌, ◌≤ℤ◌, Bool, true, false, List, [], ◌∷◌, length, Some, arith}
 use Rattle.std.specs.Prelude.{slice_get}
 use Rattle.std.proofs.lemmas.Int.{ints, by_lt_z}
 use Rattle.rail_types.specs.declared.tracks.Network.{Network}
 use Rattle.rail_types.specs.declared.trains.Train.{Train}
 use Rattle.rail_types.specs.declared.trains.Request.{Request}
-use Rattle.rail_types.specs.declared.trains.Stop.{Stop}
 use Rattle.rail_types.specs.declared.entries.Settings.{Settings}
 use Rattle.rail_types.specs.declared.entries.Wanted.TheVariants.{Asked}
 use Rattle.rail_types.specs.declared.paths.Claim.{Claim}
-use Rattle.rail_types.specs.declared.paths.Path.{Path}
 use Rattle.rail_types.specs.declared.paths.Run.{Run}
 use Rattle.rail_types.specs.Occupation.{Fits}
-use Rattle.running_time.specs.declared.edges.Edge.TheVariants.{Still as Halted}
 use Rattle.blocking_time.specs.Runs.{block_at, exit_of}
-use Rattle.blocking_time.specs.Possible.{CanBeGranted, IsPossible}
 use Rattle.stair_pieces.specs.declared.places.Place.{Place}
-use Rattle.stair_pieces.specs.declared.places.Step.{Step}
-use Rattle.stair_pieces.specs.Places.{start_place, step_of, place_after, made_after, stands_after, standing_zones}
+use Rattle.stair_pieces.specs.Places.{start_place, step_of, place_after, made_after, standing_zones}
 use Rattle.stair_pieces.specs.Pieces.{kept, wait_end}
 use Rattle.stair_pieces.specs.Fitting.{AreFree, IsFree, FitsRunByRun}
-use Rattle.stair_pieces.specs.Moves.{AreMoves, GoesOnAfter, IsEnd, IsInside, IsMadeOfMoves, IsMove, MakesStop, MayLeave, OfFirst, OfLast, PathsAreMoves, TakesItsTime, TakeTheirTime}
+use Rattle.stair_pieces.specs.Moves.{AreMoves, GoesOnAfter, IsEnd, IsInside, IsMove, MakesStop, MayLeave, OfFirst, OfLast, PathsAreMoves, TakesItsTime, TakeTheirTime}
 use Rattle.tail_states.specs.declared.certificates.Member.{Member}
-use Rattle.tail_states.specs.Closing.{ExcludesAllPaths, ExcludesEarlierPaths, GoesOn, IsAdmitted, IsClosedBelow, IsFreeMove, IsHeld, leaves_at}
+use Rattle.tail_states.specs.Closing.{ExcludesAllPaths, ExcludesEarlierPaths, GoesOn, IsAdmitted, IsClosedBelow, IsFreeMove, leaves_at}
 
 module _ (net : Network) (settings : Settings) (request : Request) (live : List Claim) (below : ℤ) (members : List Member) (closed : IsClosedBelow net settings request live below members) where
   abbrev after : Place → Run → Place

@@ -2,15 +2,17 @@
 use Rattle.std.proofs.Common.{◌≡◌, ◌⊎◌, inl, inr, ◌∙◌, sym, ap, refl, subst, arith, ℕ, zero, suc, ◌+◌, ◌-◌, ◌<◌, List, [], ◌∷◌, ◌++◌, length, get_or, Some, All, Contains}
 use Rattle.std.specs.Prelude.{slice_get, slice_set}
 use Rattle.std.proofs.lemmas.Option.{slice_get_within, slice_get-get_or, get_or_from_slice_get}
-use Rattle.std.proofs.lemmas.List.{length-set}
-use Rattle.std.proofs.lemmas.List.Elements.{All-get_or, Contains-append_left, Contains-append_cases, Contains-push}
+use Rattle.std.proofs.lemmas.List.{length-set, get_or-set_other, get_or_past}
+use Rattle.std.proofs.lemmas.Grind.{get_or-set_at}
+use Rattle.std.proofs.lemmas.Bool.{cases_lt, cases_order}
+use Rattle.std.proofs.lemmas.List.Elements.{All-get_or, Contains-append_left, Contains-append_cases, Contains-push, Contains-push_cases}
 use Rattle.rail_types.specs.declared.tracks.Network.{Network}
 use Rattle.rail_types.specs.declared.trains.Request.{Request}
 use Rattle.blocking_time.specs.Runs.{block_at}
 use Rattle.stair_pieces.specs.Places.{head_block}
 use Rattle.tail_states.specs.Asked.{HasPoints}
-use Rattle.tail_states.specs.Following.{AreByPoint, AreFollowers}
-use Rattle.tail_states.specs.Inside.{AreNextBlocks, AreFirstBlocks}
+use Rattle.tail_states.specs.Following.{AreByPoint, AreServing, AreServedBy}
+use Rattle.tail_states.specs.Inside.{AreNextBlocks}
 
 pub only_one : (a b : ℕ) → Contains (a ∷ []) b → b ≡ a
 only_one a b (zero, within, is) = sym is
@@ -22,37 +24,13 @@ below zero (suc n) less = inl (omega arith)
 below (suc a) (suc n) less = elim (below a n (omega arith)) [ inl early ↦ inl (omega arith) | inr last ↦ inr (ap suc last) ]
 
 module _ (net : Network) (request : Request) where
-  pub first_none : AreFirstBlocks net request 0 []
-  first_none = record { sound = λ block has. absurd (omega (arith, has.1)); whole = λ block less serves. absurd (omega (arith, less)) }
-
-  pub first_takes : (n : ℕ) (blocks : List ℕ) → AreFirstBlocks net request n blocks → Contains (block_at net n).serves request.origin → AreFirstBlocks net request (n + 1) (blocks ++ n ∷ [])
-  first_takes n blocks first serves = record {
-    sound = λ block has. elim (Contains-append_cases blocks (n ∷ []) block has) [
-      | inl before ↦ let is = first.sound block before in (omega (arith, is.0), is.1)
-      | inr last ↦ let same = only_one n block last in (omega (arith, same), subst (λ b. Contains (block_at net b).serves request.origin) (sym same) serves)
-    ];
-    whole = λ block less on. elim (below block n less) [
-      | inl early ↦ Contains-append_left blocks (n ∷ []) block (first.whole block early on)
-      | inr last ↦ subst (Contains (blocks ++ n ∷ [])) (sym last) (Contains-push blocks n)
-    ];
+  pub first_serving : (lists : List (List ℕ)) (blocks : List ℕ) → AreServing net (length net.blocks) lists → get_or lists request.origin [] ≡ blocks → AreNextBlocks net request [] blocks
+  first_serving lists blocks are is = record {
+    sound = λ block has. are.sound request.origin block (subst (λ l. Contains l block) (sym is) has);
+    whole = λ block within on. subst (λ l. Contains l block) is (are.whole request.origin block within on);
   }
 
-  pub first_skips : (n : ℕ) (blocks : List ℕ) → AreFirstBlocks net request n blocks → ¬ Contains (block_at net n).serves request.origin → AreFirstBlocks net request (n + 1) blocks
-  first_skips n blocks first never = record {
-    sound = λ block has. let is = first.sound block has in (omega (arith, is.0), is.1);
-    whole = λ block less on. elim (below block n less) [
-      | inl early ↦ first.whole block early on
-      | inr last ↦ absurd (never (subst (λ b. Contains (block_at net b).serves request.origin) last on))
-    ];
-  }
-
-  pub first_all : (n : ℕ) (blocks : List ℕ) → n ≡ length net.blocks → AreFirstBlocks net request n blocks → AreNextBlocks net request [] blocks
-  first_all n blocks all first = record {
-    sound = λ block has. let is = first.sound block has in (omega (arith, is.0, all), is.1);
-    whole = λ block within on. first.whole block (omega (arith, within, all)) on;
-  }
-
-  pub following : (lists : List (List ℕ)) (tail blocks : List ℕ) → AreFollowers net lists → (tail ≡ [] → ⊥) → slice_get lists (block_at net (head_block tail)).to_point ≡ Some blocks → AreNextBlocks net request tail blocks
+  pub following : (lists : List (List ℕ)) (tail blocks : List ℕ) → AreByPoint net (length net.blocks) lists → (tail ≡ [] → ⊥) → slice_get lists (block_at net (head_block tail)).to_point ≡ Some blocks → AreNextBlocks net request tail blocks
   following lists [] blocks are gone got = absurd (gone refl)
   following lists (first ∷ tail) blocks are gone got = record {
     sound = λ block has. are.sound (block_at net (head_block (first ∷ tail))).to_point block blocks got has;
@@ -116,3 +94,80 @@ module _ (net : Network) where
           ]
         ];
       }
+
+-- one operational point more at whose number a block stands
+module _ (block : ℕ) (old mid : List (List ℕ)) (done : List ℕ) (stop : ℕ) (within : stop < length mid) (before : AreServedBy done block old mid) where
+  abbrev Changed : List (List ℕ)
+  Changed = slice_set mid stop (get_or mid stop [] ++ block ∷ [])
+
+  -- what stands at a number afterwards
+  at_number : (at : ℕ) → ((at ≡ stop) × (get_or Changed at [] ≡ get_or mid stop [] ++ block ∷ [])) ⊎ (get_or Changed at [] ≡ get_or mid at [])
+  at_number at = elim (cases_order at stop) [
+    | inl same ↦ inl (same, get_or-set_at mid stop at (get_or mid stop [] ++ block ∷ []) [] same within)
+    | inr apart ↦ inr (get_or-set_other mid stop at (get_or mid stop [] ++ block ∷ []) [] (λ same. elim apart [ inl less ↦ omega (arith, less, same) | inr more ↦ omega (arith, more, same) ]))
+  ]
+
+  kept_in : (at other : ℕ) → Contains (get_or mid at []) other → Contains (get_or Changed at []) other
+  kept_in at other has = elim (at_number at) [
+    | inl here ↦ subst (λ l. Contains l other) (sym here.1) (Contains-append_left (get_or mid stop []) (block ∷ []) other (subst (λ q. Contains (get_or mid q []) other) here.0 has))
+    | inr there ↦ subst (λ l. Contains l other) (sym there) has
+  ]
+
+  now_in : (at : ℕ) → at ≡ stop → Contains (get_or Changed at []) block
+  now_in at same = subst (λ l. Contains l block) (sym (get_or-set_at mid stop at (get_or mid stop [] ++ block ∷ []) [] same within)) (Contains-push (get_or mid stop []) block)
+
+  from_before : (at other : ℕ) → (Contains (get_or old at []) other ⊎ ((other ≡ block) × Contains done at)) → Contains (get_or old at []) other ⊎ ((other ≡ block) × Contains (done ++ stop ∷ []) at)
+  from_before at other (inl was) = inl was
+  from_before at other (inr new) = inr (new.0, Contains-append_left done (stop ∷ []) at new.1)
+
+  pub served_more : AreServedBy (done ++ stop ∷ []) block old (slice_set mid stop (get_or mid stop [] ++ block ∷ []))
+  served_more = record {
+    count = length-set mid stop (get_or mid stop [] ++ block ∷ []) ∙ before.count;
+    sound = λ at other has. elim (at_number at) [
+      | inl here ↦ elim (Contains-push_cases (get_or mid stop []) block other (subst (λ l. Contains l other) here.1 has)) [
+        | inl was ↦ from_before at other (before.sound at other (subst (λ q. Contains (get_or mid q []) other) (sym here.0) was))
+        | inr new ↦ inr (sym new, subst (Contains (done ++ stop ∷ [])) (sym here.0) (Contains-push done stop))
+      ]
+      | inr there ↦ from_before at other (before.sound at other (subst (λ l. Contains l other) there has))
+    ];
+    kept = λ at other has. kept_in at other (before.kept at other has);
+    whole = λ at has. elim (Contains-push_cases done stop at has) [
+      | inl was ↦ kept_in at block (before.whole at was)
+      | inr new ↦ now_in at (sym new)
+    ];
+  }
+
+pub served_none : (block : ℕ) (lists : List (List ℕ)) → AreServedBy [] block lists lists
+served_none block lists = record {
+  count = refl;
+  sound = λ at other has. inl has;
+  kept = λ at other has. has;
+  whole = λ at has. absurd (omega (arith, has.1));
+}
+
+module _ (net : Network) where
+  pub none_served : (lists : List (List ℕ)) → length lists ≡ net.stops → All (λ blocks. blocks ≡ []) lists → AreServing net 0 lists
+  none_served lists stops none = record {
+    stops = stops;
+    sound = λ at block has. absurd (nothing at block has);
+    whole = λ at block less on. absurd (omega (arith, less));
+  }
+    where
+      nothing : (at block : ℕ) → Contains (get_or lists at []) block → ⊥
+      nothing at block has = elim (cases_lt at (length lists)) [
+        | inl inside ↦ let wrong = subst (λ l. Contains l block) (All-get_or (λ blocks. blocks ≡ []) lists at [] inside none) has in omega (arith, wrong.1)
+        | inr past ↦ let wrong = subst (λ l. Contains l block) (get_or_past lists at [] past) has in omega (arith, wrong.1)
+      ]
+
+  pub one_served_more : (n : ℕ) (old new : List (List ℕ)) → AreServing net n old → AreServedBy (block_at net n).serves n old new → AreServing net (n + 1) new
+  one_served_more n old new are served = record {
+    stops = served.count ∙ are.stops;
+    sound = λ at block has. elim (served.sound at block has) [
+      | inl was ↦ let is = are.sound at block was in (omega (arith, is.0), is.1)
+      | inr here ↦ (omega (arith, here.0), subst (λ b. Contains (block_at net b).serves at) (sym here.0) here.1)
+    ];
+    whole = λ at block less on. elim (below block n less) [
+      | inl early ↦ served.kept at block (are.whole at block early on)
+      | inr last ↦ subst (Contains (get_or new at [])) (sym last) (served.whole at (subst (λ b. Contains (block_at net b).serves at) last on))
+    ];
+  }

@@ -1,7 +1,6 @@
 -- What is asked of a network without a flaw.
-use Rattle.std.proofs.Common.{◌≡◌, ◌<◌, ◌≤◌, List, length, All, None}
+use Rattle.std.proofs.Common.{◌≡◌, All, None}
 use Rattle.rail_types.specs.declared.tracks.Network.{Network}
-use Rattle.rail_types.specs.declared.trains.Request.{Request}
 use Rattle.rail_types.specs.Flaws.{first_flaw}
 use Rattle.rail_types.specs.Limits.{IsBlockWithinLimits}
 use Rattle.rail_types.specs.Networks.{HasCountsWithinLimits, IsBlockOf}
@@ -15,6 +14,7 @@ module _ (limits : (net : Network) → first_flaw net ≡ None → All IsBlockWi
     points = record {
       begins = λ k block within. (blocks net none k block within).begins;
       ends = λ k block within. (blocks net none k block within).ends;
+      served = λ k block within. (blocks net none k block within).served;
       count = (counts net none).blocks;
     };
     blocks = limits net none;

@@ -1,5 +1,5 @@
 -- Places and moves do not look at the windows of a request.
-use Rattle.std.proofs.Common.{◌≡◌, inl, inr, sym, subst, ℕ, List, [], ◌∷◌, All, Contains}
+use Rattle.std.proofs.Common.{◌≡◌, subst, ℕ, List, [], ◌∷◌}
 use Rattle.rail_types.specs.declared.tracks.Block.{Block}
 use Rattle.rail_types.specs.declared.tracks.Network.{Network}
 use Rattle.rail_types.specs.declared.trains.Request.{Request}
@@ -14,7 +14,7 @@ use Rattle.stair_pieces.specs.Moves.{Reaches, MayLeave, IsMove, IsPlace, begun, 
 use Rattle.tail_states.specs.declared.moves.Move.{Move}
 use Rattle.tail_states.specs.declared.moves.Next.{Next}
 use Rattle.tail_states.specs.declared.moves.Next.TheVariants.{End, At}
-use Rattle.tail_states.specs.Listed.{Listed, LeadsTo, IsListedMove, AreMovesFrom, AreThePlaces, AreTheMoves}
+use Rattle.tail_states.specs.Listed.{LeadsTo, IsListedMove, AreMovesFrom}
 use Rattle.tail_states.specs.Alike.{AreAlike, AreListedAlike, WindowsChangeNoPlaces}
 
 -- the request with other windows

@@ -11,10 +11,11 @@ use Rattle.stair_pieces.specs.Places.{start_place}
 use Rattle.stair_pieces.specs.Steps.{IsPlaceIn}
 use Rattle.stair_pieces.specs.Moves.{IsPlace}
 
--- the blocks begin and end at points of the network
+-- the blocks begin and end at points of the network, and serve its operational points
 pub record HasPoints (net : Network) : Type 0 where
   pub begins : All (λ block. block.from_point < net.points) net.blocks
   pub ends : All (λ block. block.to_point < net.points) net.blocks
+  pub served : All (λ block. All (λ stop. stop < net.stops) block.serves) net.blocks
   pub count : length net.blocks ≤ MAX_OBJECTS
 
 -- a request within its limits on a network within its own

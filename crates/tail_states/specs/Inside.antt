@@ -63,11 +63,6 @@ pub record AreMovesOver (net : Network) (request : Request) (members : List Plac
   pub sound : All (IsListedMove net request members place) moves
   pub whole : (step : Step) → IsMove net request place step → Contains blocks step.block → HasStep moves step
 
--- of the first blocks, so many, those that serve the origin
-pub record AreFirstBlocks (net : Network) (request : Request) (count : ℕ) (blocks : List ℕ) : Type 0 where
-  pub sound : (block : ℕ) → Contains blocks block → (block < count) × Contains (block_at net block).serves request.origin
-  pub whole : (block : ℕ) → block < count → Contains (block_at net block).serves request.origin → Contains blocks block
-
 -- the moves from the first places, so many
 pub record AreFirstMoves (net : Network) (request : Request) (members : List Place) (moves : List (List Move)) : Type 0 where
   pub count : length moves ≤ length members

@@ -227,18 +227,12 @@ fn moves_onto(
 }
 
 // The blocks that serve the origin.
-fn first_blocks(alloc: Global, net: &Network, request: &Request) -> Result<Vec<u32>, NoMemory>
-    requires { IsAsked net.now request.now }
-    ensures { IfOk result (λ blocks. AreNextBlocks net.now request.now [] blocks.items) }
+fn first_blocks<'a>(net: &Network, request: &Request, followers: &'a Followers) -> &'a [u32]
+    requires asked { IsAsked net.now request.now }
+    requires followers { AreFollowers net.now followers.now }
+    ensures { AreNextBlocks net.now request.now [] result.now }
 {
-    let mut first = Vec::new(alloc);
-    for at in 0..net.blocks.len() {
-        let number = at as u32;
-        if serves(block_of(net, number), request.origin) {
-            first.push(number)?;
-        }
-    }
-    Ok(first)
+    followers.serving(request.origin)
 }
 
 // The blocks that follow that of the train's head.
@@ -325,9 +319,9 @@ pub fn places(
     ensures wide { IfErr result (Refuses net.now request.now) }
 {
     let mut members = Members::new(alloc);
-    let first = first_blocks(alloc, net, request)?;
+    let first = first_blocks(net, request, followers);
     let start = Place::start(alloc);
-    let starts = moves_onto(alloc, net, request, &mut members, &start, first.as_slice())?;
+    let starts = moves_onto(alloc, net, request, &mut members, &start, first)?;
     let moves = moves_of_all(alloc, net, followers, request, &mut members)?;
     Ok(Places {
         members,

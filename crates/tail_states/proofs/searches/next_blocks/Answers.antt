@@ -10,13 +10,13 @@ beginning_at-requires c =
     let net = c.args.net.now in
     let tail = c.args.place.now.tail in
     let head : c.block_of-head.result.now ≡ block_at net (head_block tail) = c.block_of-head.ensures ∙ ap (λ tail. block_at net (head_block tail)) c.as_slice-tail.ensures in
-    subst (λ block. block.to_point < length c.args.followers.now) (sym head)
-    (ends_within net c.requires.asked.points c.args.followers.now c.requires.followers.points (head_block tail) (head_within (length net.blocks) tail c.requires.gone c.requires.place.tail.numbers))
+    subst (λ block. block.to_point < length c.args.followers.now.by_point) (sym head)
+    (ends_within net c.requires.asked.points c.args.followers.now.by_point c.requires.followers.by_point.points (head_block tail) (head_within (length net.blocks) tail c.requires.gone c.requires.place.tail.numbers))
 
 pub returns : goal.returns
 returns c =
     let net = c.args.net.now in
     let tail = c.args.place.now.tail in
     let head : c.block_of-head.result.now ≡ block_at net (head_block tail) = c.block_of-head.ensures ∙ ap (λ tail. block_at net (head_block tail)) c.as_slice-tail.ensures in
-    following net c.args.request.now c.args.followers.now tail c.beginning_at.result.now c.requires.followers c.requires.gone
-    (subst (λ block. slice_get c.args.followers.now block.to_point ≡ Some c.beginning_at.result.now) head c.beginning_at.ensures)
+    following net c.args.request.now c.args.followers.now.by_point tail c.beginning_at.result.now c.requires.followers.by_point c.requires.gone
+    (subst (λ block. slice_get c.args.followers.now.by_point block.to_point ≡ Some c.beginning_at.result.now) head c.beginning_at.ensures)
