@@ -15,28 +15,55 @@ use Rattle.infra_lists.specs.Signals.{signals_in}
 use Rattle.infra_routes.specs.Points.{points_in}
 use Rattle.infra_routes.specs.Routes.{routes_in}
 use Rattle.infra_routes.specs.Speeds.{speeds_in}
+use Rattle.railjson_read.specs.declared.wholes.Landmarks.{Landmarks}
+use Rattle.railjson_read.specs.declared.wholes.Others.{Others}
 
--- The lists of an object, in this order, each with the names of those before it.
-unfoldable pub lists_in : Data → Result Infra InfraFault
-lists_in d = do
+-- the lists whose objects others name
+unfoldable pub landmarks_in : Data → Result Landmarks InfraFault
+landmarks_in d = do
   tracks ← tracks_in d
   switches ← switches_in tracks d
   detectors ← all_placed_in (codes "detectors") tracks d
   buffer_stops ← all_placed_in (codes "buffer_stops") tracks d
-  signals ← signals_in tracks d
-  routes ← routes_in switches detectors buffer_stops d
-  points ← points_in tracks d
-  speeds ← speeds_in tracks d
   Ok (record {
     tracks = tracks;
     switches = switches;
     detectors = detectors;
     buffer_stops = buffer_stops;
+  })
+
+-- the lists behind those
+unfoldable pub others_in : Landmarks → Data → Result Others InfraFault
+others_in landmarks d = do
+  signals ← signals_in landmarks.tracks d
+  routes ← routes_in landmarks.switches landmarks.detectors landmarks.buffer_stops d
+  points ← points_in landmarks.tracks d
+  speeds ← speeds_in landmarks.tracks d
+  Ok (record {
     signals = signals;
     routes = routes;
     points = points;
     speeds = speeds;
   })
+
+abbrev pub joined : Landmarks → Others → Infra
+joined landmarks others = record {
+  tracks = landmarks.tracks;
+  switches = landmarks.switches;
+  detectors = landmarks.detectors;
+  buffer_stops = landmarks.buffer_stops;
+  signals = others.signals;
+  routes = others.routes;
+  points = others.points;
+  speeds = others.speeds;
+}
+
+-- The lists of an object, in this order, each with the names of those before it.
+abbrev pub lists_in : Data → Result Infra InfraFault
+lists_in d = do
+  landmarks ← landmarks_in d
+  others ← others_in landmarks d
+  Ok (joined landmarks others)
 
 abbrev pub object_of : Data → Result Infra InfraFault
 object_of d = if is_some (as_object d) then lists_in d else Err (Kind (spot_of whole_file (codes "file")))

@@ -4,77 +4,114 @@ ghost use Rattle.std.specs.Prelude.{◌≡◌, IfOk};
 ghost use Rattle.serde_json.specs.View.{view};
 ghost use Rattle.infra_fields.specs.Fields.{Gives};
 ghost use Rattle.infra_types.specs.Infras.{IsInfra};
-ghost use Rattle.railjson_read.specs.Files.{lists_in};
+ghost use Rattle.railjson_read.specs.Files.{lists_in, landmarks_in, others_in, joined};
+ghost use Rattle.railjson_read.specs.Landmarks.{AreLandmarks, AreOthers};
 
 use id_lists::{HasId, Listed};
 use infra_fields::InfraFault;
 use infra_lists::{placed_of, signals_of, switches_of, tracks_of};
 use infra_routes::{points_of, routes_of, speeds_of};
-use infra_types::{
-    Infra, OperationalPoint, Placed, Route, Signal, SpeedSection, Switch, Track,
-};
+use infra_types::{Infra, OperationalPoint, Placed, Route, Signal, SpeedSection, Switch, Track};
 use rail_types::List;
 use serde_json::Value;
 use std::alloc::Global;
 
+/// The lists whose objects other objects name.
+#[derive(Drop)]
+pub(crate) struct Landmarks<'a> {
+    pub tracks: Listed<'a, Track>,
+    pub switches: Listed<'a, Switch>,
+    pub detectors: Listed<'a, Placed>,
+    pub buffer_stops: Listed<'a, Placed>,
+}
+
+/// The lists behind those.
+#[derive(Drop)]
+pub(crate) struct Others {
+    pub signals: List<Signal>,
+    pub routes: List<Route>,
+    pub points: List<OperationalPoint>,
+    pub speeds: List<SpeedSection>,
+}
+
 /// The lists of an object.
-#[tactic(auto, unfolding(crate::specs::Files::lists_in))]
 pub(crate) fn read_lists(alloc: Global, file: &Value) -> Result<Infra, InfraFault>
     ensures read { Gives (λ infra. infra) result (lists_in (view file.now)) }
     ensures sound { IfOk result IsInfra }
+{
+    let landmarks = landmarks_of(alloc, file)?;
+    let others = others_of(alloc, file, &landmarks)?;
+    let infra = joined(landmarks, others);
+    Ok(infra)
+}
+
+/// The lists whose objects others name.
+#[tactic(auto, unfolding(crate::specs::Files::landmarks_in))]
+fn landmarks_of<'a>(alloc: Global, file: &'a Value) -> Result<Landmarks<'a>, InfraFault>
+    ensures read { Gives (λ landmarks. landmarks) result (landmarks_in (view file.now)) }
+    ensures sound { IfOk result AreLandmarks }
 {
     let tracks = tracks_of(alloc, file)?;
     let switches = switches_of(alloc, file, &tracks)?;
     let detectors = placed_of(alloc, file, "detectors", &tracks)?;
     let buffer_stops = placed_of(alloc, file, "buffer_stops", &tracks)?;
-    let signals = signals_of(alloc, file, &tracks)?;
-    let routes = routes_of(alloc, file, &switches, &detectors, &buffer_stops)?;
-    let points = points_of(alloc, file, &tracks)?;
-    let speeds = speeds_of(alloc, file, &tracks)?;
-    let infra = joined(
+    Ok(Landmarks {
         tracks,
         switches,
         detectors,
         buffer_stops,
+    })
+}
+
+/// The lists behind these. The index of their ids, which nobody needs, goes at once.
+#[tactic(auto, unfolding(crate::specs::Files::others_in))]
+fn others_of(alloc: Global, file: &Value, landmarks: &Landmarks) -> Result<Others, InfraFault>
+    ensures read { Gives (λ others. others) result (others_in landmarks.now (view file.now)) }
+    ensures sound { IfOk result (AreOthers landmarks.now) }
+{
+    let signals = alone(signals_of(alloc, file, &landmarks.tracks)?);
+    let routes = alone(routes_of(
+        alloc,
+        file,
+        &landmarks.switches,
+        &landmarks.detectors,
+        &landmarks.buffer_stops,
+    )?);
+    let points = alone(points_of(alloc, file, &landmarks.tracks)?);
+    let speeds = alone(speeds_of(alloc, file, &landmarks.tracks)?);
+    Ok(Others {
         signals,
         routes,
         points,
         speeds,
-    );
-    Ok(infra)
+    })
 }
 
-/// These lists as an infrastructure.
-fn joined(
-    tracks: Listed<Track>,
-    switches: Listed<Switch>,
-    detectors: Listed<Placed>,
-    buffer_stops: Listed<Placed>,
-    signals: Listed<Signal>,
-    routes: Listed<Route>,
-    points: Listed<OperationalPoint>,
-    speeds: Listed<SpeedSection>,
-) -> Infra
-    ensures { result ≡ record {
-        tracks = tracks.entry;
-        switches = switches.entry;
-        detectors = detectors.entry;
-        buffer_stops = buffer_stops.entry;
-        signals = signals.entry;
-        routes = routes.entry;
-        points = points.entry;
-        speeds = speeds.entry;
-    } }
+/// All lists as an infrastructure.
+fn joined(landmarks: Landmarks, others: Others) -> Infra
+    ensures { result ≡ joined landmarks.entry others }
 {
+    let Landmarks {
+        tracks,
+        switches,
+        detectors,
+        buffer_stops,
+    } = landmarks;
+    let Others {
+        signals,
+        routes,
+        points,
+        speeds,
+    } = others;
     Infra {
         tracks: alone(tracks),
         switches: alone(switches),
         detectors: alone(detectors),
         buffer_stops: alone(buffer_stops),
-        signals: alone(signals),
-        routes: alone(routes),
-        points: alone(points),
-        speeds: alone(speeds),
+        signals,
+        routes,
+        points,
+        speeds,
     }
 }
 
