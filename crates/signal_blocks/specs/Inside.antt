@@ -41,9 +41,13 @@ IsPost points post = (post.point < points) × (post.sight_m ≤ MAX_SIGHT_M)
 abbrev pub IsShort : Piece → Type 0
 IsShort piece = (piece.begin < 2 ^ 32) × (piece.end < 2 ^ 32)
 
--- short pieces, each of one of so many tracks, in one of so many zones
+-- a short piece of one of so many tracks
+abbrev pub IsOwn : ℕ → Piece → Type 0
+IsOwn tracks piece = IsShort piece × (piece.track < tracks)
+
+-- such a piece in one of so many zones
 abbrev pub IsZoned : ℕ → ℕ → ZonedPiece → Type 0
-IsZoned tracks zones one = IsShort one.piece × (one.piece.track < tracks) × (one.zone < zones)
+IsZoned tracks zones one = IsOwn tracks one.piece × (one.zone < zones)
 
 -- a walk's fault as it is told
 abbrev pub told_walk : Option RouteFault → NetFault

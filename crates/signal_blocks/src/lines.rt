@@ -33,7 +33,7 @@ fn add_limited(
     let Some(limit) = limit else {
         return Ok(());
     };
-    'ranges: for range in ranges {
+    'limits: for range in ranges {
         to.push(SpeedRange {
             range: *range,
             limit,

@@ -1,12 +1,13 @@
 //! The pieces of zones, and their names.
 
-ghost use Rattle.std.specs.Prelude.{◌≡◌, ◌++◌, ◌+◌, ◌<◌, ◌≤◌, ◌^◌, length, map, OnOk, IfOk};
-ghost use Rattle.std.specs.List.{All, sum_by};
+ghost use Rattle.std.specs.Prelude.{◌≡◌, ℕ, ◌++◌, ◌+◌, ◌<◌, ◌≤◌, ◌^◌, length, map, OnOk, IfOk};
+ghost use Rattle.std.specs.List.{All, range_with_len};
 ghost use Rattle.infra_types.specs.Infras.{IsInfra};
 ghost use Rattle.track_graph.specs.Layouts.{IsLayoutOf};
 ghost use Rattle.track_graph.specs.Pieces.{pieces_of};
-ghost use Rattle.signal_blocks.specs.Inside.{IsZoned};
-ghost use Rattle.signal_blocks.specs.Names.{track_piece, zone_names, zoned_on, zoned_pieces};
+ghost use Rattle.signal_blocks.specs.Inside.{IsOwn, IsZoned};
+ghost use Rattle.named_network.specs.Named.{IsId};
+ghost use Rattle.signal_blocks.specs.Names.{track_piece, zone_name, zone_names, zoned_on, zoned_pieces};
 
 use block_cuts::{ByRow, InRow};
 use infra_types::{Infra, Track};
@@ -32,14 +33,19 @@ impl InRow for ZonedPiece {
 }
 
 /// The pieces of all tracks with their zones, by track, then from its begin to its end.
+#[tactic(auto, using(crate::proofs::Growing::tracks_grow))]
 fn zoned_pieces(
     alloc: Global,
     graph: &Graph,
     tracks: u32,
 ) -> Result<List<ZonedPiece>, NoMemory>
     requires tracks { tracks ≤ length graph.now.infra.tracks }
-    requires few { sum_by length graph.now.pieces < 2 ^ 32 }
-    ensures { IfOk result (λ pieces. pieces ≡ zoned_pieces graph.now tracks) }
+    requires few { (track : ℕ) → length (pieces_of graph.now.pieces track) < 2 ^ 32 }
+    requires own { (track : ℕ) → track < length graph.now.infra.tracks
+        → All (IsOwn (length graph.now.infra.tracks)) (pieces_of graph.now.pieces track) }
+    ensures pieces { IfOk result (λ pieces. pieces ≡ zoned_pieces graph.now tracks) }
+    ensures zoned { IfOk result
+        (All (IsZoned (length graph.now.infra.tracks) graph.now.count)) }
 {
     let mut pieces = List::new(alloc);
     'tracks: for track in 0..tracks {
@@ -48,10 +54,15 @@ fn zoned_pieces(
     Ok(pieces)
 }
 
+/// Adds the pieces of a track with their zones.
 fn add_zoned(graph: &Graph, track: u32, to: &mut List<ZonedPiece>) -> Result<(), NoMemory>
     requires track { track < length graph.now.infra.tracks }
     requires few { length (pieces_of graph.now.pieces track) < 2 ^ 32 }
+    requires own { All (IsOwn (length graph.now.infra.tracks)) (pieces_of graph.now.pieces track) }
+    requires zoned { All (IsZoned (length graph.now.infra.tracks) graph.now.count) to.old }
     ensures ok { OnOk result (to.new ≡ to.old ++ zoned_on graph.now track) }
+    ensures zoned { OnOk result
+        (All (IsZoned (length graph.now.infra.tracks) graph.now.count) to.new) }
 {
     let pieces = graph.pieces(track);
     'pieces: for number in 0..pieces.len() as u32 {
@@ -68,8 +79,10 @@ fn track_piece(
     tracks: &[Track],
     one: &ZonedPiece,
 ) -> Result<TrackPiece, NoMemory>
-    requires { IsZoned (length tracks.now) (one.now.zone + 1) one.now }
-    ensures { IfOk result (λ piece. piece ≡ track_piece tracks.now one.now) }
+    requires own { IsOwn (length tracks.now) one.now.piece }
+    requires ids { All (λ track. IsId track.id) tracks.now }
+    ensures piece { IfOk result (λ piece. piece ≡ track_piece tracks.now one.now) }
+    ensures id { IfOk result (λ piece. IsId piece.track) }
 {
     let track = &tracks[one.piece.track as usize];
     Ok(TrackPiece {
@@ -83,11 +96,12 @@ fn track_piece(
 fn zone_name(
     alloc: Global,
     tracks: &[Track],
-    zones: u32,
     pieces: &[ZonedPiece],
 ) -> Result<ZoneName, NoMemory>
-    requires { All (IsZoned (length tracks.now) zones) pieces.now }
-    ensures { IfOk result (λ name. name.pieces ≡ map (track_piece tracks.now) pieces.now) }
+    requires own { All (λ one. IsOwn (length tracks.now) one.piece) pieces.now }
+    requires ids { All (λ track. IsId track.id) tracks.now }
+    ensures name { IfOk result (λ name. name.pieces ≡ map (track_piece tracks.now) pieces.now) }
+    ensures ids { IfOk result (λ name. All (λ piece. IsId piece.track) name.pieces) }
 {
     let mut named = List::new(alloc);
     'pieces: for one in pieces {
@@ -104,15 +118,51 @@ pub(crate) fn zone_names(
 ) -> Result<List<ZoneName>, NoMemory>
     requires infra { IsInfra infra.now }
     requires graph { IsLayoutOf infra.now graph.now }
-    ensures { IfOk result (λ names. names ≡ zone_names infra.now graph.now) }
+    ensures names { IfOk result (λ names. names ≡ zone_names infra.now graph.now) }
+    ensures ids { IfOk result (λ names.
+        All (λ zone. All (λ piece. IsId piece.track) zone.pieces) names) }
 {
     let tracks = infra.tracks.as_slice();
     let pieces = zoned_pieces(alloc, graph, tracks.len() as u32)?;
     let zones = graph.zones();
     let rows = ByRow::of(alloc, zones, &pieces)?;
+    let names = names_of(alloc, tracks, zones, &rows)?;
+    Ok(names)
+}
+
+/// The pieces of each of so many zones.
+fn names_of(
+    alloc: Global,
+    tracks: &[Track],
+    zones: u32,
+    rows: &ByRow<ZonedPiece>,
+) -> Result<List<ZoneName>, NoMemory>
+    requires own { All (λ one. IsOwn (length tracks.now) one.piece) rows.now }
+    requires ids { All (λ track. IsId track.id) tracks.now }
+    ensures names { IfOk result (λ names.
+        names ≡ map (zone_name tracks.now rows.now) (range_with_len 0 zones)) }
+    ensures ids { IfOk result (λ names.
+        All (λ zone. All (λ piece. IsId piece.track) zone.pieces) names) }
+{
     let mut names = List::new(alloc);
     'zones: for zone in 0..zones {
-        names.push(zone_name(alloc, tracks, zones, rows.in_row(zone))?)?;
+        names.push(name_of(alloc, tracks, zone, rows)?)?;
     }
     Ok(names)
+}
+
+/// The pieces of a zone.
+fn name_of(
+    alloc: Global,
+    tracks: &[Track],
+    zone: u32,
+    rows: &ByRow<ZonedPiece>,
+) -> Result<ZoneName, NoMemory>
+    requires own { All (λ one. IsOwn (length tracks.now) one.piece) rows.now }
+    requires ids { All (λ track. IsId track.id) tracks.now }
+    ensures name { IfOk result (λ name. name ≡ zone_name tracks.now rows.now zone) }
+    ensures ids { IfOk result (λ name. All (λ piece. IsId piece.track) name.pieces) }
+{
+    let name = zone_name(alloc, tracks, rows.in_row(zone))?;
+    Ok(name)
 }

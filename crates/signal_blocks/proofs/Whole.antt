@@ -1,0 +1,67 @@
+-- Faults as they are told, and a network with its names.
+use Rattle.std.proofs.Common.{◌≡◌, ℕ, ◌+◌, ◌-◌, ◌<◌, ◌≤◌, ◌^◌, List, [], ◌∷◌, ◌++◌, length, map, Option, Some, None, slice_index_or, refl, sym, ap, ◌∙◌, arith, length-append, length-map}
+use Rattle.std.specs.List.{All, range_with_len}
+use Rattle.std.proofs.lemmas.List.Elements.{All-nil, All-cons, All-append, All-head, All-tail, All-map}
+use Rattle.std.proofs.lemmas.List.FromFn.{length-map-range_with_len}
+use Rattle.std.proofs.lemmas.List.Sums.{sum_by-cons}
+use Rattle.block_cuts.specs.Cuts.{block_count}
+use Rattle.block_cuts.specs.Faults.{count_blocks}
+use Rattle.block_cuts.specs.declared.faults.Fault.{Fault}
+use Rattle.block_cuts.specs.declared.faults.Fault.TheVariants as faults
+use Rattle.infra_types.specs.declared.infras.Infra.{Infra}
+use Rattle.infra_types.specs.declared.routes.Route.{Route}
+use Rattle.named_network.specs.declared.BlockName.{BlockName}
+use Rattle.named_network.specs.Named.{IsId}
+use Rattle.route_walk.specs.declared.walks.Walk.{Walk}
+use Rattle.route_walk.specs.declared.walks.WalkFault.{WalkFault}
+use Rattle.route_walk.specs.declared.walks.WalkFault.TheVariants as walks
+use Rattle.route_walk.specs.Walks.{IsWalkOf, WalkTells}
+use Rattle.track_graph.specs.declared.faults.GraphFault.{GraphFault}
+use Rattle.track_graph.specs.declared.faults.GraphFault.TheVariants as graphs
+use Rattle.track_graph.specs.Layouts.{IsLayoutOf, Layout, Tells}
+use Rattle.signal_blocks.specs.Inside.{told_blocks, told_graph, told_walk}
+use Rattle.signal_blocks.specs.Names.{block_names, route_parts}
+use Rattle.signal_blocks.specs.Networks.{HasFault, NetTells, named_fault, route_name}
+use Rattle.signal_blocks.specs.Railways.{AreWalksOf}
+
+pub graph_tells : (infra : Infra) (fault : GraphFault) → Tells infra fault → NetTells infra (told_graph fault)
+graph_tells infra (graphs.EndTwice track end) tells = (tells, λ e. cc e)
+graph_tells infra (graphs.OffTrack id) tells = (tells, λ e. cc e)
+graph_tells infra graphs.Memory tells = tt
+
+pub walk_tells : (infra : Infra) (layout : Layout) (route : ℕ) (before : List Walk) (fault : WalkFault) → IsLayoutOf infra layout → route < length infra.routes → AreWalksOf infra layout route before → WalkTells infra layout route fault
+    → NetTells infra (told_walk (named_fault infra fault))
+walk_tells infra layout route before (walks.NoWay r at) is within walked tells = record { layout = layout; is = is; route = route; within = within; before = before; walked = walked; why = walks.NoWay r at; tells = tells; named = refl }
+walk_tells infra layout route before (walks.Loop r) is within walked tells = record { layout = layout; is = is; route = route; within = within; before = before; walked = walked; why = walks.Loop r; tells = tells; named = refl }
+walk_tells infra layout route before (walks.StrayRelease r d) is within walked tells = record { layout = layout; is = is; route = route; within = within; before = before; walked = walked; why = walks.StrayRelease r d; tells = tells; named = refl }
+walk_tells infra layout route before walks.Memory is within walked tells = tt
+
+pub blocks_tell : (infra : Infra) (fault : Fault) → HasFault infra fault → NetTells infra (told_blocks infra fault)
+blocks_tell infra (faults.EmptyBlock route at) has = (route, refl, has)
+blocks_tell infra (faults.Limit what count) has = has
+
+pub each_few : (sights : List (Option ℕ)) (walks : List Walk) (most : ℕ) → count_blocks sights walks ≤ most → All (λ walk. block_count sights walk ≤ most) walks
+each_few sights [] most le = All-nil (λ walk. block_count sights walk ≤ most)
+each_few sights (walk ∷ walks) most le =
+    let all = sum_by-cons (block_count sights) walk walks in
+    All-cons (λ walk. block_count sights walk ≤ most) walk walks (omega (arith, le, all)) (each_few sights walks most (omega (arith, le, all)))
+
+pub names_counted : (sights : List (Option ℕ)) (routes : List Route) (walks : List Walk) → length walks ≡ length routes → length (block_names sights routes walks) ≡ count_blocks sights walks
+names_counted sights [] [] same = refl
+names_counted sights [] (walk ∷ walks) same = absurd (omega (arith, same))
+names_counted sights (route ∷ routes) [] same = absurd (omega (arith, same))
+names_counted sights (route ∷ routes) (walk ∷ walks) same =
+    let here = length-append (route_parts route.id (block_count sights walk)) (block_names sights routes walks) in
+    let own = length-map-range_with_len (λ part. record { route = route.id; part = part }) 0 (block_count sights walk) in
+    let rest = names_counted sights routes walks (omega (arith, same)) in
+    let all = sum_by-cons (block_count sights) walk walks in
+    omega (arith, here, own, rest, all)
+
+pub names_are_ids : (sights : List (Option ℕ)) (routes : List Route) (walks : List Walk) → All (λ route. IsId route.id) routes → All (λ block. IsId block.route) (block_names sights routes walks)
+names_are_ids sights [] walks ids = All-nil (λ (block : BlockName). IsId block.route)
+names_are_ids sights (route ∷ routes) [] ids = All-nil (λ (block : BlockName). IsId block.route)
+names_are_ids sights (route ∷ routes) (walk ∷ walks) ids =
+    let here : IsId route.id = All-head (λ (route : Route). IsId route.id) route routes ids in
+    All-append (λ (block : BlockName). IsId block.route) (route_parts route.id (block_count sights walk)) (block_names sights routes walks)
+      (All-map (λ (block : BlockName). IsId block.route) (λ part. record { route = route.id; part = part }) (range_with_len 0 (block_count sights walk)) (λ k d lt. here))
+      (names_are_ids sights routes walks (All-tail (λ (route : Route). IsId route.id) route routes ids))
