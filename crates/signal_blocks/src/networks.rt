@@ -1,17 +1,20 @@
 //! The network of an infrastructure.
 
-ghost use Rattle.std.specs.Prelude.{◌≡◌, IfErr, IfOk};
+ghost use Rattle.std.specs.Prelude.{◌≡◌, IfErr, IfOk, None};
+ghost use Rattle.block_cuts.specs.Faults.{railway_fault};
+ghost use Rattle.block_cuts.specs.Networks.{IsRailway};
 ghost use Rattle.infra_types.specs.Infras.{IsInfra};
 ghost use Rattle.named_network.specs.Named.{IsNamed};
 ghost use Rattle.track_graph.specs.Layouts.{IsLayoutOf};
 ghost use Rattle.signal_blocks.specs.Inside.{told_blocks};
 ghost use Rattle.signal_blocks.specs.Networks.{IsNetworkOf, NetTells};
+ghost use Rattle.signal_blocks.specs.Railways.{IsRailwayOf};
 
 use crate::faults::NetFault;
 use crate::names::{block_names, route_name, stop_names};
 use crate::railways::{railway_of, walks_of};
 use crate::zones::zone_names;
-use block_cuts::{Fault, fault_of};
+use block_cuts::{Fault, Railway, fault_of};
 use infra_types::Infra;
 use named_network::Named;
 use no_memory::NoMemory;
@@ -31,6 +34,35 @@ fn told_blocks(alloc: Global, infra: &Infra, fault: Fault) -> Result<NetFault, N
     }
 }
 
+/// The network of a railway without fault, with its names.
+fn named_network(
+    alloc: Global,
+    graph: &Graph,
+    infra: &Infra,
+    railway: &Railway,
+) -> Result<Named, NoMemory>
+    requires infra { IsInfra infra.now }
+    requires graph { IsLayoutOf infra.now graph.now }
+    requires railway { IsRailwayOf infra.now graph.now railway.now }
+    requires sound { IsRailway railway.now }
+    requires none { railway_fault railway.now ≡ None }
+    ensures network { IfOk result (IsNetworkOf infra.now) }
+    ensures named { IfOk result IsNamed }
+{
+    let sights = railway.lines.sights.as_slice();
+    let walks = railway.walks.as_slice();
+    let network = block_cuts::network_of(alloc, railway)?;
+    let stops = stop_names(alloc, infra.points.as_slice())?;
+    let blocks = block_names(alloc, sights, infra.routes.as_slice(), walks)?;
+    let zones = zone_names(alloc, graph, infra)?;
+    Ok(Named {
+        network,
+        stops,
+        blocks,
+        zones,
+    })
+}
+
 /// The network of an infrastructure, with the names of its operational points, blocks and zones.
 ///
 /// A block reaches from one cut of a route to the next: routes are cut at their ends and at each detector to which a
@@ -41,6 +73,7 @@ fn told_blocks(alloc: Global, infra: &Infra, fault: Fault) -> Result<NetFault, N
 /// The first fault in this order: `Graph` where two ports name one end of a track, or a position is beyond its track;
 /// `Walk` of the first route that has no walk; `EmptyBlock` by route, then by metre; `Limit` of zones, points, blocks,
 /// cells, and of the first block that is too long. `Memory` where memory runs out.
+#[tactic(auto, using(crate::proofs::Whole::graph_tells))]
 pub fn network_of(alloc: Global, infra: &Infra) -> Result<Named, NetFault>
     requires { IsInfra infra.now }
     ensures network { IfOk result (IsNetworkOf infra.now) }
@@ -53,13 +86,6 @@ pub fn network_of(alloc: Global, infra: &Infra) -> Result<Named, NetFault>
     if let Some(fault) = fault_of(alloc, &railway)? {
         return Err(told_blocks(alloc, infra, fault)?);
     }
-    let network = block_cuts::network_of(alloc, &railway)?;
-    let sights = railway.lines.sights.as_slice();
-    let routes = infra.routes.as_slice();
-    Ok(Named {
-        network,
-        stops: stop_names(alloc, infra.points.as_slice())?,
-        blocks: block_names(alloc, sights, routes, railway.walks.as_slice())?,
-        zones: zone_names(alloc, &graph, infra)?,
-    })
+    let named = named_network(alloc, &graph, infra, &railway)?;
+    Ok(named)
 }

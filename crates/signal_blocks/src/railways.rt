@@ -1,12 +1,13 @@
 //! The railway of an infrastructure: the walks of its routes, and what lies along its tracks.
 
-ghost use Rattle.std.specs.Prelude.{◌≡◌, length, IfErr, IfOk};
+ghost use Rattle.std.specs.Prelude.{◌≡◌, ◌<◌, ◌≤◌, length, IfErr, IfOk};
 ghost use Rattle.std.specs.List.{All};
 ghost use Rattle.block_cuts.specs.Networks.{IsRailway};
 ghost use Rattle.infra_types.specs.Infras.{IsInfra};
 ghost use Rattle.route_walk.specs.Sound.{IsSound};
 ghost use Rattle.track_graph.specs.Layouts.{IsLayoutOf};
 ghost use Rattle.signal_blocks.specs.Inside.{AreLimited, AreLinesOf, told_walk};
+ghost use Rattle.signal_blocks.specs.Lines.{speed_ranges, stop_parts};
 ghost use Rattle.signal_blocks.specs.Networks.{named_fault, NetTells};
 ghost use Rattle.signal_blocks.specs.Railways.{AreWalksOf, IsRailwayOf, point_count};
 
@@ -14,7 +15,7 @@ use crate::faults::{NetFault, RouteFault};
 use crate::lines::{speed_ranges, stop_parts};
 use crate::names::{detector_name, route_name};
 use crate::posts::sights_by_point;
-use block_cuts::{ByRow, Lines, Railway};
+use block_cuts::{ByRow, Lines, Railway, SpeedRange, StopPart};
 use infra_types::Infra;
 use no_memory::NoMemory;
 use rail_types::List;
@@ -67,6 +68,30 @@ pub(crate) fn walks_of(
     Ok(walks)
 }
 
+/// The ranges of speed limits, by their tracks.
+fn ranges_by_track(alloc: Global, infra: &Infra) -> Result<ByRow<SpeedRange>, NoMemory>
+    requires { IsInfra infra.now }
+    ensures ranges { IfOk result (λ ranges. ranges ≡ speed_ranges infra.now.speeds) }
+    ensures limits { IfOk result (All (λ range. 1 ≤ range.limit)) }
+{
+    let tracks = infra.tracks.len() as u32;
+    let ranges = speed_ranges(alloc, infra.speeds.as_slice())?;
+    let rows = ByRow::of(alloc, tracks, &ranges)?;
+    Ok(rows)
+}
+
+/// The parts of operational points, by their tracks.
+fn parts_by_track(alloc: Global, infra: &Infra) -> Result<ByRow<StopPart>, NoMemory>
+    requires { IsInfra infra.now }
+    ensures parts { IfOk result (λ parts. parts ≡ stop_parts infra.now.points) }
+    ensures numbers { IfOk result (All (λ part. part.stop < length infra.now.points)) }
+{
+    let tracks = infra.tracks.len() as u32;
+    let parts = stop_parts(alloc, infra.points.as_slice())?;
+    let rows = ByRow::of(alloc, tracks, &parts)?;
+    Ok(rows)
+}
+
 /// What lies along the tracks.
 fn lines_of(alloc: Global, graph: &Graph, infra: &Infra) -> Result<Lines, NoMemory>
     requires infra { IsInfra infra.now }
@@ -74,14 +99,13 @@ fn lines_of(alloc: Global, graph: &Graph, infra: &Infra) -> Result<Lines, NoMemo
     ensures lines { IfOk result (AreLinesOf infra.now graph.now) }
     ensures limits { IfOk result (AreLimited (length infra.now.points)) }
 {
-    let tracks = infra.tracks.len() as u32;
     let sights = sights_by_point(alloc, graph, infra)?;
-    let ranges = speed_ranges(alloc, infra.speeds.as_slice())?;
-    let parts = stop_parts(alloc, infra.points.as_slice())?;
+    let ranges = ranges_by_track(alloc, infra)?;
+    let parts = parts_by_track(alloc, infra)?;
     Ok(Lines {
         sights,
-        ranges: ByRow::of(alloc, tracks, &ranges)?,
-        parts: ByRow::of(alloc, tracks, &parts)?,
+        ranges,
+        parts,
     })
 }
 
