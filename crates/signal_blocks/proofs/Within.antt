@@ -56,7 +56,7 @@ pieces_within count track begin [] length_m lt from all to =
 pieces_within count track begin (cut ∷ cuts) length_m lt from all to =
     let here : cut ≤ MAX_TRACK_LENGTH_M = All-head (λ cut. cut ≤ MAX_TRACK_LENGTH_M) cut cuts all in
     All-cons (IsOwn count) (record { track = track; begin = begin; end = cut }) (pieces_from track cut cuts length_m) ((omega (arith, from), omega (arith, here)), lt)
-      (pieces_within count track cut cuts length_m lt here (All-tail (λ cut. cut ≤ MAX_TRACK_LENGTH_M) cut cuts all) to)
+    (pieces_within count track cut cuts length_m lt here (All-tail (λ cut. cut ≤ MAX_TRACK_LENGTH_M) cut cuts all) to)
 
 pub pieces_own : (infra : Infra) (layout : Layout) → IsInfra infra → IsLayoutOf infra layout → (track : ℕ) → track < length layout.infra.tracks → All (IsOwn (length layout.infra.tracks)) (pieces_of layout.pieces track)
 pieces_own infra layout is of track lt =
@@ -66,13 +66,13 @@ pieces_own infra layout is of track lt =
     let tracks : All IsTrack layout.infra.tracks = rw same is.tracks in
     let long = track_within layout.infra.tracks track tracks in
     let cuts : All (λ cut. cut ≤ MAX_TRACK_LENGTH_M) pieces.0 = λ k d below.
-        (let cut = (pieces.1.each (slice_index_or pieces.0 k d)).0 (All-contains_itself pieces.0 k d below) in
-        let stand = (stands.each cut.0).0 cut.1 in
-        let placed = detectors_on_tracks layout.infra cut.0.number stand.1.placed of.sound.within stand.1.is in
-        let whole : length_of layout.infra.tracks stand.1.placed.track ≤ MAX_TRACK_LENGTH_M = track_within layout.infra.tracks stand.1.placed.track tracks in
-        let there = stand.1.position in
-        let here = cut.2 in
-        omega (arith, placed, whole, there, here)) in
+    (let cut = (pieces.1.each (slice_index_or pieces.0 k d)).0 (All-contains_itself pieces.0 k d below) in
+    let stand = (stands.each cut.0).0 cut.1 in
+    let placed = detectors_on_tracks layout.infra cut.0.number stand.1.placed of.sound.within stand.1.is in
+    let whole : length_of layout.infra.tracks stand.1.placed.track ≤ MAX_TRACK_LENGTH_M = track_within layout.infra.tracks stand.1.placed.track tracks in
+    let there = stand.1.position in
+    let here = cut.2 in
+    omega (arith, placed, whole, there, here)) in
     rw pieces.2 (pieces_within (length layout.infra.tracks) track 0 pieces.0 (length_of layout.infra.tracks track) lt (omega arith) cuts long)
 
 row_within : (rows : List (List Piece)) (k : ℕ) → length (pieces_of rows k) ≤ sum_by length rows

@@ -7,6 +7,6 @@ use Rattle.signal_blocks.proofs.zones.zone_name.Given as goal
 
 abbrev pub invariant-pieces : goal.invariant-pieces
 invariant-pieces l = record {
-    rest : l.named ++ map (track_piece l.tracks) (drop l.one-index l.pieces) ≡ map (track_piece l.tracks) l.pieces;
-    ids : All (λ (piece : TrackPiece). IsId piece.track) l.named;
-  }
+  rest : l.named ++ map (track_piece l.tracks) (drop l.one-index l.pieces) ≡ map (track_piece l.tracks) l.pieces;
+  ids : All (λ (piece : TrackPiece). IsId piece.track) l.named;
+}
