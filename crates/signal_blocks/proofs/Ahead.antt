@@ -1,5 +1,5 @@
 -- The first detector at or after a signal, in either direction.
-use Rattle.std.proofs.Common.{◌≡◌, ℕ, zero, suc, ◌+◌, ◌-◌, ◌*◌, ◌<◌, ◌≤◌, Bool, true, false, cond, List, [], ◌∷◌, length, take, filter, Option, Some, None, slice_get, slice_index_or, get_or, nat_le, nat_lt, refl, sym, ap, ◌∙◌, arith, le-leb, inl, inr}
+use Rattle.std.proofs.Common.{◌≡◌, ℕ, zero, suc, ◌-◌, ◌*◌, ◌<◌, ◌≤◌, Bool, true, false, List, [], ◌∷◌, length, filter, Some, None, slice_get, slice_index_or, nat_le, nat_lt, refl, sym, ap, arith, inl, inr}
 use native.Mathlib.Decide.{ℕ_discrete}
 use Rattle.std.specs.List.{AllPairs, AllWithin, Contains}
 use Rattle.std.specs.List.Sorted.{IsNonDecreasingBy}

@@ -1,5 +1,5 @@
 -- The nearest signal at each point, as signals come one behind the other.
-use Rattle.std.proofs.Common.{◌≡◌, ℕ, zero, suc, ◌+◌, ◌<◌, ◌≤◌, Bool, true, false, cond, List, [], ◌∷◌, ◌++◌, length, take, get_or, set, filter, nat_eq, nat_le, if◌then◌else◌, Option, Some, None, map, option_map, IfSome, refl, sym, ap, ◌∙◌, arith, append_assoc, leb-true}
+use Rattle.std.proofs.Common.{◌≡◌, ℕ, zero, suc, ◌+◌, ◌<◌, ◌≤◌, Bool, true, false, List, [], ◌∷◌, ◌++◌, length, take, get_or, set, nat_eq, nat_le, if◌then◌else◌, Option, Some, None, map, option_map, IfSome, refl, ap, ◌∙◌, arith, append_assoc, leb-true}
 use native.Mathlib.Decide.{ℕ_discrete}
 use Rattle.std.specs.List.{All}
 use Rattle.std.proofs.lemmas.Bool.{leb-false}

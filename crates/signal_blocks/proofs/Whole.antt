@@ -1,5 +1,5 @@
 -- Faults as they are told, and a network with its names.
-use Rattle.std.proofs.Common.{◌≡◌, ℕ, ◌+◌, ◌-◌, ◌<◌, ◌≤◌, ◌^◌, List, [], ◌∷◌, ◌++◌, length, map, Option, Some, None, slice_index_or, refl, sym, ap, ◌∙◌, arith, length-append}
+use Rattle.std.proofs.Common.{◌≡◌, ℕ, ◌+◌, ◌<◌, ◌≤◌, List, [], ◌∷◌, ◌++◌, length, Option, None, refl, sym, ◌∙◌, arith, length-append}
 use Rattle.std.specs.List.{All, range_with_len}
 use Rattle.std.proofs.lemmas.List.Elements.{All-nil, All-cons, All-append, All-head, All-tail, All-map}
 use Rattle.std.proofs.lemmas.List.FromFn.{length-map-range_with_len}
@@ -28,7 +28,7 @@ use Rattle.track_graph.specs.declared.faults.GraphFault.TheVariants as graphs
 use Rattle.track_graph.specs.Layouts.{IsLayoutOf, Layout, Tells}
 use Rattle.signal_blocks.specs.Inside.{told_blocks, told_graph, told_walk}
 use Rattle.signal_blocks.specs.Names.{block_names, route_parts, zone_name, zoned_pieces}
-use Rattle.signal_blocks.specs.Networks.{HasFault, IsNetworkOf, NetTells, named_fault, route_name}
+use Rattle.signal_blocks.specs.Networks.{HasFault, IsNetworkOf, NetTells, named_fault}
 use Rattle.signal_blocks.specs.Railways.{AreWalksOf}
 
 pub graph_tells : (infra : Infra) (fault : GraphFault) → Tells infra fault → NetTells infra (told_graph fault)

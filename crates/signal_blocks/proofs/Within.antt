@@ -1,5 +1,5 @@
 -- Pieces of track are short, and not too many.
-use Rattle.std.proofs.Common.{◌≡◌, ℕ, zero, suc, ◌+◌, ◌<◌, ◌≤◌, ◌^◌, Bool, true, false, List, [], ◌∷◌, ◌++◌, length, map, take, find, Option, Some, None, option_map, slice_get, slice_index_or, if◌then◌else◌, refl, sym, ap, ◌∙◌, arith, append_assoc, ltb-false}
+use Rattle.std.proofs.Common.{◌≡◌, ℕ, zero, suc, ◌<◌, ◌≤◌, ◌^◌, Bool, true, false, List, [], ◌∷◌, ◌++◌, length, map, take, find, Option, Some, None, option_map, slice_get, slice_index_or, if◌then◌else◌, refl, sym, ap, ◌∙◌, arith, append_assoc, ltb-false}
 use Rattle.std.specs.List.{All, sum_by}
 use Rattle.std.proofs.Math.Seq.{take-length}
 use Rattle.std.proofs.lemmas.List.Elements.{All-nil, All-cons, All-head, All-tail, All-contains_itself}
@@ -10,11 +10,9 @@ use Rattle.infra_types.specs.declared.tracks.Track.{Track}
 use Rattle.infra_types.specs.Infras.{IsInfra, IsTrack}
 use Rattle.rail_types.specs.declared.limits.TheConstants.{MAX_TRACK_LENGTH_M}
 use Rattle.track_graph.specs.declared.pieces.Piece.{Piece}
-use Rattle.track_graph.specs.declared.stands.Stand.{Stand}
 use Rattle.track_graph.specs.Faults.{Located, all_located, first_off, is_off, placed_at, points_at, signals_at}
-use Rattle.track_graph.specs.Layouts.{IsLayout, IsLayoutOf, Layout}
-use Rattle.track_graph.specs.Pieces.{AreCuts, length_of, metres_of, pieces_from, pieces_of}
-use Rattle.track_graph.specs.Stands.{AreStands, stands_of}
+use Rattle.track_graph.specs.Layouts.{IsLayoutOf, Layout}
+use Rattle.track_graph.specs.Pieces.{length_of, pieces_from, pieces_of}
 use Rattle.signal_blocks.specs.Inside.{IsOwn}
 
 no_name : (o : Option Located) → option_map (λ (one : Located). one.id) o ≡ None → o ≡ None

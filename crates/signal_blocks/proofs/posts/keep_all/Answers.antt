@@ -1,4 +1,4 @@
-use Rattle.std.proofs.Common.{rules, ◌≡◌, ◌<◌, get_or, length, arith, refl}
+use Rattle.std.proofs.Common.{◌≡◌, ◌<◌, get_or, length, arith}
 use Rattle.std.proofs.lemmas.List.{get_or_default}
 use Rattle.signal_blocks.specs.declared.posts.Post.{Post}
 use Rattle.signal_blocks.specs.Inside.{IsPost}

@@ -1,4 +1,4 @@
-use Rattle.std.proofs.Common.{◌≡◌, ◌++◌, take, length, IfSome}
+use Rattle.std.proofs.Common.{take, length, IfSome}
 use Rattle.std.specs.List.{All}
 use Rattle.signal_blocks.specs.Inside.{AreNearest, IsPost}
 use Rattle.signal_blocks.proofs.posts.keep_all.Given as goal

@@ -1,4 +1,4 @@
-use Rattle.std.proofs.Common.{rules, ◌≡◌, ◌<◌, ◌≤◌, length}
+use Rattle.std.proofs.Common.{rules, ◌≡◌, ◌<◌, length}
 use Rattle.std.specs.List.{All}
 use Rattle.block_cuts.specs.declared.lines.StopPart.{StopPart}
 use Rattle.signal_blocks.specs.Lines.{stop_parts}

@@ -1,4 +1,4 @@
-use Rattle.std.proofs.Common.{rules, ◌≡◌, ◌<◌, ◌≤◌, length}
+use Rattle.std.proofs.Common.{rules, ◌≡◌, ◌<◌, length}
 use Rattle.std.specs.List.{All}
 use Rattle.block_cuts.specs.declared.lines.SpeedRange.{SpeedRange}
 use Rattle.signal_blocks.specs.Lines.{speed_ranges}

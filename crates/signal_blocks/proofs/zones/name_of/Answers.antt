@@ -1,4 +1,4 @@
-use Rattle.std.proofs.Common.{rules, ◌≡◌, length}
+use Rattle.std.proofs.Common.{length}
 use Rattle.std.proofs.lemmas.List.Elements.{All-filter}
 use Rattle.signal_blocks.specs.Inside.{IsOwn}
 use Rattle.signal_blocks.specs.Names.{is_in_zone}
