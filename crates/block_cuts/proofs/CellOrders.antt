@@ -1,6 +1,6 @@
 -- The cells of a block stand in order and within it.
-use Rattle.std.proofs.Common.{◌≡◌, ℕ, zero, suc, ◌+◌, ◌-◌, ◌<◌, ◌≤◌, min, Bool, true, false, ◌&&◌, List, [], ◌∷◌, map, length, drop, Option, Some, None, option_map, slice_index_or, nat_le, refl, sym, ap, ◌∙◌, arith, leb-true, le-leb, cond}
-use Rattle.std.specs.List.{find, filter_map, range_with_len, list_all, zip, cons_option}
+use Rattle.std.proofs.Common.{◌≡◌, ℕ, zero, suc, ◌+◌, ◌-◌, ◌<◌, ◌≤◌, min, Bool, true, false, List, [], ◌∷◌, map, length, Option, Some, None, option_map, slice_index_or, nat_le, refl, sym, ap, arith, le-leb, cond}
+use Rattle.std.specs.List.{filter_map, range_with_len, list_all, cons_option}
 use Rattle.rail_types.specs.declared.tracks.Cell.{Cell}
 use Rattle.rail_types.specs.Flaws.{neighbours, ascends}
 use Rattle.block_cuts.specs.Cells.{cell_at, cells_between, from_end, release_of, release_from, or_number}

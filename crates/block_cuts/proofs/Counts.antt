@@ -9,7 +9,7 @@ use Rattle.std.proofs.lemmas.List.Recursion.{is_count_by}
 use Rattle.rail_types.specs.declared.tracks.Block.{Block}
 use Rattle.rail_types.specs.declared.tracks.Cell.{Cell}
 use Rattle.block_cuts.specs.Blocks.{AreBlocksOf}
-use Rattle.block_cuts.specs.Cells.{cell_at, cells_between}
+use Rattle.block_cuts.specs.Cells.{cell_at}
 use Rattle.block_cuts.specs.Cuts.{cut_places, has_signal, is_cut, is_some, block_count, point_at}
 use Rattle.block_cuts.specs.Faults.{cell_count, count_blocks, count_cells}
 use Rattle.block_cuts.specs.Networks.{AreInOrder}

@@ -1,15 +1,14 @@
 -- A block of a sound walk has no flaw.
-use Rattle.std.proofs.Common.{◌≡◌, ℕ, zero, suc, ◌+◌, ◌-◌, ◌<◌, ◌≤◌, Bool, true, false, not, ◌&&◌, ◌||◌, cond, List, [], ◌∷◌, map, length, Option, Some, None, option_map, slice_index, slice_index_or, nat_le, nat_lt, nat_eq, refl, sym, ap, ◌∙◌, arith}
-use Rattle.std.specs.List.{All, filter_map, range_with_len, cons_option, list_any, find}
+use Rattle.std.proofs.Common.{◌≡◌, ℕ, zero, suc, ◌+◌, ◌-◌, ◌<◌, ◌≤◌, Bool, true, false, not, ◌||◌, cond, List, [], ◌∷◌, map, length, Option, Some, None, option_map, slice_index_or, nat_le, nat_lt, nat_eq, refl, sym, ap, ◌∙◌, arith}
+use Rattle.std.specs.List.{All, filter_map, range_with_len, cons_option, list_any}
 use Rattle.rail_types.specs.declared.limits.TheConstants.{MAX_BLOCK_LENGTH_M, MAX_SIGHT_M, MAX_SPEED_MM_S}
 use Rattle.rail_types.specs.declared.tracks.Block.{Block}
 use Rattle.rail_types.specs.declared.tracks.Cell.{Cell}
 use Rattle.rail_types.specs.declared.tracks.Network.{Network}
-use Rattle.rail_types.specs.declared.tracks.NetFlaw.{NetFlaw}
 use Rattle.rail_types.specs.declared.tracks.NetFlaw.TheVariants.{Range, CellOrder, EmptyBlock, Point, Serves, Limit}
 use Rattle.rail_types.specs.Flaws.{has_flaw, flaw_of_block, is_empty, is_outside, ascends, climbs}
-use Rattle.block_cuts.specs.Blocks.{IsBlock, stretches_between, sight_from}
-use Rattle.block_cuts.specs.Cells.{cell_at, cells_between, or_number, release_from}
+use Rattle.block_cuts.specs.Blocks.{IsBlock, stretches_between}
+use Rattle.block_cuts.specs.Cells.{cell_at, or_number, release_from}
 use Rattle.block_cuts.specs.Cuts.{metres_at, nowhere, point_at, sight_at}
 use Rattle.route_walk.specs.Sound.{IsSound}
 use Rattle.block_cuts.specs.declared.lines.Lines.{Lines}

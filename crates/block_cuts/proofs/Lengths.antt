@@ -1,9 +1,9 @@
 -- Where no block is too long, each length is a number of 32 bits.
-use Rattle.std.proofs.Common.{◌≡◌, ℕ, zero, suc, ◌+◌, ◌-◌, ◌<◌, ◌≤◌, ◌^◌, Bool, true, false, List, [], ◌∷◌, length, Option, Some, None, option_map, slice_index, slice_index_or, nat_lt, if◌then◌else◌, refl, arith, ltb-false}
+use Rattle.std.proofs.Common.{◌≡◌, ℕ, zero, suc, ◌+◌, ◌-◌, ◌<◌, ◌≤◌, Bool, true, false, List, [], ◌∷◌, length, Option, Some, None, option_map, slice_index, slice_index_or, nat_lt, if◌then◌else◌, refl, arith, ltb-false}
 use Rattle.rail_types.specs.declared.limits.TheConstants.{MAX_BLOCK_LENGTH_M}
 use Rattle.block_cuts.specs.Blocks.{AreShort}
 use Rattle.block_cuts.specs.Cuts.{metres_at, cut_places}
-use Rattle.block_cuts.specs.Faults.{long_behind, long_in, or_fault, long_fault, railway_fault, empty_fault, count_fault, told}
+use Rattle.block_cuts.specs.Faults.{long_behind, long_in, or_fault, long_fault, railway_fault, empty_fault, count_fault}
 use Rattle.std.specs.List.{All}
 use Rattle.std.proofs.lemmas.List.Elements.{All-nil, All-cons}
 use Rattle.block_cuts.specs.Networks.{AreFine, IsRailway}

@@ -1,5 +1,5 @@
 -- Blocks in order, as a walk's blocks are put behind them.
-use Rattle.std.proofs.Common.{◌≡◌, ℕ, ◌+◌, ◌<◌, List, [], ◌∷◌, ◌++◌, length, take, get_or, ap, sym, ◌∙◌, append_assoc, refl}
+use Rattle.std.proofs.Common.{◌≡◌, ℕ, ◌+◌, ◌<◌, List, [], ◌∷◌, ◌++◌, length, take, get_or, append_assoc, refl}
 use Rattle.rail_types.specs.declared.tracks.Block.{Block}
 use Rattle.std.proofs.lemmas.List.{take_more, append-nil}
 use Rattle.block_cuts.specs.Networks.{AreInOrder}

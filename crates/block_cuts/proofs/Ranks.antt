@@ -1,8 +1,8 @@
 -- Served points ascend and stay below a number; speeds stay in their range.
-use Rattle.std.proofs.Common.{◌≡◌, ℕ, zero, suc, ◌+◌, ◌<◌, ◌≤◌, min, Bool, true, false, ◌&&◌, List, [], ◌∷◌, ◌++◌, map, length, Option, slice_index, slice_index_or, nat_lt, refl, sym, ap, arith, lt-ltb}
-use Rattle.std.specs.List.{All, Contains, filter, flat_map, fold, list_all}
+use Rattle.std.proofs.Common.{◌≡◌, ℕ, suc, ◌+◌, ◌<◌, ◌≤◌, min, true, List, [], ◌∷◌, slice_index_or, nat_lt, refl, arith, lt-ltb}
+use Rattle.std.specs.List.{All, filter, fold, list_all}
 use Rattle.std.specs.List.Sorted.{IsStrictlyIncreasing}
-use Rattle.std.proofs.lemmas.List.Elements.{All-nil, All-cons, All-head, All-tail, All-map, All-filter, All-append, All-contains, All-contains_itself}
+use Rattle.std.proofs.lemmas.List.Elements.{All-nil, All-head, All-tail, All-map, All-filter, All-append, All-contains, All-contains_itself}
 use Rattle.rail_types.specs.Flaws.{neighbours, climbs}
 use Rattle.rail_types.specs.declared.limits.TheConstants.{MAX_SPEED_MM_S}
 use Rattle.block_cuts.specs.Served.{AreServed, stops_on, stops_in, lies_on}

@@ -1,8 +1,6 @@
 -- The release point of a cell lies at or after the cell's end, inside the block.
-use Rattle.std.proofs.Common.{◌≡◌, ℕ, zero, suc, ◌+◌, ◌<◌, ◌≤◌, min, Bool, true, false, cond, List, [], ◌∷◌, length, Option, Some, None, slice_get, slice_index_or, nat_le, nat_lt, refl, sym, ap, ◌∙◌, arith, leb-true, le-leb, ltb-true, ltb-false}
-use Rattle.std.specs.List.{find, AllWithin}
-use Rattle.std.specs.List.Sorted.{IsPartitionPoint}
-use Rattle.std.proofs.lemmas.List.{get_or_default}
+use Rattle.std.proofs.Common.{◌≡◌, ℕ, zero, suc, ◌+◌, ◌<◌, ◌≤◌, min, Bool, true, false, cond, List, [], ◌∷◌, length, Option, Some, None, slice_get, nat_le, nat_lt, refl, sym, ap, ◌∙◌, arith, leb-true, le-leb, ltb-true, ltb-false}
+use Rattle.std.specs.List.{AllWithin}
 use Rattle.block_cuts.specs.Cells.{from_end, release_of, or_number}
 use Rattle.block_cuts.specs.Cuts.{metres_at, nowhere}
 use Rattle.route_walk.specs.Sound.{IsWalk}

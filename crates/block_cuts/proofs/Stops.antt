@@ -1,6 +1,6 @@
 -- Numbers that are sorted and told once.
-use Rattle.std.proofs.Common.{◌≡◌, ℕ, List, [], nat_eq, ap, sym, refl, subst}
-use Rattle.std.specs.List.{Contains, dedup}
+use Rattle.std.proofs.Common.{◌≡◌, ℕ, List, [], nat_eq}
+use Rattle.std.specs.List.{dedup}
 use Rattle.std.specs.List.Retain.{IsFiltered, DiffersFromLast}
 use Rattle.std.specs.List.Sorted.{IsPermutation, IsSorted}
 use Rattle.std.specs.Ordering.{nat_cmp}

@@ -1,5 +1,5 @@
 -- What lies between two places of a walk.
-use Rattle.std.proofs.Common.{◌≡◌, ℕ, ◌+◌, ◌-◌, ◌<◌, ◌≤◌, List, length, arith}
+use Rattle.std.proofs.Common.{ℕ, ◌<◌, ◌≤◌, length}
 use Rattle.block_cuts.specs.Cuts.{metres_at, nowhere}
 use Rattle.block_cuts.specs.Blocks.{reach_at}
 use Rattle.route_walk.specs.Sound.{IsWalk}

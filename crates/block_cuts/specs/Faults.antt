@@ -1,5 +1,5 @@
 -- What makes the blocks of a railway no network, in the order in which it is told.
-use Rattle.std.specs.Prelude.{ℕ, ℤ, pos, ◌+◌, ◌-◌, ◌^◌, Bool, false, List, [], ◌∷◌, length, Option, Some, None, option_map, nat_eq, nat_lt, if◌then◌else◌}
+use Rattle.std.specs.Prelude.{ℕ, ℤ, pos, ◌+◌, ◌-◌, ◌^◌, Bool, false, List, [], ◌∷◌, Option, Some, None, option_map, nat_eq, nat_lt, if◌then◌else◌}
 use Rattle.std.specs.List.{count_by, sum_by}
 use Rattle.rail_types.specs.declared.limits.TheConstants.{MAX_OBJECTS, MAX_CELLS, MAX_BLOCK_LENGTH_M}
 use Rattle.block_cuts.specs.Cuts.{is_some, metres_at, cut_places, block_count}

@@ -1,5 +1,5 @@
 -- The network of a railway.
-use Rattle.std.specs.Prelude.{◌≡◌, ℕ, ◌<◌, ◌≤◌, ◌^◌, ◌++◌, List, [], ◌∷◌, length, Some, None}
+use Rattle.std.specs.Prelude.{◌≡◌, ℕ, ◌<◌, ◌≤◌, ◌^◌, ◌++◌, List, [], ◌∷◌, length, Some}
 use Rattle.std.specs.List.{All}
 use Rattle.rail_types.specs.declared.limits.TheConstants.{MAX_OBJECTS, MAX_SIGHT_M}
 use Rattle.rail_types.specs.declared.tracks.Block.{Block}

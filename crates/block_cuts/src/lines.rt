@@ -1,8 +1,8 @@
 //! What lies along the tracks.
 
 use crate::rows::{ByRow, InRow};
-use rail_types::List;
 use infra_types::{Part, Range};
+use rail_types::List;
 
 /// A range of a speed section that sets a limit, in millimetres a second.
 #[derive(Clone, Copy, Debug, PartialEq, Eq)]

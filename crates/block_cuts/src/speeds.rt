@@ -6,8 +6,8 @@ ghost use Rattle.block_cuts.specs.Speeds.{applies_in, holds_on, limits_in, least
 
 use crate::lines::SpeedRange;
 use crate::rows::ByRow;
-use rail_types::MAX_SPEED_MM_S;
 use infra_types::{Applies, Direction};
+use rail_types::MAX_SPEED_MM_S;
 use route_walk::Stretch;
 
 /// Whether a limit applies in a direction.

@@ -1,5 +1,5 @@
 -- The first detector at or after a signal, in either direction.
-use Rattle.std.proofs.Common.{◌≡◌, ℕ, zero, suc, ◌+◌, ◌-◌, ◌*◌, ◌<◌, ◌≤◌, Bool, true, false, cond, List, [], ◌∷◌, length, take, filter, Option, Some, None, slice_get, slice_index_or, get_or, nat_le, nat_lt, refl, sym, ap, ◌∙◌, arith, le-leb, inl, inr}
+use Rattle.std.proofs.Common.{◌≡◌, ℕ, zero, suc, ◌-◌, ◌*◌, ◌<◌, ◌≤◌, Bool, true, false, List, [], ◌∷◌, length, filter, Some, None, slice_get, slice_index_or, nat_le, nat_lt, refl, sym, ap, arith, inl, inr}
 use native.Mathlib.Decide.{ℕ_discrete}
 use Rattle.std.specs.List.{AllPairs, AllWithin, Contains}
 use Rattle.std.specs.List.Sorted.{IsNonDecreasingBy}
@@ -17,8 +17,9 @@ no_later a b (inr both) = let same = both.0 in omega (arith, same)
 
 pub onward : (stands : List Stand) → AllPairs ComesBefore stands → IsNonDecreasingBy (λ stand. stand.position) stands
 onward stands order i j d le lt = elim (ℕ_discrete i j) [
-    | yes same ↦ rw same (omega arith)
-    | no apart ↦ no_later (slice_index_or stands i d) (slice_index_or stands j d) (order i j d (omega (arith, le, apart)) lt) ]
+  | yes same ↦ rw same (omega arith)
+  | no apart ↦ no_later (slice_index_or stands i d) (slice_index_or stands j d) (order i j d (omega (arith, le, apart)) lt)
+]
 
 module _ {X : Type 0} (p : X → Bool) where
   -- where the first ones fail the test and the others pass it, the first that passes stands behind them
@@ -54,8 +55,8 @@ pub from_position : (stands : List Stand) (position first : ℕ) → AllWithin (
     → slice_get stands first ≡ first_in StartToStop (filter (λ stand. nat_le position stand.position) stands)
 from_position stands position first low high =
     sym (first_behind (λ stand. nat_le position stand.position) stands first
-      (λ k d ge lt. tests_turn (slice_index_or stands k d).position position (low k d ge lt))
-      (λ k d ge lt. tests_turn_back (slice_index_or stands k d).position position (high k d ge lt)))
+    (λ k d ge lt. tests_turn (slice_index_or stands k d).position position (low k d ge lt))
+    (λ k d ge lt. tests_turn_back (slice_index_or stands k d).position position (high k d ge lt)))
 
 pub to_position : (stands : List Stand) (position count : ℕ) → count ≤ length stands → 0 < count → AllWithin (λ stand. nat_le stand.position position ≡ true) stands 0 count → AllWithin (λ stand. nat_le stand.position position ≡ false) stands count (length stands)
     → slice_get stands (count - 1) ≡ first_in StopToStart (filter (λ stand. nat_le stand.position position) stands)

@@ -1,5 +1,5 @@
 -- The nearest signal at each point, as signals come one behind the other.
-use Rattle.std.proofs.Common.{◌≡◌, ℕ, zero, suc, ◌+◌, ◌<◌, ◌≤◌, Bool, true, false, cond, List, [], ◌∷◌, ◌++◌, length, take, get_or, set, filter, nat_eq, nat_le, if◌then◌else◌, Option, Some, None, map, option_map, IfSome, refl, sym, ap, ◌∙◌, arith, append_assoc, leb-true}
+use Rattle.std.proofs.Common.{◌≡◌, ℕ, zero, suc, ◌+◌, ◌<◌, ◌≤◌, Bool, true, false, List, [], ◌∷◌, ◌++◌, length, take, get_or, set, nat_eq, nat_le, if◌then◌else◌, Option, Some, None, map, option_map, IfSome, refl, ap, ◌∙◌, arith, append_assoc, leb-true}
 use native.Mathlib.Decide.{ℕ_discrete}
 use Rattle.std.specs.List.{All}
 use Rattle.std.proofs.lemmas.Bool.{leb-false}
@@ -42,12 +42,12 @@ nearer_if posts kept post false e is =
 
 one_more : (posts : List Post) (kept : Option Post) (post : Post) → IsNearestOf posts kept → IsNearest (posts ++ post ∷ []) (nearer kept post)
 one_more posts None post none = rw none record {
-    before = [];
-    behind = [];
-    whole = refl;
-    nearer = All-nil (λ other. post.gap_m < other.gap_m);
-    as_near = All-nil (λ other. post.gap_m ≤ other.gap_m);
-  }
+  before = [];
+  behind = [];
+  whole = refl;
+  nearer = All-nil (λ other. post.gap_m < other.gap_m);
+  as_near = All-nil (λ other. post.gap_m ≤ other.gap_m);
+}
 one_more posts (Some kept) post is = nearer_if posts kept post (nat_le kept.gap_m post.gap_m) refl is
 
 module _ (posts : List Post) (table : List (Option Post)) (i point : ℕ) (post : Post) (lt : i < length posts) (here : get_or posts i post ≡ post) (within : post.point < length table) where
@@ -57,7 +57,7 @@ module _ (posts : List Post) (table : List (Option Post)) (i point : ℕ) (post 
       let yes : nat_eq post.point post.point ≡ true = grind arith in
       let old = rw hit at is in
       rw (hit, filter_more (λ (p : Post). nat_eq p.point post.point) posts i post lt, here, yes, get_or-set_same table post.point (Some (nearer (nearest_at table post.point) post)) None within)
-        (one_more (posts_at post.point (take i posts)) (nearest_at table post.point) post old)
+      (one_more (posts_at post.point (take i posts)) (nearest_at table post.point) post old)
 
   elsewhere_kept : (point ≡ post.point → ⊥) → IsNearestOf (posts_at point (take i posts)) (nearest_at table point)
       → IsNearestOf (posts_at point (take (i + 1) posts)) (nearest_at (set table post.point (Some (nearer (nearest_at table post.point) post))) point)

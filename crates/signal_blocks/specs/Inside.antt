@@ -1,5 +1,5 @@
 -- *Inside*: tables on the way to a railway.
-use Rattle.std.specs.Prelude.{◌≡◌, ℕ, ◌<◌, ◌≤◌, ◌^◌, Option, Some, None, List, length, slice_index_or, nat_le, if◌then◌else◌}
+use Rattle.std.specs.Prelude.{◌≡◌, ℕ, ◌<◌, ◌≤◌, ◌^◌, Option, Some, None, List, slice_index_or, nat_le, if◌then◌else◌}
 use Rattle.std.specs.List.{All}
 use Rattle.rail_types.specs.declared.limits.TheConstants.{MAX_SIGHT_M}
 use Rattle.track_graph.specs.declared.pieces.Piece.{Piece}

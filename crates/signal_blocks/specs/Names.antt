@@ -73,7 +73,7 @@ is_in_zone zone one = nat_eq one.zone zone
 -- the pieces of a zone, in their order
 abbrev pub zone_name : List Track → List ZonedPiece → ℕ → ZoneName
 zone_name tracks pieces zone = record {
-  pieces = map (track_piece tracks) (filter (is_in_zone zone) pieces)
+  pieces = map (track_piece tracks) (filter (is_in_zone zone) pieces);
 }
 
 -- the pieces of each zone

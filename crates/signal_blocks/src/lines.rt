@@ -59,11 +59,7 @@ pub(crate) fn stop_parts(
     Ok(parts)
 }
 
-fn add_parts(
-    stop: u32,
-    point: &OperationalPoint,
-    to: &mut List<StopPart>,
-) -> Result<(), NoMemory>
+fn add_parts(stop: u32, point: &OperationalPoint, to: &mut List<StopPart>) -> Result<(), NoMemory>
     ensures ok { OnOk result (to.new ≡ to.old ++ parts_of stop point.now) }
 {
     'parts: for part in point.parts.as_slice() {

@@ -15,10 +15,7 @@ use route_walk::Walk;
 use std::alloc::Global;
 
 /// The names of the operational points, in their order.
-pub(crate) fn stop_names(
-    alloc: Global,
-    points: &[OperationalPoint],
-) -> Result<List<Name>, NoMemory>
+pub(crate) fn stop_names(alloc: Global, points: &[OperationalPoint]) -> Result<List<Name>, NoMemory>
     ensures { IfOk result (λ names. names ≡ stop_names points.now) }
 {
     let mut names = List::new(alloc);

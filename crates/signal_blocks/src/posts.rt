@@ -142,11 +142,7 @@ fn post_of(graph: &Graph, signal: &Signal) -> Option<Post>
 }
 
 /// By point the signal nearest to its detector, the first at a tie.
-fn nearest_posts(
-    alloc: Global,
-    points: u32,
-    posts: &[Post],
-) -> Result<Vec<Option<Post>>, NoMemory>
+fn nearest_posts(alloc: Global, points: u32, posts: &[Post]) -> Result<Vec<Option<Post>>, NoMemory>
     requires { All (IsPost points) posts.now }
     ensures nearest { IfOk result (λ table. AreNearest posts.now table.items) }
     ensures limits { IfOk result (λ table. All (λ o. IfSome o (IsPost points)) table.items) }

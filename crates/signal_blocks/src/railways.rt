@@ -46,11 +46,7 @@ fn told_walk(alloc: Global, infra: &Infra, fault: WalkFault) -> Result<NetFault,
 }
 
 /// The walks of all routes, or the fault of the first route that has none.
-pub(crate) fn walks_of(
-    alloc: Global,
-    graph: &Graph,
-    infra: &Infra,
-) -> Result<List<Walk>, NetFault>
+pub(crate) fn walks_of(alloc: Global, graph: &Graph, infra: &Infra) -> Result<List<Walk>, NetFault>
     requires infra { IsInfra infra.now }
     requires graph { IsLayoutOf infra.now graph.now }
     ensures walks { IfOk result (AreWalksOf infra.now graph.now (length infra.now.routes)) }

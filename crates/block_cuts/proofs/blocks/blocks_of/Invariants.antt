@@ -1,4 +1,4 @@
-use Rattle.std.proofs.Common.{◌≡◌, ◌≤◌, ◌+◌, ◌<◌, ℕ, length, slice_index, slice_index_or}
+use Rattle.std.proofs.Common.{◌≡◌, ◌+◌, ◌<◌, ℕ, length, slice_index, slice_index_or}
 use Rattle.block_cuts.specs.Blocks.{IsBlock}
 use Rattle.rail_types.specs.declared.tracks.Block.{Block}
 use Rattle.block_cuts.proofs.blocks.blocks_of.Given as goal

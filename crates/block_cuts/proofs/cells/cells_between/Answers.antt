@@ -1,4 +1,4 @@
-use Rattle.std.proofs.Common.{rules, ◌≡◌, ◌≤◌, ◌+◌, ◌-◌, Some, None}
+use Rattle.std.proofs.Common.{rules}
 use Rattle.block_cuts.specs.Cells.{cell_at}
 use Rattle.block_cuts.proofs.Ranges.{filter_map_range_more}
 use Rattle.block_cuts.proofs.cells.cells_between.Goals as goal

@@ -1,5 +1,4 @@
-use Rattle.std.proofs.Common.{◌≡◌, rules}
-use Rattle.block_cuts.specs.Served.{stops_in}
+use Rattle.std.proofs.Common.{rules}
 use Rattle.block_cuts.proofs.TrackRows.{stops_of_row}
 use Rattle.block_cuts.proofs.served.add_stops_at.Goals as goal
 

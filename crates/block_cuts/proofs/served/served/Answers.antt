@@ -1,4 +1,3 @@
-use Rattle.std.proofs.Common.{◌≡◌}
 use Rattle.block_cuts.proofs.Stops.{ascending_once}
 use Rattle.block_cuts.proofs.served.served.Goals as goal
 

@@ -1,5 +1,3 @@
-use Rattle.std.proofs.Common.{◌≡◌, rules}
-use Rattle.block_cuts.specs.Speeds.{limits_in}
 use Rattle.block_cuts.proofs.TrackRows.{limits_of_row}
 use Rattle.block_cuts.proofs.speeds.least_at.Goals as goal
 

@@ -1,6 +1,5 @@
-use Rattle.std.proofs.Common.{◌≡◌, ◌++◌, drop, map}
+use Rattle.std.proofs.Common.{◌≡◌, ◌++◌, drop}
 use Rattle.signal_blocks.specs.Lines.{parts_of}
-use Rattle.block_cuts.specs.declared.lines.StopPart.{StopPart}
 use Rattle.signal_blocks.proofs.lines.add_parts.Given as goal
 
 abbrev pub invariant-parts : goal.invariant-parts

@@ -4,6 +4,6 @@ use Rattle.signal_blocks.proofs.lines.stop_parts.Given as goal
 
 abbrev pub invariant-points : goal.invariant-points
 invariant-points l = record {
-    count : l.stop ≡ l.point-index;
-    rest : l.parts ++ parts_from l.stop (drop l.point-index l.points) ≡ stop_parts l.points;
-  }
+  count : l.stop ≡ l.point-index;
+  rest : l.parts ++ parts_from l.stop (drop l.point-index l.points) ≡ stop_parts l.points;
+}

@@ -1,4 +1,4 @@
-use Rattle.std.proofs.Common.{rules, ◌≡◌, nat_lt}
+use Rattle.std.proofs.Common.{rules, nat_lt}
 use Rattle.std.proofs.lemmas.List.Sorted.{IsPartitionPoint-from_clause, IsPartitionedBy-ltb}
 use Rattle.track_graph.specs.declared.stands.Stand.{Stand}
 use Rattle.signal_blocks.proofs.Ahead.{from_position, onward}

@@ -1,4 +1,4 @@
-use Rattle.std.proofs.Common.{rules, ◌≡◌, ◌<◌, get_or, length, arith, refl}
+use Rattle.std.proofs.Common.{◌≡◌, ◌<◌, get_or, length, arith}
 use Rattle.std.proofs.lemmas.List.{get_or_default}
 use Rattle.signal_blocks.specs.declared.posts.Post.{Post}
 use Rattle.signal_blocks.specs.Inside.{IsPost}
@@ -10,9 +10,9 @@ no_post = record { point = 0; gap_m = 0; sight_m = 0 }
 
 pub posts-init : goal.posts-init
 posts-init c = record {
-    nearest = none_nearest c.args.table.now c.requires.none;
-    limits = none_limited _ c.args.table.now c.requires.none;
-  }
+  nearest = none_nearest c.args.table.now c.requires.none;
+  limits = none_limited _ c.args.table.now c.requires.none;
+}
 
 pub posts-preserved : goal.posts-preserved
 posts-preserved c =

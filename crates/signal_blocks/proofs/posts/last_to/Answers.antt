@@ -1,4 +1,4 @@
-use Rattle.std.proofs.Common.{rules, ◌≡◌, ◌<◌, ◌≤◌, nat_le, arith}
+use Rattle.std.proofs.Common.{rules, nat_le, arith}
 use Rattle.std.proofs.lemmas.List.Sorted.{IsPartitionPoint-from_clause, IsPartitionedBy-leb}
 use Rattle.track_graph.specs.declared.stands.Stand.{Stand}
 use Rattle.signal_blocks.proofs.Ahead.{none_to_position, onward, to_position}

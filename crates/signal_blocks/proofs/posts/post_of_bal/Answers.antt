@@ -1,4 +1,4 @@
-use Rattle.std.proofs.Common.{rules, ◌≡◌, ◌<◌, length, arith}
+use Rattle.std.proofs.Common.{arith}
 use Rattle.std.specs.List.{Contains}
 use Rattle.signal_blocks.proofs.Ahead.{number_below, point_below}
 use Rattle.track_graph.specs.Stands.{stands_of}
