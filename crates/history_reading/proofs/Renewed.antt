@@ -1,11 +1,11 @@
 -- A file of version 1 in the version of today.
-use Rattle.std.proofs.Common.{◌≡◌, ℕ, List, [], ◌∷◌, ◌++◌, length, take, Option, None, Some, refl, sym, ap, ◌∙◌, arith, append_assoc, length-append}
+use Rattle.std.proofs.Common.{◌≡◌, ℕ, ◌+◌, List, [], ◌∷◌, ◌++◌, length, take, Option, None, Some, refl, sym, ap, ◌∙◌, arith, append_assoc, length-append}
 use Rattle.std.specs.Prelude.{IfSome, slice_set}
 use Rattle.std.proofs.lemmas.List.{take_at, nil_from_length}
 use Rattle.rail_types.specs.declared.entries.Entry.{Entry}
 use Rattle.rail_types.specs.Timetables.{Timetable}
 use Rattle.journal_text.specs.Headers.{header_of, header_of_version}
-use Rattle.journal_text.specs.Histories.{bodies_of, opened}
+use Rattle.journal_text.specs.Histories.{bodies_of, bytes_of, front_of, opened}
 use Rattle.history_reading.specs.Files.{IsFound}
 use Rattle.history_reading.specs.Moving.{IsMoved}
 
@@ -48,3 +48,7 @@ moved-on timetable network base file bytes count P is moved = record {
 
 pub was-empty : (contents : Option (List ℕ)) (len : ℕ) → len ≡ 0 → IfSome contents (λ bytes. len ≡ length bytes) → IfSome contents (λ bytes. bytes ≡ [])
 was-empty contents len none counts = if-some (λ bytes. len ≡ length bytes) (λ bytes. bytes ≡ []) contents (λ bytes told count. nil_from_length bytes (omega (arith, count, none))) counts
+
+-- the gate that was found is the last byte that counts
+pub used-found : (network base : List ℕ) (entries : List Entry) (gate : ℕ) → length (header_of network base) ≡ 76 → length (front_of (header_of network base) (bodies_of entries)) + 1 ≡ bytes_of entries → gate ≡ 76 + length (opened (bodies_of entries)) → gate + 1 ≡ bytes_of entries
+used-found network base entries gate size counted place = omega (arith, size, counted, length-append (header_of network base) (opened (bodies_of entries)), place)

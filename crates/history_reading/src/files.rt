@@ -1,10 +1,12 @@
-ghost use Rattle.std.specs.Prelude.{◌≡◌, ◌+◌, ◌<◌, ◌≤◌, ◌^◌, [], ℕ, List, Some, IfErr, IfOk, IfSome, OnOk};
+ghost use Rattle.std.specs.Prelude.{◌≡◌, ◌+◌, ◌<◌, ◌≤◌, ◌^◌, [], ℕ, List, All, Some, IfErr, IfOk, IfSome, OnOk, length};
+ghost use Rattle.journal_text.specs.Histories.{bodies_of, bytes_of};
 ghost use Rattle.history_reading.specs.Failing.{IsAsFaulty, IsNotOfDisk, IsOnlyRead, IsUnread};
 ghost use Rattle.history_reading.specs.Files.{IsFound, IsRefused};
 
 use crate::histories::{Found, read_history};
 use grant_log::History;
 use journal_reading::{OpenFault, pass_header};
+use journal_text::bytes_are_counted;
 use outside_io::Disk;
 use std::alloc::Global;
 
@@ -49,6 +51,9 @@ pub fn read_journal<D: Disk>(
     ensures found { IfOk result (λ found. IfSome (D.contents disk.old) (λ file. IsFound
         empty.timetable version network.now base.now file found.history.entries found.gate)) }
     ensures room { IfOk result (λ found. found.gate + 1 < 2 ^ 64) }
+    ensures used { IfOk result (λ found. found.gate + 1 ≡ bytes_of found.history.entries) }
+    ensures short { IfOk result (λ found.
+        All (λ body. length body < 2 ^ 32) (bodies_of found.history.entries)) }
     ensures durable { OnOk result ((image : List ℕ) → D.images disk.new image →
         D.contents disk.old ≡ Some image) }
     ensures read { IsOnlyRead D.Disk disk.old disk.new }
@@ -75,10 +80,15 @@ pub(crate) fn read_bytes(
     ensures found { IfOk result (λ found. IsFound
         empty.timetable version network.now base.now file.now found.history.entries found.gate) }
     ensures room { IfOk result (λ found. found.gate + 1 < 2 ^ 64) }
+    ensures used { IfOk result (λ found. found.gate + 1 ≡ bytes_of found.history.entries) }
+    ensures short { IfOk result (λ found.
+        All (λ body. length body < 2 ^ 32) (bodies_of found.history.entries)) }
     ensures refused { IfErr result
         (IsRefused empty.timetable version network.now base.now file.now) }
     ensures quiet { IfErr result IsNotOfDisk }
 {
+    bytes_are_counted();
     let left = pass_header(file, version, network, base)?;
-    read_history(alloc, empty, left, version)
+    let found = read_history(alloc, empty, left, version)?;
+    Ok(found)
 }
