@@ -1,17 +1,9 @@
 -- Lists over a range of numbers, as the range grows by one.
-<<<<<<< HEAD
-use Rattle.std.proofs.Common.{◌≡◌, ℕ, zero, suc, ◌+◌, List, [], ◌∷◌, ◌++◌, map, slice_index_or, ap, ◌∙◌, arith, append_assoc}
-=======
 use Rattle.std.proofs.Common.{◌≡◌, ℕ, zero, suc, ◌+◌, List, [], ◌∷◌, ◌++◌, slice_index_or, ap, ◌∙◌, arith}
->>>>>>> 6df89c7ba1d5c65164cc1cca30c1d85d721ad2fd
 use Rattle.std.specs.List.{flat_map, range_with_len}
 use Rattle.std.proofs.lemmas.Grind.{flat_map-append}
 use Rattle.std.proofs.lemmas.List.{append-nil}
 use Rattle.std.proofs.lemmas.List.FromFn.{map-range_with_len_more}
-<<<<<<< HEAD
-use Rattle.named_network.specs.declared.BlockName.{BlockName}
-=======
->>>>>>> 6df89c7ba1d5c65164cc1cca30c1d85d721ad2fd
 use Rattle.track_graph.specs.Layouts.{Layout, zone_at}
 use Rattle.track_graph.specs.Pieces.{pieces_of}
 use Rattle.signal_blocks.specs.Names.{no_piece, route_parts, zoned_on, zoned_pieces, zoned_up_to}

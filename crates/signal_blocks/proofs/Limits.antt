@@ -1,15 +1,8 @@
 -- What lies along the tracks is on them and within its limits.
-<<<<<<< HEAD
-use Rattle.std.proofs.Common.{◌≡◌, ℕ, zero, suc, ◌+◌, ◌<◌, ◌≤◌, List, [], ◌∷◌, ◌++◌, length, map, Option, Some, None, IfSome, arith}
-use Rattle.std.specs.List.{All}
-use Rattle.std.proofs.lemmas.List.{length-map}
-use Rattle.std.proofs.lemmas.List.Elements.{All-nil, All-cons, All-append, All-head, All-tail, All-map}
-=======
 use Rattle.std.proofs.Common.{ℕ, ◌+◌, ◌<◌, ◌≤◌, List, [], ◌∷◌, length, Option, Some, None, IfSome, arith}
 use Rattle.std.specs.List.{All}
 use Rattle.std.proofs.lemmas.List.{length-map}
 use Rattle.std.proofs.lemmas.List.Elements.{All-nil, All-append, All-head, All-tail, All-map}
->>>>>>> 6df89c7ba1d5c65164cc1cca30c1d85d721ad2fd
 use Rattle.block_cuts.specs.declared.lines.SpeedRange.{SpeedRange}
 use Rattle.block_cuts.specs.declared.lines.StopPart.{StopPart}
 use Rattle.infra_types.specs.declared.infras.Infra.{Infra}
@@ -35,13 +28,8 @@ ranges_kept lengths [] all = All-nil (IsKept (length lengths))
 ranges_kept lengths (section ∷ sections) all =
     let here : IsSpeed lengths section = All-head (IsSpeed lengths) section sections all in
     All-append (IsKept (length lengths)) (limited section.limit section.ranges) (speed_ranges sections)
-<<<<<<< HEAD
-      (limited_kept lengths section.limit section.ranges here.limit here.ranges)
-      (ranges_kept lengths sections (All-tail (IsSpeed lengths) section sections all))
-=======
     (limited_kept lengths section.limit section.ranges here.limit here.ranges)
     (ranges_kept lengths sections (All-tail (IsSpeed lengths) section sections all))
->>>>>>> 6df89c7ba1d5c65164cc1cca30c1d85d721ad2fd
 
 pub ranges_on_tracks : (infra : Infra) → IsInfra infra → All (λ range. range.range.track < length infra.tracks) (speed_ranges infra.speeds)
 ranges_on_tracks infra is k d lt =
@@ -63,13 +51,8 @@ parts_kept count stops stop (point ∷ points) le all =
     let here : IsPoint count point = All-head (IsPoint count) point points all in
     let below : stop < stops = omega (arith, le) in
     All-append (IsPart count stops) (parts_of stop point) (parts_from (stop + 1) points)
-<<<<<<< HEAD
-      (All-map (IsPart count stops) (λ (part : Part). record { stop = stop; part = part }) point.parts (λ k d lt. (here.parts k d lt, below)))
-      (parts_kept count stops (stop + 1) points (omega (arith, le)) (All-tail (IsPoint count) point points all))
-=======
     (All-map (IsPart count stops) (λ (part : Part). record { stop = stop; part = part }) point.parts (λ k d lt. (here.parts k d lt, below)))
     (parts_kept count stops (stop + 1) points (omega (arith, le)) (All-tail (IsPoint count) point points all))
->>>>>>> 6df89c7ba1d5c65164cc1cca30c1d85d721ad2fd
 
 pub parts_on_tracks : (infra : Infra) → IsInfra infra → All (λ part. part.part.track < length infra.tracks) (stop_parts infra.points)
 parts_on_tracks infra is k d lt = (parts_kept (length infra.tracks) (length infra.points) 0 infra.points (omega arith) is.points k d lt).0

@@ -1,9 +1,5 @@
 -- Faults as they are told, and a network with its names.
-<<<<<<< HEAD
-use Rattle.std.proofs.Common.{◌≡◌, ℕ, ◌+◌, ◌-◌, ◌<◌, ◌≤◌, ◌^◌, List, [], ◌∷◌, ◌++◌, length, map, Option, Some, None, slice_index_or, refl, sym, ap, ◌∙◌, arith, length-append}
-=======
 use Rattle.std.proofs.Common.{◌≡◌, ℕ, ◌+◌, ◌<◌, ◌≤◌, List, [], ◌∷◌, ◌++◌, length, Option, None, refl, sym, ◌∙◌, arith, length-append}
->>>>>>> 6df89c7ba1d5c65164cc1cca30c1d85d721ad2fd
 use Rattle.std.specs.List.{All, range_with_len}
 use Rattle.std.proofs.lemmas.List.Elements.{All-nil, All-cons, All-append, All-head, All-tail, All-map}
 use Rattle.std.proofs.lemmas.List.FromFn.{length-map-range_with_len}
@@ -32,11 +28,7 @@ use Rattle.track_graph.specs.declared.faults.GraphFault.TheVariants as graphs
 use Rattle.track_graph.specs.Layouts.{IsLayoutOf, Layout, Tells}
 use Rattle.signal_blocks.specs.Inside.{told_blocks, told_graph, told_walk}
 use Rattle.signal_blocks.specs.Names.{block_names, route_parts, zone_name, zoned_pieces}
-<<<<<<< HEAD
-use Rattle.signal_blocks.specs.Networks.{HasFault, IsNetworkOf, NetTells, named_fault, route_name}
-=======
 use Rattle.signal_blocks.specs.Networks.{HasFault, IsNetworkOf, NetTells, named_fault}
->>>>>>> 6df89c7ba1d5c65164cc1cca30c1d85d721ad2fd
 use Rattle.signal_blocks.specs.Railways.{AreWalksOf}
 
 pub graph_tells : (infra : Infra) (fault : GraphFault) → Tells infra fault → NetTells infra (told_graph fault)
@@ -78,13 +70,8 @@ names_are_ids sights (route ∷ routes) [] ids = All-nil (λ (block : BlockName)
 names_are_ids sights (route ∷ routes) (walk ∷ walks) ids =
     let here : IsId route.id = All-head (λ (route : Route). IsId route.id) route routes ids in
     All-append (λ (block : BlockName). IsId block.route) (route_parts route.id (block_count sights walk)) (block_names sights routes walks)
-<<<<<<< HEAD
-      (All-map (λ (block : BlockName). IsId block.route) (λ part. record { route = route.id; part = part }) (range_with_len 0 (block_count sights walk)) (λ k d lt. here))
-      (names_are_ids sights routes walks (All-tail (λ (route : Route). IsId route.id) route routes ids))
-=======
     (All-map (λ (block : BlockName). IsId block.route) (λ part. record { route = route.id; part = part }) (range_with_len 0 (block_count sights walk)) (λ k d lt. here))
     (names_are_ids sights routes walks (All-tail (λ (route : Route). IsId route.id) route routes ids))
->>>>>>> 6df89c7ba1d5c65164cc1cca30c1d85d721ad2fd
 
 pub walked_more : (infra : Infra) (layout : Layout) (count : ℕ) (before : List Walk) (walk : Walk) → AreWalksOf infra layout count before → IsWalkOf infra layout count walk → AreWalksOf infra layout (count + 1) (before ++ walk ∷ [])
 walked_more infra layout count before walk are is =
@@ -94,28 +81,14 @@ walked_more infra layout count before walk are is =
       long = omega (arith, long, more);
       each = λ route d lt. elim (ℕ_discrete route count) [
         | yes here ↦ (let at : length before ≡ route = omega (arith, long, here) in rw (get_or_push before walk d route at, here) is)
-<<<<<<< HEAD
-        | no apart ↦ (let below : route < count = omega (arith, lt, apart) in rw (get_or_append_left before (walk ∷ []) d route (omega (arith, long, below))) (are.each route d below)) ];
-=======
         | no apart ↦ (let below : route < count = omega (arith, lt, apart) in rw (get_or_append_left before (walk ∷ []) d route (omega (arith, long, below))) (are.each route d below))
       ];
->>>>>>> 6df89c7ba1d5c65164cc1cca30c1d85d721ad2fd
     }
 
 -- the network of an infrastructure has names for all that it has
 pub is_named : (infra : Infra) (named : Named) → IsInfra infra → (it : IsNetworkOf infra named) → first_flaw named.network ≡ None → length named.network.blocks ≡ count_blocks it.railway.lines.sights it.railway.walks
     → All (λ zone. All (λ piece. IsId piece.track) zone.pieces) named.zones → IsNamed named
 is_named infra named is it sound count ids = record {
-<<<<<<< HEAD
-    sound = sound;
-    stops = rw it.stops (length-map infra.points (λ (point : OperationalPoint). point.id) ∙ sym it.is.stops ∙ sym it.network.stops);
-    blocks = rw it.blocks (names_counted it.railway.lines.sights infra.routes it.railway.walks it.is.walks.long ∙ sym count);
-    zones = rw it.zones (length-map-range_with_len {X = ZoneName} (zone_name infra.tracks (zoned_pieces it.layout (length infra.tracks))) 0 it.layout.count ∙ sym it.is.zones ∙ sym it.network.zones);
-    stop_ids = rw it.stops (All-map IsId (λ (point : OperationalPoint). point.id) infra.points is.ids.points);
-    route_ids = rw it.blocks (names_are_ids it.railway.lines.sights infra.routes it.railway.walks is.ids.routes);
-    track_ids = ids;
-  }
-=======
   sound = sound;
   stops = rw it.stops (length-map infra.points (λ (point : OperationalPoint). point.id) ∙ sym it.is.stops ∙ sym it.network.stops);
   blocks = rw it.blocks (names_counted it.railway.lines.sights infra.routes it.railway.walks it.is.walks.long ∙ sym count);
@@ -124,4 +97,3 @@ is_named infra named is it sound count ids = record {
   route_ids = rw it.blocks (names_are_ids it.railway.lines.sights infra.routes it.railway.walks is.ids.routes);
   track_ids = ids;
 }
->>>>>>> 6df89c7ba1d5c65164cc1cca30c1d85d721ad2fd

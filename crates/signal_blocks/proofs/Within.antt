@@ -1,9 +1,5 @@
 -- Pieces of track are short, and not too many.
-<<<<<<< HEAD
-use Rattle.std.proofs.Common.{◌≡◌, ℕ, zero, suc, ◌+◌, ◌<◌, ◌≤◌, ◌^◌, Bool, true, false, List, [], ◌∷◌, ◌++◌, length, map, take, find, Option, Some, None, option_map, slice_get, slice_index_or, if◌then◌else◌, refl, sym, ap, ◌∙◌, arith, append_assoc, ltb-false}
-=======
 use Rattle.std.proofs.Common.{◌≡◌, ℕ, zero, suc, ◌<◌, ◌≤◌, ◌^◌, Bool, true, false, List, [], ◌∷◌, ◌++◌, length, map, take, find, Option, Some, None, option_map, slice_get, slice_index_or, if◌then◌else◌, refl, sym, ap, ◌∙◌, arith, append_assoc, ltb-false}
->>>>>>> 6df89c7ba1d5c65164cc1cca30c1d85d721ad2fd
 use Rattle.std.specs.List.{All, sum_by}
 use Rattle.std.proofs.Math.Seq.{take-length}
 use Rattle.std.proofs.lemmas.List.Elements.{All-nil, All-cons, All-head, All-tail, All-contains_itself}
@@ -14,17 +10,9 @@ use Rattle.infra_types.specs.declared.tracks.Track.{Track}
 use Rattle.infra_types.specs.Infras.{IsInfra, IsTrack}
 use Rattle.rail_types.specs.declared.limits.TheConstants.{MAX_TRACK_LENGTH_M}
 use Rattle.track_graph.specs.declared.pieces.Piece.{Piece}
-<<<<<<< HEAD
-use Rattle.track_graph.specs.declared.stands.Stand.{Stand}
-use Rattle.track_graph.specs.Faults.{Located, all_located, first_off, is_off, placed_at, points_at, signals_at}
-use Rattle.track_graph.specs.Layouts.{IsLayout, IsLayoutOf, Layout}
-use Rattle.track_graph.specs.Pieces.{AreCuts, length_of, metres_of, pieces_from, pieces_of}
-use Rattle.track_graph.specs.Stands.{AreStands, stands_of}
-=======
 use Rattle.track_graph.specs.Faults.{Located, all_located, first_off, is_off, placed_at, points_at, signals_at}
 use Rattle.track_graph.specs.Layouts.{IsLayoutOf, Layout}
 use Rattle.track_graph.specs.Pieces.{length_of, pieces_from, pieces_of}
->>>>>>> 6df89c7ba1d5c65164cc1cca30c1d85d721ad2fd
 use Rattle.signal_blocks.specs.Inside.{IsOwn}
 
 no_name : (o : Option Located) → option_map (λ (one : Located). one.id) o ≡ None → o ≡ None
@@ -66,11 +54,7 @@ pieces_within count track begin [] length_m lt from all to =
 pieces_within count track begin (cut ∷ cuts) length_m lt from all to =
     let here : cut ≤ MAX_TRACK_LENGTH_M = All-head (λ cut. cut ≤ MAX_TRACK_LENGTH_M) cut cuts all in
     All-cons (IsOwn count) (record { track = track; begin = begin; end = cut }) (pieces_from track cut cuts length_m) ((omega (arith, from), omega (arith, here)), lt)
-<<<<<<< HEAD
-      (pieces_within count track cut cuts length_m lt here (All-tail (λ cut. cut ≤ MAX_TRACK_LENGTH_M) cut cuts all) to)
-=======
     (pieces_within count track cut cuts length_m lt here (All-tail (λ cut. cut ≤ MAX_TRACK_LENGTH_M) cut cuts all) to)
->>>>>>> 6df89c7ba1d5c65164cc1cca30c1d85d721ad2fd
 
 pub pieces_own : (infra : Infra) (layout : Layout) → IsInfra infra → IsLayoutOf infra layout → (track : ℕ) → track < length layout.infra.tracks → All (IsOwn (length layout.infra.tracks)) (pieces_of layout.pieces track)
 pieces_own infra layout is of track lt =
@@ -80,15 +64,6 @@ pieces_own infra layout is of track lt =
     let tracks : All IsTrack layout.infra.tracks = rw same is.tracks in
     let long = track_within layout.infra.tracks track tracks in
     let cuts : All (λ cut. cut ≤ MAX_TRACK_LENGTH_M) pieces.0 = λ k d below.
-<<<<<<< HEAD
-        (let cut = (pieces.1.each (slice_index_or pieces.0 k d)).0 (All-contains_itself pieces.0 k d below) in
-        let stand = (stands.each cut.0).0 cut.1 in
-        let placed = detectors_on_tracks layout.infra cut.0.number stand.1.placed of.sound.within stand.1.is in
-        let whole : length_of layout.infra.tracks stand.1.placed.track ≤ MAX_TRACK_LENGTH_M = track_within layout.infra.tracks stand.1.placed.track tracks in
-        let there = stand.1.position in
-        let here = cut.2 in
-        omega (arith, placed, whole, there, here)) in
-=======
     (let cut = (pieces.1.each (slice_index_or pieces.0 k d)).0 (All-contains_itself pieces.0 k d below) in
     let stand = (stands.each cut.0).0 cut.1 in
     let placed = detectors_on_tracks layout.infra cut.0.number stand.1.placed of.sound.within stand.1.is in
@@ -96,7 +71,6 @@ pieces_own infra layout is of track lt =
     let there = stand.1.position in
     let here = cut.2 in
     omega (arith, placed, whole, there, here)) in
->>>>>>> 6df89c7ba1d5c65164cc1cca30c1d85d721ad2fd
     rw pieces.2 (pieces_within (length layout.infra.tracks) track 0 pieces.0 (length_of layout.infra.tracks track) lt (omega arith) cuts long)
 
 row_within : (rows : List (List Piece)) (k : ℕ) → length (pieces_of rows k) ≤ sum_by length rows

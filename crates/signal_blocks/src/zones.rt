@@ -34,15 +34,7 @@ impl InRow for ZonedPiece {
 
 /// The pieces of all tracks with their zones, by track, then from its begin to its end.
 #[tactic(auto, using(crate::proofs::Growing::tracks_grow))]
-<<<<<<< HEAD
-fn zoned_pieces(
-    alloc: Global,
-    graph: &Graph,
-    tracks: u32,
-) -> Result<List<ZonedPiece>, NoMemory>
-=======
 fn zoned_pieces(alloc: Global, graph: &Graph, tracks: u32) -> Result<List<ZonedPiece>, NoMemory>
->>>>>>> 6df89c7ba1d5c65164cc1cca30c1d85d721ad2fd
     requires tracks { tracks ≤ length graph.now.infra.tracks }
     requires few { (track : ℕ) → length (pieces_of graph.now.pieces track) < 2 ^ 32 }
     requires own { (track : ℕ) → track < length graph.now.infra.tracks
@@ -78,15 +70,7 @@ fn add_zoned(graph: &Graph, track: u32, to: &mut List<ZonedPiece>) -> Result<(),
     Ok(())
 }
 
-<<<<<<< HEAD
-fn track_piece(
-    alloc: Global,
-    tracks: &[Track],
-    one: &ZonedPiece,
-) -> Result<TrackPiece, NoMemory>
-=======
 fn track_piece(alloc: Global, tracks: &[Track], one: &ZonedPiece) -> Result<TrackPiece, NoMemory>
->>>>>>> 6df89c7ba1d5c65164cc1cca30c1d85d721ad2fd
     requires own { IsOwn (length tracks.now) one.now.piece }
     requires ids { All (λ track. IsId track.id) tracks.now }
     ensures piece { IfOk result (λ piece. piece ≡ track_piece tracks.now one.now) }
@@ -101,15 +85,7 @@ fn track_piece(alloc: Global, tracks: &[Track], one: &ZonedPiece) -> Result<Trac
 }
 
 /// The name of a zone with these pieces.
-<<<<<<< HEAD
-fn zone_name(
-    alloc: Global,
-    tracks: &[Track],
-    pieces: &[ZonedPiece],
-) -> Result<ZoneName, NoMemory>
-=======
 fn zone_name(alloc: Global, tracks: &[Track], pieces: &[ZonedPiece]) -> Result<ZoneName, NoMemory>
->>>>>>> 6df89c7ba1d5c65164cc1cca30c1d85d721ad2fd
     requires own { All (λ one. IsOwn (length tracks.now) one.piece) pieces.now }
     requires ids { All (λ track. IsId track.id) tracks.now }
     ensures name { IfOk result (λ name. name.pieces ≡ map (track_piece tracks.now) pieces.now) }

@@ -2,12 +2,7 @@ use Rattle.std.proofs.Common.{rules, ◌≡◌, ◌<◌, ◌^◌, arith}
 use Rattle.std.specs.List.{All}
 use Rattle.block_cuts.specs.Cuts.{block_count}
 use Rattle.route_walk.specs.declared.walks.Walk.{Walk}
-<<<<<<< HEAD
-use Rattle.signal_blocks.specs.Names.{block_names, stop_names, zone_names}
-use Rattle.signal_blocks.specs.Networks.{IsNetworkOf}
-=======
 use Rattle.signal_blocks.specs.Names.{block_names, stop_names}
->>>>>>> 6df89c7ba1d5c65164cc1cca30c1d85d721ad2fd
 use Rattle.signal_blocks.proofs.Whole.{each_few, is_named}
 use Rattle.signal_blocks.proofs.networks.named_network.Goals as goal
 

@@ -1,8 +1,4 @@
-<<<<<<< HEAD
-use Rattle.std.proofs.Common.{rules, ◌≡◌, ◌<◌, ◌≤◌, length}
-=======
 use Rattle.std.proofs.Common.{rules, ◌≡◌, ◌<◌, length}
->>>>>>> 6df89c7ba1d5c65164cc1cca30c1d85d721ad2fd
 use Rattle.std.specs.List.{All}
 use Rattle.block_cuts.specs.declared.lines.StopPart.{StopPart}
 use Rattle.signal_blocks.specs.Lines.{stop_parts}

@@ -2,11 +2,7 @@ use Rattle.std.proofs.Common.{rules, ◌≡◌, ◌∷◌, ◌++◌, []}
 use Rattle.std.proofs.lemmas.List.Elements.{All-append, All-cons, All-nil}
 use Rattle.route_walk.specs.Sound.{IsSound}
 use Rattle.signal_blocks.specs.Railways.{point_count}
-<<<<<<< HEAD
-use Rattle.signal_blocks.proofs.Whole.{walk_tells, walked_more}
-=======
 use Rattle.signal_blocks.proofs.Whole.{walked_more}
->>>>>>> 6df89c7ba1d5c65164cc1cca30c1d85d721ad2fd
 use Rattle.signal_blocks.proofs.railways.walks_of.Goals as goal
 
 pub routes-preserved : goal.routes-preserved

@@ -1,8 +1,4 @@
 use Rattle.std.proofs.Common.{rules, ◌≡◌, ◌<◌, ◌∷◌, ◌++◌, [], append_assoc, length, slice_index_or}
-<<<<<<< HEAD
-use Rattle.std.specs.List.{All}
-=======
->>>>>>> 6df89c7ba1d5c65164cc1cca30c1d85d721ad2fd
 use Rattle.std.proofs.lemmas.List.Elements.{All-append, All-cons, All-nil}
 use Rattle.track_graph.specs.Layouts.{zone_at}
 use Rattle.track_graph.specs.Pieces.{pieces_of}

@@ -6,12 +6,6 @@ use Rattle.signal_blocks.proofs.zones.add_zoned.Given as goal
 
 abbrev pub invariant-pieces : goal.invariant-pieces
 invariant-pieces l = record {
-<<<<<<< HEAD
-    same : l.to ≡ l.initial.to ++ zoned_up_to l.graph l.track l.number;
-    zoned : All (IsZoned (length l.graph.infra.tracks) l.graph.count) l.to;
-  }
-=======
   same : l.to ≡ l.initial.to ++ zoned_up_to l.graph l.track l.number;
   zoned : All (IsZoned (length l.graph.infra.tracks) l.graph.count) l.to;
 }
->>>>>>> 6df89c7ba1d5c65164cc1cca30c1d85d721ad2fd

@@ -1,8 +1,4 @@
-<<<<<<< HEAD
-use Rattle.std.proofs.Common.{rules, ◌≡◌, length}
-=======
 use Rattle.std.proofs.Common.{length}
->>>>>>> 6df89c7ba1d5c65164cc1cca30c1d85d721ad2fd
 use Rattle.std.proofs.lemmas.List.Elements.{All-filter}
 use Rattle.signal_blocks.specs.Inside.{IsOwn}
 use Rattle.signal_blocks.specs.Names.{is_in_zone}

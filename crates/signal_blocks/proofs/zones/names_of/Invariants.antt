@@ -8,12 +8,6 @@ use Rattle.signal_blocks.proofs.zones.names_of.Given as goal
 
 abbrev pub invariant-zones : goal.invariant-zones
 invariant-zones l = record {
-<<<<<<< HEAD
-    same : l.names ≡ map (zone_name l.tracks l.rows) (range_with_len 0 l.zone);
-    ids : All (λ (zone : ZoneName). All (λ (piece : TrackPiece). IsId piece.track) zone.pieces) l.names;
-  }
-=======
   same : l.names ≡ map (zone_name l.tracks l.rows) (range_with_len 0 l.zone);
   ids : All (λ (zone : ZoneName). All (λ (piece : TrackPiece). IsId piece.track) zone.pieces) l.names;
 }
->>>>>>> 6df89c7ba1d5c65164cc1cca30c1d85d721ad2fd

@@ -7,12 +7,6 @@ use Rattle.signal_blocks.proofs.zones.zone_name.Given as goal
 
 abbrev pub invariant-pieces : goal.invariant-pieces
 invariant-pieces l = record {
-<<<<<<< HEAD
-    rest : l.named ++ map (track_piece l.tracks) (drop l.one-index l.pieces) ≡ map (track_piece l.tracks) l.pieces;
-    ids : All (λ (piece : TrackPiece). IsId piece.track) l.named;
-  }
-=======
   rest : l.named ++ map (track_piece l.tracks) (drop l.one-index l.pieces) ≡ map (track_piece l.tracks) l.pieces;
   ids : All (λ (piece : TrackPiece). IsId piece.track) l.named;
 }
->>>>>>> 6df89c7ba1d5c65164cc1cca30c1d85d721ad2fd

@@ -6,12 +6,6 @@ use Rattle.signal_blocks.proofs.zones.zoned_pieces.Given as goal
 
 abbrev pub invariant-tracks : goal.invariant-tracks
 invariant-tracks l = record {
-<<<<<<< HEAD
-    same : l.pieces ≡ zoned_pieces l.graph l.track;
-    zoned : All (IsZoned (length l.graph.infra.tracks) l.graph.count) l.pieces;
-  }
-=======
   same : l.pieces ≡ zoned_pieces l.graph l.track;
   zoned : All (IsZoned (length l.graph.infra.tracks) l.graph.count) l.pieces;
 }
->>>>>>> 6df89c7ba1d5c65164cc1cca30c1d85d721ad2fd
