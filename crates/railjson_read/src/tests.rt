@@ -1,6 +1,6 @@
 //! Files with one fault each, files with two, and files without.
 
-use crate::{fault_text, read_infra};
+use crate::{Direction, RoutePoint, SwitchKind, fault_text, read_infra};
 use no_memory::NoMemory;
 use std::alloc::Global;
 use std::rt::HostRuntime;
@@ -594,4 +594,122 @@ fn faults_of_speed_sections_are_told(rt: HostRuntime) {
     for row in &rows {
         assert!(rt; is_told(rt.alloc(), TRACK, row).expect(&rt, "fault"));
     }
+}
+
+/// A piece so many times, between a front and a back.
+fn repeated(
+    alloc: Global,
+    front: &str,
+    piece: &str,
+    count: u64,
+    back: &str,
+) -> Result<Vec<u8>, NoMemory> {
+    let mut text = Vec::from_slice(alloc, front.as_bytes())?;
+    for _ in 0..count {
+        text.extend_from_slice(piece.as_bytes())?;
+    }
+    text.extend_from_slice(back.as_bytes())?;
+    Ok(text)
+}
+
+/// Lists in one another, so many.
+fn nested(alloc: Global, depth: u64) -> Result<Vec<u8>, NoMemory> {
+    let mut text = repeated(alloc, "", "[", depth, "")?;
+    let ends = repeated(alloc, "", "]", depth, "")?;
+    text.extend_from_slice(ends.as_slice())?;
+    Ok(text)
+}
+
+/// Whether these bytes are told this fault.
+fn is_told_of(alloc: Global, bytes: &[u8], fault: &str) -> Result<bool, NoMemory> {
+    let text = told(alloc, bytes)?;
+    Ok(text.as_slice() == fault.as_bytes())
+}
+
+#[test]
+fn hostile_shapes_are_told(rt: HostRuntime) {
+    let alloc = rt.alloc();
+    let deep = nested(alloc, 127).expect(&rt, "a text");
+    assert!(rt; is_told_of(alloc, deep.as_slice(), "kind file").expect(&rt, "fault"));
+    let deeper = nested(alloc, 128).expect(&rt, "a text");
+    assert!(rt; is_told_of(alloc, deeper.as_slice(), "not-json").expect(&rt, "fault"));
+    assert!(rt; is_told_of(alloc, b"{\"\xff\":[]}", "not-json").expect(&rt, "fault"));
+    let id = repeated(alloc, "{\"track_sections\":[{\"id\":\"", "a", 256, "\"}]}").expect(
+        &rt, "a text",
+    );
+    assert!(rt; is_told_of(alloc, id.as_slice(), "limit id 256").expect(&rt, "fault"));
+    let list = repeated(alloc, "{\"signals\":[5", ",5", 65536, "]}").expect(&rt, "a text");
+    assert!(rt; is_told_of(alloc, list.as_slice(), "limit list 65537").expect(&rt, "fault"));
+}
+
+/// A line that divides into two tracks at a station.
+const STATION: &str = "{\"track_sections\":[
+ {\"id\":\"TA\",\"length\":2000.0,\"geo\":{\"type\":\"LineString\",\"coordinates\":[[-0.4,49.5],[-0.3,49.5]]}},
+ {\"id\":\"TB\",\"length\":1000.0},{\"id\":\"TC\",\"length\":1000.0},{\"id\":\"TD\",\"length\":2000.0}],
+\"switches\":[
+ {\"id\":\"PA\",\"switch_type\":\"point_switch\",\"group_change_delay\":4.0,\"ports\":{
+  \"A\":{\"endpoint\":\"END\",\"track\":\"TA\"},\"B1\":{\"endpoint\":\"BEGIN\",\"track\":\"TB\"},\"B2\":{\"endpoint\":\"BEGIN\",\"track\":\"TC\"}}},
+ {\"id\":\"PC\",\"switch_type\":\"point_switch\",\"ports\":{
+  \"A\":{\"endpoint\":\"BEGIN\",\"track\":\"TD\"},\"B1\":{\"endpoint\":\"END\",\"track\":\"TB\"},\"B2\":{\"endpoint\":\"END\",\"track\":\"TC\"}}}],
+\"detectors\":[
+ {\"id\":\"DA\",\"track\":\"TA\",\"position\":1900.0},{\"id\":\"DB1\",\"track\":\"TB\",\"position\":100.0},
+ {\"id\":\"DB2\",\"track\":\"TB\",\"position\":900.0},{\"id\":\"DC1\",\"track\":\"TC\",\"position\":100.0},
+ {\"id\":\"DC2\",\"track\":\"TC\",\"position\":900.0},{\"id\":\"DD\",\"track\":\"TD\",\"position\":100.0}],
+\"buffer_stops\":[{\"id\":\"BW\",\"track\":\"TA\",\"position\":0.0},{\"id\":\"BE\",\"track\":\"TD\",\"position\":2000.0}],
+\"signals\":[
+ {\"id\":\"SA\",\"track\":\"TA\",\"position\":1880.0,\"direction\":\"START_TO_STOP\",\"sight_distance\":400.0,
+  \"extensions\":{\"sncf\":{\"label\":\"1\"}},\"logical_signals\":[{\"signaling_system\":\"BAL\"}]},
+ {\"id\":\"SB\",\"track\":\"TB\",\"position\":880.0,\"direction\":\"START_TO_STOP\",\"sight_distance\":300.0,
+  \"logical_signals\":[{\"signaling_system\":\"BAL\"}]},
+ {\"id\":\"SC\",\"track\":\"TC\",\"position\":880.0,\"direction\":\"START_TO_STOP\",\"sight_distance\":300.0,
+  \"logical_signals\":[{\"signaling_system\":\"BAL\"}]},
+ {\"id\":\"SD\",\"track\":\"TD\",\"position\":120.0,\"direction\":\"STOP_TO_START\",\"sight_distance\":400.0,
+  \"logical_signals\":[{\"signaling_system\":\"BAL\"}]}],
+\"routes\":[
+ {\"id\":\"rt.BW->DA\",\"entry_point\":{\"type\":\"BufferStop\",\"id\":\"BW\"},\"entry_point_direction\":\"START_TO_STOP\",
+  \"exit_point\":{\"type\":\"Detector\",\"id\":\"DA\"},\"switches_directions\":{},\"release_detectors\":[]},
+ {\"id\":\"rt.DA->DB2\",\"entry_point\":{\"type\":\"Detector\",\"id\":\"DA\"},\"entry_point_direction\":\"START_TO_STOP\",
+  \"exit_point\":{\"type\":\"Detector\",\"id\":\"DB2\"},\"switches_directions\":{\"PA\":\"A_B1\"},\"release_detectors\":[\"DB1\"]},
+ {\"id\":\"rt.DA->DC2\",\"entry_point\":{\"type\":\"Detector\",\"id\":\"DA\"},\"entry_point_direction\":\"START_TO_STOP\",
+  \"exit_point\":{\"type\":\"Detector\",\"id\":\"DC2\"},\"switches_directions\":{\"PA\":\"A_B2\"},\"release_detectors\":[\"DC1\"]},
+ {\"id\":\"rt.DB2->BE\",\"entry_point\":{\"type\":\"Detector\",\"id\":\"DB2\"},\"entry_point_direction\":\"START_TO_STOP\",
+  \"exit_point\":{\"type\":\"BufferStop\",\"id\":\"BE\"},\"switches_directions\":{\"PC\":\"A_B1\"},\"release_detectors\":[\"DD\"]},
+ {\"id\":\"rt.DC2->BE\",\"entry_point\":{\"type\":\"Detector\",\"id\":\"DC2\"},\"entry_point_direction\":\"START_TO_STOP\",
+  \"exit_point\":{\"type\":\"BufferStop\",\"id\":\"BE\"},\"switches_directions\":{\"PC\":\"A_B2\"},\"release_detectors\":[]},
+ {\"id\":\"rt.BE->DD\",\"entry_point\":{\"type\":\"BufferStop\",\"id\":\"BE\"},\"entry_point_direction\":\"STOP_TO_START\",
+  \"exit_point\":{\"type\":\"Detector\",\"id\":\"DD\"},\"switches_directions\":{},\"release_detectors\":[]},
+ {\"id\":\"rt.DD->DB1\",\"entry_point\":{\"type\":\"Detector\",\"id\":\"DD\"},\"entry_point_direction\":\"STOP_TO_START\",
+  \"exit_point\":{\"type\":\"Detector\",\"id\":\"DB1\"},\"switches_directions\":{\"PC\":\"A_B1\"},\"release_detectors\":[\"DB2\"]}],
+\"operational_points\":[
+ {\"id\":\"West\",\"parts\":[{\"track\":\"TA\",\"position\":1000.0}]},
+ {\"id\":\"Mid\",\"parts\":[{\"track\":\"TB\",\"position\":500.0},{\"track\":\"TC\",\"position\":500.0}]},
+ {\"id\":\"East\",\"parts\":[{\"track\":\"TD\",\"position\":1000.0}]}],
+\"speed_sections\":[
+ {\"id\":\"line\",\"speed_limit\":22.22222222222222,\"track_ranges\":[
+  {\"track\":\"TA\",\"begin\":0.0,\"end\":2000.0,\"applicable_directions\":\"BOTH\"},
+  {\"track\":\"TC\",\"begin\":0.0,\"end\":1000.0,\"applicable_directions\":\"BOTH\"},
+  {\"track\":\"TD\",\"begin\":0.0,\"end\":2000.0,\"applicable_directions\":\"BOTH\"}]},
+ {\"id\":\"yard\",\"speed_limit\":8.333333333333334,\"track_ranges\":[
+  {\"track\":\"TB\",\"begin\":0.0,\"end\":1000.0,\"applicable_directions\":\"BOTH\"}]}]}";
+
+#[test]
+fn names_of_a_station_become_numbers(rt: HostRuntime) {
+    let infra = read_infra(rt.alloc(), STATION.as_bytes()).expect(&rt, "a station");
+    assert!(rt; infra.tracks.len() == 4 && infra.switches.len() == 2);
+    assert!(rt; infra.detectors.len() == 6 && infra.buffer_stops.len() == 2);
+    assert!(rt; infra.signals.len() == 4 && infra.routes.len() == 7);
+    assert!(rt; infra.points.len() == 3 && infra.speeds.len() == 2);
+    assert!(rt; matches!(infra.tracks.get(3), Some(track) if track.length == 2000));
+    assert!(rt;
+        matches!(infra.detectors.get(4), Some(found) if found.track == 2 && found.position == 900)
+    );
+    assert!(rt; matches!(infra.switches.get(1), Some(switch) if switch.kind == SwitchKind::Point));
+    assert!(rt;
+        matches!(infra.routes.get(6), Some(route) if route.entry == RoutePoint::Detector(5))
+    );
+    assert!(rt;
+        matches!(infra.routes.get(6), Some(route) if route.direction == Direction::StopToStart)
+    );
+    assert!(rt; matches!(infra.speeds.get(0), Some(section) if section.limit == Some(22222)));
+    assert!(rt; matches!(infra.speeds.get(1), Some(section) if section.limit == Some(8333)));
 }
