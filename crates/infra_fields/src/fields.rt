@@ -207,12 +207,7 @@ pub fn not_negative(
 }
 
 /// The whole metres of a field.
-pub fn metres(
-    alloc: Global,
-    place: &Place,
-    value: &Value,
-    field: &str,
-) -> Result<u64, InfraFault>
+pub fn metres(alloc: Global, place: &Place, value: &Value, field: &str) -> Result<u64, InfraFault>
     ensures metres { Gives (λ metres. metres) result (metres_at place.now field.now (view value.now)) }
     ensures small { IfOk result (λ metres. metres < 2 ^ 63) }
 {

@@ -54,12 +54,7 @@ fn direction_named(word: &str) -> Option<Direction>
 }
 
 /// The end of a track in a field.
-pub fn end(
-    alloc: Global,
-    place: &Place,
-    value: &Value,
-    field: &str,
-) -> Result<End, InfraFault>
+pub fn end(alloc: Global, place: &Place, value: &Value, field: &str) -> Result<End, InfraFault>
     ensures { Gives (λ end. end) result (end_at place.now field.now (view value.now)) }
 {
     let word = text(alloc, place, value, field)?;
