@@ -68,11 +68,13 @@ module _ {D : Type 0} (disk : Ghosts D) (network base : List ℕ) (history : Reg
 
   pub settled_told : (told : Settled) → Settling disk old new (header_of network base) (bodies_of history.entries) told → Settles disk (ledger_of network base history old) (ledger_of network base history new) told
   settled_told Put leaves =
-      let count = bodies_count history.entries in
-      (leaves.1.0 ∙ count, elim leaves.1.1 [
-        | inl idle ↦ inl (idle.0 ∙ count, ap (ledger_of network base history) idle.1)
-        | inr more ↦ inr (subst (λ n. settled_of old < n) count more.0, more.1)
-      ])
+      let count = bodies_count history.entries in (
+        leaves.1.0 ∙ count,
+        elim leaves.1.1 [
+          | inl idle ↦ inl (idle.0 ∙ count, ap (ledger_of network base history) idle.1)
+          | inr more ↦ inr (subst (λ n. settled_of old < n) count more.0, more.1)
+        ],
+      )
   settled_told Failed leaves = (subst (λ n. settled_of old < n) (bodies_count history.entries) leaves.1, leaves.0.moments)
 
 -- ---- an entry entered

@@ -61,10 +61,13 @@ last_not held claims from at None not known = λ k both. elim (cases_lt k at) [
   | inl less ↦ known k (less, both.1)
   | inr more ↦ not (subst (EntryClashes held claims) (let less = both.0 in omega (arith, less, more)) both.1.1)
 ]
-last_not held claims from at (Some last) not known = ((let less = known.0.0 in omega (arith, less), known.0.1), λ k later both. elim (cases_lt k at) [
-  | inl less ↦ known.1 k later (less, both.1)
-  | inr more ↦ not (subst (EntryClashes held claims) (let less = both.0 in omega (arith, less, more)) both.1.1)
-])
+last_not held claims from at (Some last) not known = (
+  (let less = known.0.0 in omega (arith, less), known.0.1),
+  λ k later both. elim (cases_lt k at) [
+    | inl less ↦ known.1 k later (less, both.1)
+    | inr more ↦ not (subst (EntryClashes held claims) (let less = both.0 in omega (arith, less, more)) both.1.1)
+  ],
+)
 
 pub last_of_all : (held : List HeldClaim) (claims : List Claim) (from count : ℕ) (last : Option ℕ) → ((at : ℕ) → EntryClashes held claims at → at < count) → LastBelow held claims from count last → IsGreatest (EntryClashesFrom held claims from) last
 last_of_all held claims from count None all known = λ at both. known at (all at both.1, both)

@@ -35,10 +35,10 @@ impl<D: Disk> Model for Book<D> {
     ghost Value = { Ledger D };
 
     ghost view = { λ b.
-      ledger_of b.parts.network b.parts.base b.parts.history b.parts.journal };
+        ledger_of b.parts.network b.parts.base b.parts.history b.parts.journal };
 
     ghost invariant = { λ b.
-      AreOne D.Disk b.parts.network b.parts.base b.parts.history b.parts.claims b.parts.journal };
+        AreOne D.Disk b.parts.network b.parts.base b.parts.history b.parts.claims b.parts.journal };
 }
 
 impl<D: Disk> Book<D> {
@@ -249,8 +249,7 @@ impl<D: Disk> Book<D> {
 // For clauses: how long a digest is.
 fn has_its_bytes(digest: &[u8; 32])
     ensures { length digest.now ≡ 32 }
-{
-}
+{}
 
 // Drops an entry that is refused.
 fn refuse(_entry: Entry, told: Committed) -> Committed

@@ -10,7 +10,8 @@ ghost use Rattle.path_commit.specs.Inside.{HasRoomToChange, IsChangeOf};
 
 use copy_since::{claims_at, hold_all, reserve_for};
 use grant_log::{
-    History, claims_are_on_the_network, fresh_claims_are_free, live_claims_are_unfreed, verdicts_say_what_they_mean,
+    History, claims_are_on_the_network, fresh_claims_are_free, live_claims_are_unfreed,
+    verdicts_say_what_they_mean,
 };
 use no_memory::NoMemory;
 use occupation_book::Occupations;

@@ -15,6 +15,7 @@ returns c =
     let entries = c.args.history.now.entries in
     let law : Unfreed t entries = λ claim at. c.live_claims_are_unfreed.ensures.unfreed t entries claim at in
     let own = c.deref.ensures.value ∙ c.in_ok-own.ensures in
-    let none = is_none c.freed_by.result (sym c.is_some.ensures ∙ c.if-is_some.false) in
-    ((λ answer. own_clash t entries c.args.claims.now law c.args.at (sym c.freed_by.ensures ∙ none) (subst (λ l. ClashesOwn l c.args.claims.now) own (c.any_clashes-answer.ensures.0 answer))),
-    (λ clash. c.any_clashes-answer.ensures.1 (subst (λ l. ClashesOwn l c.args.claims.now) (sym own) (clash_own t entries c.args.claims.now law c.args.at clash).1)))
+    let none = is_none c.freed_by.result (sym c.is_some.ensures ∙ c.if-is_some.false) in (
+      (λ answer. own_clash t entries c.args.claims.now law c.args.at (sym c.freed_by.ensures ∙ none) (subst (λ l. ClashesOwn l c.args.claims.now) own (c.any_clashes-answer.ensures.0 answer))),
+      (λ clash. c.any_clashes-answer.ensures.1 (subst (λ l. ClashesOwn l c.args.claims.now) (sym own) (clash_own t entries c.args.claims.now law c.args.at clash).1)),
+    )
