@@ -79,8 +79,8 @@ none_of_map at (Some place) none = let wrong : Some (at + 1 + place) ≡ None = 
 pub unfreed_by : (entries : List Entry) (at : ℕ) → ((k : ℕ) (entry : Entry) → at < k → slice_get entries k ≡ Some entry → entry.deed ≢ Free at) → freed_by entries at ≡ None
 unfreed_by entries at none =
     let nowhere = position_none (λ entry. frees at entry.deed) (drop (at + 1) entries) (all_by (λ entry. frees at entry.deed ≡ false) (drop (at + 1) entries) (λ entry inside.
-        let place = found_at (drop (at + 1) entries) entry inside in
-        is_false (frees at entry.deed) (λ test. none (at + 1 + place.0) entry (omega arith) (sym (slice_get_drop (at + 1) entries place.0) ∙ place.1) (frees_is at entry.deed test)))) in
+    let place = found_at (drop (at + 1) entries) entry inside in
+    is_false (frees at entry.deed) (λ test. none (at + 1 + place.0) entry (omega arith) (sym (slice_get_drop (at + 1) entries place.0) ∙ place.1) (frees_is at entry.deed test)))) in
     rw nowhere refl
 
 pub unfreed_is : (entries : List Entry) (at : ℕ) → freed_by entries at ≡ None → (k : ℕ) (entry : Entry) → at < k → slice_get entries k ≡ Some entry → entry.deed ≢ Free at
@@ -146,9 +146,10 @@ module _ (timetable : Timetable) (entries : List Entry) (front : ℕ) where
       | inr (at, entry, is) ↦
           let cut = slice_get_take front entries at entry is.stands in
           let apart : All (λ gone. gone.at ≢ at) freed = all_by (λ gone. gone.at ≢ at) freed (λ gone inside same. All-contains (λ gone. one.1 ≢ of_entry gone.at) freed gone others inside (is.owner ∙ ap of_entry (sym same))) in
-          let none = not_freed at cut.0 apart is.unfreed in
-          (subst (λ owner. Contains (live_claims timetable entries) (one.0, owner)) (sym is.owner) (unfreed_is_live timetable entries at entry one.0 cut.1 is.claim none),
-          λ k from same. let wrong = same_entry at k (sym is.owner ∙ same) in absurd (let less = cut.0 in omega (arith, wrong, less)))
+          let none = not_freed at cut.0 apart is.unfreed in (
+            subst (λ owner. Contains (live_claims timetable entries) (one.0, owner)) (sym is.owner) (unfreed_is_live timetable entries at entry one.0 cut.1 is.claim none),
+            λ k from same. let wrong = same_entry at k (sym is.owner ∙ same) in absurd (let less = cut.0 in omega (arith, wrong, less)),
+          )
     ]
 
     -- what is live now was left, or was brought
@@ -158,11 +159,14 @@ module _ (timetable : Timetable) (entries : List Entry) (front : ℕ) where
       | inr (at, entry, is) ↦ elim (cases_lt at front) [
         | inl less ↦
             let was : Contains (live_claims timetable (take front entries)) one = subst (λ owner. Contains (live_claims timetable (take front entries)) (one.0, owner)) (sym is.owner) (unfreed_is_live timetable (take front entries) at entry one.0 (take_slice_get front entries at less ∙ is.stands) is.claim (freed_take entries front at is.unfreed)) in
-            inl (was, all_by (λ gone. one.1 ≢ of_entry gone.at) freed (λ gone inside same.
-                let mine = same_entry at gone.at (sym is.owner ∙ same) in
-                let named = (All-contains (IsFreedSince timetable entries front) freed gone all.each inside).freed in
-                let later = named.later in
-                unfreed_is entries at is.unfreed named.by named.entry (omega arith) named.here (named.frees ∙ ap Free (sym mine))))
+            inl (
+              was,
+              all_by (λ gone. one.1 ≢ of_entry gone.at) freed (λ gone inside same.
+                  let mine = same_entry at gone.at (sym is.owner ∙ same) in
+                  let named = (All-contains (IsFreedSince timetable entries front) freed gone all.each inside).freed in
+                  let later = named.later in
+                  unfreed_is entries at is.unfreed named.by named.entry (omega arith) named.here (named.frees ∙ ap Free (sym mine))),
+            )
         | inr more ↦ inr (is_brought one at entry more is)
       ]
     ]
@@ -231,9 +235,9 @@ module _ (timetable : Timetable) (entries : List Entry) (front : ℕ) where
         let first : AllPairs (λ one other. ¬ Clash one.0 other.0) own = when_live (freed_by entries at) (owned_by at (claims_of timetable entry.deed)) (joined_apart (claims_of timetable entry.deed) at (joined entry (legal at entry here).in_range)) in
         let behind = apart_from (at + 1) others (λ k it is. let same : at + 1 + k ≡ at + suc k = omega arith in rw same (stand (suc k) it is)) (λ one inside. live one (Contains-append_right own rest one inside)) in
         all_pairs_append (λ one other. ¬ Clash one.0 other.0) own rest first behind (all_by (λ one. All (λ other. ¬ Clash one.0 other.0) rest) own (λ one inside. all_by (λ other. ¬ Clash one.0 other.0) rest (λ other there.
-            let mine = when_owned at (freed_by entries at) (claims_of timetable entry.deed) one inside in
-            let found = live_is timetable entries (at + 1) others other there in
-            live_apart one other (live one (Contains-append_left own rest one inside)) (live other (Contains-append_right own rest other there)) (λ same. let wrong = same_entry at (at + 1 + found.0) (sym mine ∙ same ∙ found.2.owner) in absurd (omega (arith, wrong))))))
+        let mine = when_owned at (freed_by entries at) (claims_of timetable entry.deed) one inside in
+        let found = live_is timetable entries (at + 1) others other there in
+        live_apart one other (live one (Contains-append_left own rest one inside)) (live other (Contains-append_right own rest other there)) (λ same. let wrong = same_entry at (at + 1 + found.0) (sym mine ∙ same ∙ found.2.owner) in absurd (omega (arith, wrong))))))
 
     pub brought_apart : AllPairs (λ one other. ¬ Clash one.0 other.0) (brought_since timetable entries front)
     brought_apart = apart_from front (drop front entries) (λ k entry is. sym (slice_get_drop front entries k) ∙ is) brought_live

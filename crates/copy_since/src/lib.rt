@@ -9,6 +9,3 @@ mod since;
 pub use holding::hold_all;
 pub use rooms::reserve_for;
 pub use since::{bring_up, claims_at, copy_of};
-
-#[cfg(test)]
-mod tests;

@@ -103,9 +103,10 @@ module _ {D : Type 0} (disk : Ghosts D) (only : (d : D) (image : List ℕ) → d
     settles-put told is noted gives =
         let left = gives (front_of header last.before) (counted last.body) last.pending in
         let more : settled_of new ≡ length bodies = omega (arith, found, ap length noted, length-append old.moments (disk.clock new.journal.disk ∷ []), last.count, ap length last.last, length-append last.before (last.body ∷ [])) in
-        subst (Settles disk old new header bodies) (sym is)
-        (record { keeps = keeps-by bodies _ noted (kept-settled disk.images disk.clock disk.since old.journal new.journal header bodies old.made old.found old.moments kept last only left); moments = refl; left = again left.1 },
-        (more, inr (fewer, noted)))
+        subst (Settles disk old new header bodies) (sym is) (
+          record { keeps = keeps-by bodies _ noted (kept-settled disk.images disk.clock disk.since old.journal new.journal header bodies old.made old.found old.moments kept last only left); moments = refl; left = again left.1 },
+          (more, inr (fewer, noted)),
+        )
 
 -- a journal at its making
 pub begins : {D : Type 0} (disk : Ghosts D) (only : (d : D) (image : List ℕ) → disk.since d (disk.clock d) image → disk.images d image) (journal : Gated D) (header : List ℕ) (bodies : List (List ℕ)) (found : ℕ) → found ≡ length bodies → journal.next ≡ journal.gate → journal.gate ≡ length (front_of header bodies) → All (λ body. length body < 2 ^ 32) bodies → ((image : List ℕ) → disk.images journal.disk image → ReadsAs header bodies image) → IsKept disk.images disk.clock disk.since journal header bodies (disk.clock journal.disk) found []

@@ -5,6 +5,3 @@
 mod timed;
 
 pub use timed::TimedJournal;
-
-#[cfg(test)]
-mod tests;

@@ -65,6 +65,7 @@ impl<D: Disk> TimedJournal<D> {
         ensures same { self.new ≡ record self.old { spare = self.new.spare } }
         ensures room { OnOk result (1 ≤ self.new.spare) }
         ensures had { 1 ≤ self.old.spare → IsOk result }
+        ensures kept { self.old.spare ≤ self.new.spare }
     {
         self.moments.reserve(1)?;
         Ok(())

@@ -47,6 +47,14 @@ IsTold timetable entries entry searched other =
     (verdict_on timetable entries entry ≡ Fresh)
     × (bytes_with entries entry ≤ timetable.settings.journal_bytes)
 
+-- an answer that leaves all as it was
+abbrev pub IsRefusal : Committed → Type 0
+IsRefusal (Refused verdict) = Unit {0}
+IsRefusal (Clash at) = Unit {0}
+IsRefusal Full = Unit {0}
+IsRefusal Memory = Unit {0}
+IsRefusal other = ⊥
+
 -- the history with one entry more
 abbrev pub with_entry : List Entry → Entry → List Entry
 with_entry entries entry = entries ++ entry ∷ []

@@ -25,10 +25,6 @@ abbrev pub IsGreatest : (ℕ → Type 0) → Option ℕ → Type 0
 IsGreatest P None = (at : ℕ) → ¬ P at
 IsGreatest P (Some at) = P at × ((later : ℕ) → at < later → ¬ P later)
 
--- inside: an entry from this position on holds one of these claims
-abbrev pub HoldsOneFrom : List HeldClaim → ℕ → ℕ → Type 0
-HoldsOneFrom claims from at = (from ≤ at) × (claim : Claim) × Contains claims (claim, of_entry at)
-
 -- inside: an entry from this position on holds a claim that clashes with one of these
 abbrev pub EntryClashesFrom : List HeldClaim → List Claim → ℕ → ℕ → Type 0
 EntryClashesFrom held claims from at = (from ≤ at) × EntryClashes held claims at

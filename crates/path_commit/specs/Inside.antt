@@ -1,5 +1,5 @@
 -- Inside: how the parts of a book belong together, and what its private calls leave.
-use Rattle.std.specs.Prelude.{◌≡◌, ℕ, ◌+◌, ◌≤◌, true, List, length}
+use Rattle.std.specs.Prelude.{◌≡◌, ℕ, ◌+◌, ◌<◌, ◌≤◌, ◌^◌, true, List, length}
 use Rattle.rail_types.specs.declared.entries.Entry.{Entry}
 use Rattle.rail_types.specs.declared.entries.Deed.{Deed}
 use Rattle.rail_types.specs.declared.entries.Deed.TheVariants.{Free}
@@ -31,6 +31,7 @@ use Rattle.path_commit.specs.Ledgers.{Ledger}
 -- the claims held are the live ones, the journal keeps the history, and each entry has room for its moment
 pub record AreOne {D : Type 0} (disk : Ghosts D) (network base : List ℕ) (history : Register)
     (claims : List Zone) (journal : Timed D) : Type 0 where
+  pub digests : (length network ≡ 32) × (length base ≡ 32)
   pub live : AreLive history.timetable (held claims) history.entries
   pub zones : length claims ≡ history.timetable.net.zones
   pub kept : Keeps disk journal (header_of network base) (bodies_of history.entries)
@@ -67,6 +68,7 @@ pub record IsReady {D : Type 0} (history : Register) (claims : List Zone) (journ
     (entry : Entry) (ready : Ready) : Type 0 where
   pub joins : Joins history.timetable history.entries entry
   pub fits : bytes_with history.entries entry ≤ history.timetable.settings.journal_bytes
+  pub few : history.timetable.settings.journal_bytes < 2 ^ 32
   pub bytes : ready.bytes ≡ record_of entry
   pub change : IsChangeOf history.timetable history.entries entry.deed ready.change
   pub claims_room : HasRoomToChange claims ready.change

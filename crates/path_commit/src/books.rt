@@ -35,10 +35,10 @@ impl<D: Disk> Model for Book<D> {
     ghost Value = { Ledger D };
 
     ghost view = { λ b.
-      ledger_of b.parts.network b.parts.base b.parts.history b.parts.journal };
+        ledger_of b.parts.network b.parts.base b.parts.history b.parts.journal };
 
     ghost invariant = { λ b.
-      AreOne D.Disk b.parts.network b.parts.base b.parts.history b.parts.claims b.parts.journal };
+        AreOne D.Disk b.parts.network b.parts.base b.parts.history b.parts.claims b.parts.journal };
 }
 
 impl<D: Disk> Book<D> {
@@ -75,6 +75,8 @@ impl<D: Disk> Book<D> {
         ensures refused { IfErr result (λ refused. refused.0 ≡ journal) }
     {
         bytes_are_counted();
+        has_its_bytes(&network);
+        has_its_bytes(&base);
         let Ok(claims) = copy_of(alloc, &history) else {
             return Err((journal, NoMemory));
         };
@@ -104,7 +106,7 @@ impl<D: Disk> Book<D> {
     {
         match self.parts.prepare(self.alloc, &entry, searched) {
             Ok(ready) => self.parts.enter(entry, ready),
-            Err(told) => told,
+            Err(told) => refuse(entry, told),
         }
     }
 
@@ -242,4 +244,16 @@ impl<D: Disk> Book<D> {
         } = parts;
         journal.close()
     }
+}
+
+// For clauses: how long a digest is.
+fn has_its_bytes(digest: &[u8; 32])
+    ensures { length digest.now ≡ 32 }
+{}
+
+// Drops an entry that is refused.
+fn refuse(_entry: Entry, told: Committed) -> Committed
+    ensures { result ≡ told }
+{
+    told
 }

@@ -10,8 +10,8 @@ ghost use Rattle.path_commit.specs.Inside.{HasRoomToChange, IsChangeOf};
 
 use copy_since::{claims_at, hold_all, reserve_for};
 use grant_log::{
-    History, claims_are_on_the_network, fresh_claims_are_free, grants_keep_their_requests,
-    live_claims_are_unfreed,
+    History, claims_are_on_the_network, fresh_claims_are_free, live_claims_are_unfreed,
+    verdicts_say_what_they_mean,
 };
 use no_memory::NoMemory;
 use occupation_book::Occupations;
@@ -93,10 +93,10 @@ pub(crate) fn follow(book: &mut Occupations, history: &History, entry: &Entry, c
         (held book.old) (held book.new) }
     ensures zones { length book.new ≡ length book.old }
 {
+    verdicts_say_what_they_mean();
     claims_are_on_the_network();
     fresh_claims_are_free();
     live_claims_are_unfreed();
-    grants_keep_their_requests();
     history.net();
     history.front();
     match change {

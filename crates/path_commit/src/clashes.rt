@@ -1,71 +1,64 @@
 //! The last entry that stands in the way of new claims.
 
-ghost use Rattle.std.specs.Prelude.{◌≡◌, ◌<◌, ◌≤◌, ◌<ℤ◌, ◌≤ℤ◌, ◌⊎◌, ℕ, Some, None, All, Contains, length};
-ghost use Rattle.rail_types.specs.declared.entries.Owner.TheVariants.{Entry as of_entry};
-ghost use Rattle.rail_types.specs.Occupation.{Clash, HeldClaim};
-ghost use Rattle.occupation_book.specs.Held.{held, AreInOrder};
-ghost use Rattle.path_commit.specs.Clashes.{EntryClashesFrom, HoldsOneFrom, IsGreatest};
+ghost use Rattle.std.specs.Prelude.{◌↔◌, Any, IfOk, IsTrue};
+ghost use Rattle.rail_types.specs.Occupation.{Clash};
+ghost use Rattle.grant_log.specs.Live.{live_claims};
+ghost use Rattle.path_commit.specs.Clashes.{EntryClashes, EntryClashesFrom, IsGreatest};
 
-use occupation_book::Occupations;
-use rail_types::{Claim, Owner};
+use copy_since::claims_at;
+use grant_log::{History, live_claims_are_unfreed};
+use no_memory::NoMemory;
+use rail_types::Claim;
+use std::alloc::Global;
 
-// The last entry from a position on that holds a claim which clashes with one of these. The claims that clash are found
-// by their zones, and no others are looked at.
-pub(crate) fn last_clash(book: &Occupations, claims: &[Claim], from: u64) -> Option<u64>
-    requires { All (λ claim. claim.zone < length book.now) claims.now }
-    ensures { IsGreatest (EntryClashesFrom (held book.now) claims.now from) result }
+// The last entry from a position on that holds a live claim which clashes with one of these. It looks at the entries from
+// there on alone.
+pub(crate) fn last_clash(
+    alloc: Global,
+    history: &History,
+    claims: &[Claim],
+    from: u64,
+) -> Result<Option<u64>, NoMemory>
+    ensures { IfOk result (IsGreatest (EntryClashesFrom
+        (live_claims history.now.timetable history.now.entries) claims.now from)) }
 {
+    live_claims_are_unfreed();
     let mut last = None;
-    for claim in claims {
-        let clashing = clashing_on(book.of_zone(claim.zone), claim);
-        last = later(last, last_entry(clashing, from));
+    for at in from..history.front() {
+        if entry_clashes(alloc, history, claims, at)? {
+            last = Some(at);
+        }
     }
-    last
+    Ok(last)
 }
 
-// The claims of a zone that clash with this one.
-fn clashing_on<'a>(zone: &'a [(Claim, Owner)], claim: &Claim) -> &'a [(Claim, Owner)]
-    requires { AreInOrder claim.now.zone zone.now }
-    ensures each { All (λ one. Contains zone.now one × Clash one.0 claim.now) result.now }
-    ensures whole { (one : HeldClaim) → Contains zone.now one → Clash one.0 claim.now →
-        Contains result.now one }
+// Whether the entry at a position holds a live claim that clashes with one of these.
+fn entry_clashes(
+    alloc: Global,
+    history: &History,
+    claims: &[Claim],
+    at: u64,
+) -> Result<bool, NoMemory>
+    ensures { IfOk result (λ answer. IsTrue answer ↔ EntryClashes
+        (live_claims history.now.timetable history.now.entries) claims.now at) }
 {
-    let first = zone.partition_point(|one| one.0.span.to <= claim.span.from);
-    let (_, behind) = zone.split_at(first);
-    let count = behind.partition_point(|one| one.0.span.from < claim.span.to);
-    let (clashing, _) = behind.split_at(count);
-    clashing
+    live_claims_are_unfreed();
+    if history.freed_by(at).is_some() {
+        return Ok(false);
+    }
+    let own = claims_at(alloc, history, at)?;
+    let answer = any_clashes(&own, claims);
+    Ok(answer)
 }
 
-// The last entry from a position on that holds one of these claims.
-fn last_entry(claims: &[(Claim, Owner)], from: u64) -> Option<u64>
-    ensures { IsGreatest (HoldsOneFrom claims.now from) result }
+fn any_clashes(own: &[Claim], claims: &[Claim]) -> bool
+    ensures { IsTrue result ↔ Any (λ mine. Any (λ claim. Clash mine claim) claims.now) own.now }
 {
-    let mut last = None;
-    for one in claims {
-        last = later(last, entry_from(&one.1, from));
-    }
-    last
+    own.iter().any(|mine| clashes_with(mine, claims))
 }
 
-// An owner that is an entry from a position on.
-fn entry_from(owner: &Owner, from: u64) -> Option<u64>
-    ensures { IsGreatest (λ at. (from ≤ at) × (owner.now ≡ of_entry at)) result }
+fn clashes_with(mine: &Claim, claims: &[Claim]) -> bool
+    ensures { IsTrue result ↔ Any (λ claim. Clash mine.now claim) claims.now }
 {
-    match owner {
-        Owner::Entry(at) if from <= *at => Some(*at),
-        _ => None,
-    }
-}
-
-// The later of two.
-fn later(one: Option<u64>, other: Option<u64>) -> Option<u64>
-    ensures { (P Q : ℕ → Type 0) → IsGreatest P one → IsGreatest Q other →
-        IsGreatest (λ at. P at ⊎ Q at) result }
-{
-    match (one, other) {
-        (Some(at), Some(also)) => Some(at.max(also)),
-        (Some(at), None) => Some(at),
-        (None, also) => also,
-    }
+    claims.iter().any(|claim| mine.clashes(claim))
 }

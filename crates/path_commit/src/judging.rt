@@ -8,7 +8,7 @@ ghost use Rattle.grant_log.specs.Following.{AreLive};
 ghost use Rattle.grant_log.specs.Legal.{IsInRange};
 ghost use Rattle.grant_log.specs.Live.{claims_of as claims_of_deed};
 ghost use Rattle.grant_log.specs.Verdict.{breaks, verdict_on};
-ghost use Rattle.path_commit.specs.Answers.{IsTaken, IsTold};
+ghost use Rattle.path_commit.specs.Answers.{IsRefusal, IsTaken, IsTold};
 
 use crate::answers::Committed;
 use crate::clashes::last_clash;
@@ -35,6 +35,7 @@ pub(crate) fn judge(
         claims.items ≡ claims_of_deed history.now.timetable entry.now.deed) }
     ensures told { IfErr result
         (IsTold history.now.timetable history.now.entries entry.now searched) }
+    ensures refusal { IfErr result IsRefusal }
 {
     verdicts_say_what_they_mean();
     let Ok(claims) = claims_of(alloc, history, entry) else {
@@ -42,7 +43,7 @@ pub(crate) fn judge(
     };
     match history.judge_by(book, entry, &claims) {
         Ok(Verdict::Fresh) => Ok(claims),
-        Ok(verdict) => Err(refusal(history, book, entry, &claims, verdict, searched)),
+        Ok(verdict) => Err(refusal(alloc, history, entry, &claims, verdict, searched)),
         Err(NoMemory) => Err(Committed::Memory),
     }
 }
@@ -62,32 +63,29 @@ fn claims_of(alloc: Global, history: &History, entry: &Entry) -> Result<Vec<Clai
 // What an entry is told that is not fresh: where a claim is taken, the last entry from the searched front on that holds
 // one.
 fn refusal(
+    alloc: Global,
     history: &History,
-    book: &Occupations,
     entry: &Entry,
     claims: &[Claim],
     verdict: Verdict,
     searched: u64,
 ) -> Committed
-    requires range { IsInRange history.now.timetable entry.now }
-    requires zones { length book.now ≡ history.now.timetable.net.zones }
-    requires live { AreLive history.now.timetable (held book.now) history.now.entries }
     requires claims { breaks history.now.timetable entry.now.deed ≡ None →
         claims.now ≡ claims_of_deed history.now.timetable entry.now.deed }
     requires verdict { verdict ≡
         verdict_on history.now.timetable history.now.entries entry.now }
     requires stale { verdict ≢ Fresh }
-    ensures { IsTold history.now.timetable history.now.entries entry.now searched result }
+    ensures told { IsTold history.now.timetable history.now.entries entry.now searched result }
+    ensures refusal { IsRefusal result }
 {
-    claims_are_on_the_network();
     verdicts_say_what_they_mean();
-    history.net();
     if !is_taken(&verdict) {
         return Committed::Refused(verdict);
     }
-    match last_clash(book, claims, searched) {
-        Some(entry) => Committed::Clash { entry },
-        None => Committed::Refused(verdict),
+    match last_clash(alloc, history, claims, searched) {
+        Ok(Some(entry)) => Committed::Clash { entry },
+        Ok(None) => Committed::Refused(verdict),
+        Err(NoMemory) => Committed::Memory,
     }
 }
 

@@ -15,6 +15,3 @@ pub use answers::Committed;
 pub use books::Book;
 pub use stands::Footing;
 pub use turns::{Sent, run_all, turn};
-
-#[cfg(test)]
-mod tests;

@@ -7,7 +7,7 @@ ghost use Rattle.grant_log.specs.Legal.{IsInRange, Joins};
 ghost use Rattle.grant_log.specs.Live.{claims_of};
 ghost use Rattle.journal_moments.specs.Keeping.{Left};
 ghost use Rattle.journal_moments.specs.Timed.{settled_of};
-ghost use Rattle.path_commit.specs.Answers.{bytes_with, Commits, HasCommitCause, IsBeforeOrAfter, IsTold, Settles};
+ghost use Rattle.path_commit.specs.Answers.{bytes_with, Commits, HasCommitCause, IsBeforeOrAfter, IsRefusal, IsTold, Settles};
 ghost use Rattle.path_commit.specs.Footings.{footing_of};
 ghost use Rattle.path_commit.specs.Inside.{AreOne, IsBegun, IsReady, IsToldBy, ledger_of};
 ghost use Rattle.path_commit.specs.Ledgers.{IsPrefixOf, settled_of as settled_in};
@@ -63,6 +63,7 @@ impl<D: Disk> Parts<D> {
             (IsReady self.new.history self.new.claims self.new.journal entry.now) }
         ensures told { IfErr result
             (IsTold self.old.history.timetable self.old.history.entries entry.now searched) }
+        ensures refusal { IfErr result IsRefusal }
     {
         let claims = judge(alloc, &self.history, &self.claims, entry, searched)?;
         if !self.has_room(entry) {
