@@ -1,5 +1,5 @@
 -- What has been read so far, and how one record more follows.
-use Rattle.std.proofs.Common.{◌≡◌, ℕ, ◌+◌, ◌<◌, ◌^◌, List, [], ◌∷◌, ◌++◌, length, refl, sym, ap, ◌∙◌, subst, arith, rules, append_assoc, length-append}
+use Rattle.std.proofs.Common.{◌≡◌, ◌≢◌, ◌⊎◌, inr, ℕ, ◌+◌, ◌<◌, ◌^◌, List, [], ◌∷◌, ◌++◌, length, refl, sym, ap, ◌∙◌, subst, arith, rules, append_assoc, length-append}
 use Rattle.std.specs.Prelude.{All}
 use Rattle.std.specs.Int.{w32, to_be_bytes}
 use Rattle.std.proofs.lemmas.Grind.{flat_map-append}
@@ -22,6 +22,7 @@ pub record Walked (timetable : Timetable) (version : ℕ) (left : List ℕ) (his
   pub same : history.timetable ≡ timetable
   pub split : left ≡ opened (bodies_of history.entries) ++ place.left
   pub short : All (λ body. length body < 2 ^ 32) (bodies_of history.entries)
+  pub next : (history.entries ≡ []) ⊎ (place.left ≢ [])
   pub spelled : All (IsSpelledIn version) history.entries
   pub at : place.at ≡ length (opened (bodies_of history.entries))
   pub live : AreLive timetable (held book) history.entries
@@ -61,6 +62,7 @@ module _ (timetable : Timetable) (version : ℕ) (left : List ℕ) (history : Re
     same = same ∙ walked.same;
     split = split-more left place.left behind.left history.entries entry walked.split whole ∙ ap (λ all. opened (bodies_of all) ++ behind.left) (sym entries);
     short = subst (λ all. All (λ body. length body < 2 ^ 32) (bodies_of all)) (sym entries) (subst (All (λ body. length body < 2 ^ 32)) (sym (bodies-more history.entries entry)) (All-append (λ body. length body < 2 ^ 32) (bodies_of history.entries) (body_of entry ∷ []) walked.short (All-one (λ body. length body < 2 ^ 32) (body_of entry) whole.short)));
+    next = inr whole.next;
     spelled = subst (All (IsSpelledIn version)) (sym entries) (All-append (IsSpelledIn version) history.entries (entry ∷ []) walked.spelled (All-one (IsSpelledIn version) entry spelled));
     at = omega (arith, at, walked.at, ap (λ all. length (opened (bodies_of all))) entries, ap length (opened-more history.entries entry), length-append (opened (bodies_of history.entries)) (1 ∷ counted (body_of entry)), record_size (body_of entry));
     live = subst (λ t. AreLive t (held after) next.entries) walked.same live;
@@ -71,6 +73,7 @@ module _ (timetable : Timetable) (version : ℕ) (left : List ℕ) (history : Re
   passes legal = record {
     split = walked.split;
     short = walked.short;
+    next = walked.next;
     spelled = walked.spelled;
     legal = subst (λ t. IsLegal t history.entries) walked.same legal;
   }

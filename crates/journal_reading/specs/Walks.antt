@@ -1,5 +1,5 @@
 -- How the bytes behind the header are read.
-use Rattle.std.specs.Prelude.{◌≡◌, ◌≢◌, ℕ, ◌+◌, ◌<◌, ◌^◌, List, [], ◌∷◌, ◌++◌, length, All}
+use Rattle.std.specs.Prelude.{◌≡◌, ◌≢◌, ◌⊎◌, ℕ, ◌+◌, ◌<◌, ◌^◌, List, [], ◌∷◌, ◌++◌, length, All}
 use Rattle.rail_types.specs.declared.entries.Entry.{Entry}
 use Rattle.rail_types.specs.Timetables.{Timetable}
 use Rattle.entry_codec.specs.Body.{body_of, kind_byte}
@@ -32,11 +32,13 @@ pub record IsCut (left : List ℕ) : Type 0 where
 abbrev pub IsSpelledIn : ℕ → Entry → Type 0
 IsSpelledIn version entry = HasBody entry × (version ≡ 1 → kind_byte entry.deed ≢ 5)
 
--- these entries stand here one behind the other, legal by the timetable, and the rest behind them
+-- these entries stand here one behind the other, legal by the timetable, and the rest behind them; behind an entry that
+-- is at least the next gate
 pub record Passes (timetable : Timetable) (version : ℕ) (left : List ℕ) (entries : List Entry)
     (rest : List ℕ) : Type 0 where
   pub split : left ≡ opened (bodies_of entries) ++ rest
   pub short : All (λ body. length body < 2 ^ 32) (bodies_of entries)
+  pub next : (entries ≡ []) ⊎ (rest ≢ [])
   pub spelled : All (IsSpelledIn version) entries
   pub legal : IsLegal timetable entries
 
