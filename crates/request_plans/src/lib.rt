@@ -1,0 +1,6 @@
+//! The plan of a request that is searched: what each of its places and moves takes.
+#![tactic(auto)]
+
+mod places;
+
+pub use places::planned_place;
