@@ -1,5 +1,6 @@
 -- The plan of a request: its places by their numbers behind the start place, each with its moves.
-use Rattle.std.specs.Prelude.{ℕ, ◌+◌, ◌-◌, ◌<◌, ℤ, pos, ◌+ℤ◌, Bool, true, false, List, [], ◌++◌, map, min, Option, Some, None, slice_get}
+use Rattle.std.specs.Prelude.{ℕ, ◌+◌, ◌-◌, ◌<◌, ℤ, pos, ◌+ℤ◌, Bool, true, false, List, [], ◌++◌, map, min, Option, Some, None, slice_get, ◌≡◌, length}
+use Rattle.std.specs.List.{slice_index_or}
 use Rattle.rail_types.specs.declared.limits.TheConstants.{MAX_PLACES}
 use Rattle.rail_types.specs.declared.tracks.Network.{Network}
 use Rattle.rail_types.specs.declared.trains.Request.{Request}
@@ -10,15 +11,17 @@ use Rattle.running_time.specs.Times.{run_ticks}
 use Rattle.blocking_time.specs.Runs.{block_at}
 use Rattle.stair_pieces.specs.declared.places.Place.{Place}
 use Rattle.stair_pieces.specs.declared.places.Step.{Step}
-use Rattle.stair_pieces.specs.Places.{entry_of, place_after, standing_zones}
+use Rattle.stair_pieces.specs.Places.{start_place, entry_of, place_after, standing_zones}
 use Rattle.stair_pieces.specs.Pieces.{pieces_of, kept}
 use Rattle.tail_states.specs.declared.moves.Move.{Move}
 use Rattle.tail_states.specs.declared.moves.Next.{Next}
 use Rattle.tail_states.specs.declared.moves.Next.TheVariants.{End as Ends, At}
+use Rattle.tail_states.specs.Listed.{Listed}
 use Rattle.label_search.specs.declared.plans.Target.{Target}
 use Rattle.label_search.specs.declared.plans.Target.TheVariants.{Place as To, End}
 use Rattle.label_search.specs.declared.plans.Move.{Move as PlannedMove}
 use Rattle.label_search.specs.declared.plans.Place.{Place as PlannedPlace}
+use Rattle.label_search.specs.declared.plans.Plan.{Plan}
 
 -- the ticks of a step's run; a run that cannot end by the horizon counts one tick more than there are
 abbrev pub ticks_within : Settings → ℕ → ℤ
@@ -74,3 +77,29 @@ place_in net settings request place moves = record {
 abbrev pub IsNumberOf : Next → Type 0
 IsNumberOf Ends = Unit {0}
 IsNumberOf (At number) = number < MAX_PLACES
+
+-- the planned place of that number
+abbrev pub planned_at : List PlannedPlace → ℕ → PlannedPlace
+planned_at planned number =
+    slice_index_or planned number
+    (record { standing = false; dwell = pos 0; waits = []; moves = [] })
+
+-- what is planned for the listed place of that number
+abbrev pub IsPlannedAt : Network → Settings → Request → Listed → ℕ → PlannedPlace → Type 0
+IsPlannedAt net settings request listed number planned =
+    (place : Place) (moves : List Move) → slice_get listed.members number ≡ Some place
+    → slice_get listed.moves number ≡ Some moves
+    → planned ≡ place_in net settings request place moves
+
+-- the start place is planned, and behind it the first listed places, so many
+pub record AreFirstPlanned (net : Network) (settings : Settings) (request : Request) (listed : Listed) (count : ℕ) (planned : List PlannedPlace) : Type 0 where
+  pub counted : length planned ≡ count + 1
+  pub start : planned_at planned 0
+      ≡ place_in net settings request start_place listed.starts
+  pub places : (number : ℕ) → number < count
+      → IsPlannedAt net settings request listed number (planned_at planned (number + 1))
+
+-- the plan of a request: the start place, each listed place at the number behind its own, and the horizon
+pub record IsPlanOf (net : Network) (settings : Settings) (request : Request) (listed : Listed) (plan : Plan) : Type 0 where
+  pub places : AreFirstPlanned net settings request listed (length listed.members) plan.places
+  pub horizon : plan.horizon ≡ pos settings.horizon

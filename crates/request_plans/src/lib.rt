@@ -2,5 +2,7 @@
 #![tactic(auto)]
 
 mod places;
+mod plans;
 
 pub use places::planned_place;
+pub use plans::plan_of;
