@@ -3,7 +3,7 @@ ghost use Rattle.rail_types.specs.Flaws.{first_flaw};
 ghost use Rattle.rail_types.specs.Limits.{IsRequestWithinLimits, IsSettingsWithinLimits};
 
 use crate::{plan_of, plans_may_be_searched};
-use label_search::{Sought, Trip, seek};
+use label_search::{Finding, Sought, Step, Trip, bounds, find, seek};
 use no_memory::NoMemory;
 use occupation_book::Occupations;
 use rail_types::{
@@ -83,7 +83,7 @@ fn line(alloc: Global) -> Result<Network, NoMemory>
     })
 }
 
-// The tick at which the second block is entered by the path that leaves last earliest.
+// The tick at which the second block is entered by the path that leaves last earliest, with members and without them.
 fn entered(
     alloc: Global,
     net: &Network,
@@ -106,12 +106,25 @@ fn entered(
         depart: request.depart,
         arrive: request.arrive,
     };
-    match seek(alloc, &plan, book, &trip)? {
-        Sought::Found(steps, _) => match steps.get(1) {
-            Some(step) => Ok(Some(step.enter)),
-            None => Ok(None),
-        },
-        Sought::NoPath(_) => Ok(None),
+    let sought = match seek(alloc, &plan, book, &trip)? {
+        Sought::Found(steps, _) => second_enter(&steps),
+        Sought::NoPath(_) => None,
+    };
+    let ahead = bounds(alloc, &plan)?;
+    let found = match find(alloc, &plan, book, &trip, &ahead)? {
+        Finding::Found(steps) => second_enter(&steps),
+        Finding::NoPath => None,
+    };
+    if sought != found {
+        return Err("the two searches differ".into());
+    }
+    Ok(sought)
+}
+
+fn second_enter(steps: &List<Step>) -> Option<Tick> {
+    match steps.get(1) {
+        Some(step) => Some(step.enter),
+        None => None,
     }
 }
 
