@@ -21,10 +21,12 @@ use Rattle.blocking_time.specs.Passages.{passage_of, passages_of}
 use Rattle.blocking_time.specs.Runs.{block_at, entry_behind}
 use Rattle.stair_pieces.specs.declared.places.Place.{Place}
 use Rattle.stair_pieces.specs.declared.places.Step.{Step}
-use Rattle.stair_pieces.specs.Places.{head_block, entry_of, left_after, metres_of, uncleared}
+use Rattle.stair_pieces.specs.Places.{head_block, entry_of, left_after, metres_of, uncleared, place_after}
 use Rattle.stair_pieces.specs.Pieces.{step_end, step_approach, step_begin, begin_of_step, piece, pieces_of}
 use Rattle.stair_pieces.specs.Steps.{IsPlaceIn}
-use Rattle.stair_pieces.specs.Claiming.{IsClaimOn, PiecesAreClaims, StandingZonesAreOfTheNetwork}
+use Rattle.stair_pieces.specs.Claiming.{IsClaimOn, PiecesAreClaims, StandingZonesAreOfTheNetwork, StepsLeadToPlaces}
+use Rattle.stair_pieces.proofs.Asked.{under_some}
+use Rattle.stair_pieces.proofs.Walks.{tail_after}
 use Rattle.stair_pieces.proofs.Bounding.{part_small, sight_small}
 use Rattle.stair_pieces.proofs.Fitting.{pieces_have_ticks}
 
@@ -94,6 +96,14 @@ module _ (net : Network) (settings : Settings) (train : Train) (place : Place) (
     block_has : IsBlockWithinLimits (block_at net step.block)
     block_has = here.under.blocks _ _ inside
 
+    leads_on : IsPlaceIn net settings train (place_after net train place step)
+    leads_on = record {
+      under = tail_after net train place.tail step.block here.under inside;
+      timetable = here.timetable;
+      entered = entry_has;
+      begins = λ none. absurd (under_some net train here.under.train_fits.length_m.0 place.tail step.block none);
+    }
+
     end_near : (metres : ℕ) → IsNear (step_end net settings train place step metres)
     end_near metres = elim (leb_tells metres (block_at net step.block).length_m) [
       | inl tells ↦
@@ -131,3 +141,6 @@ module _ (blocks : (net : Network) → first_flaw net ≡ None → All (IsBlockO
   pub standing_zones_on : StandingZonesAreOfTheNetwork
   standing_zones_on net settings train place none here =
       All-map (λ zone. zone < net.zones) (λ passage. passage.zone) (uncleared net train place.tail) (λ k passage within. uncleared_on net train (blocks net none) place.tail here.under.numbers k passage within)
+
+pub steps_lead_to_places : StepsLeadToPlaces
+steps_lead_to_places net settings train place step here inside = leads_on net settings train place here step inside

@@ -9,7 +9,7 @@ use Rattle.rail_types.specs.Limits.{IsNearSpan}
 use Rattle.rail_types.specs.Occupation.{HasTicks}
 use Rattle.stair_pieces.specs.declared.places.Place.{Place}
 use Rattle.stair_pieces.specs.declared.places.Step.{Step}
-use Rattle.stair_pieces.specs.Places.{standing_zones}
+use Rattle.stair_pieces.specs.Places.{place_after, standing_zones}
 use Rattle.stair_pieces.specs.Pieces.{pieces_of}
 use Rattle.stair_pieces.specs.Steps.{IsPlaceIn}
 
@@ -33,3 +33,10 @@ StandingZonesAreOfTheNetwork =
     (net : Network) (settings : Settings) (train : Train) (place : Place)
     → first_flaw net ≡ None → IsPlaceIn net settings train place
     → All (λ zone. zone < net.zones) (standing_zones net train place)
+
+-- a step leads from a place to a place
+abbrev pub StepsLeadToPlaces : Type 0
+StepsLeadToPlaces =
+    (net : Network) (settings : Settings) (train : Train) (place : Place) (step : Step)
+    → IsPlaceIn net settings train place → step.block < length net.blocks
+    → IsPlaceIn net settings train (place_after net train place step)

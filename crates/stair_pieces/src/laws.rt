@@ -1,6 +1,10 @@
 //! The laws that join a path's steps and moves to its stairway and rules, each on a function that calls others alone.
 
-ghost use Rattle.stair_pieces.specs.Claiming.{PiecesAreClaims, StandingZonesAreOfTheNetwork};
+ghost use Rattle.stair_pieces.specs.Claiming.{
+  PiecesAreClaims,
+  StandingZonesAreOfTheNetwork,
+  StepsLeadToPlaces,
+};
 ghost use Rattle.stair_pieces.specs.Places.{TailsAreLongest};
 ghost use Rattle.stair_pieces.specs.Joining.{StepsAreTheStairway};
 ghost use Rattle.stair_pieces.specs.Moves.{MovesAreAPath, PathsAreMoves};
@@ -62,10 +66,11 @@ pub fn tails_are_longest()
 {}
 
 /// The pieces of a step from a place have ticks, which are near, on zones of a network without a flaw; and so are the
-/// zones that a train keeps while it waits there.
+/// zones that a train keeps while it waits there; and each step leads to a place of which the same is true.
 pub fn pieces_are_claims()
     ensures pieces { PiecesAreClaims }
     ensures standing { StandingZonesAreOfTheNetwork }
+    ensures places { StepsLeadToPlaces }
 {
     networks_without_flaws();
 }

@@ -46,6 +46,7 @@ module _ (net : Network) (settings : Settings) (request : Request) (asked : IsAs
       entered = entered place among;
       begins = (from_place net request asked place among).begins;
     };
+    made = λ place among. (from_place net request asked place among).made;
   }
 
 pub places_may_be_cut : PlacesMayBeCut

@@ -31,11 +31,13 @@ SoundNetworksAreAsked =
     (net : Network) (request : Request) → first_flaw net ≡ None
     → IsTrainWithinLimits request.train → length request.stops ≤ MAX_STOPS → IsAsked net request
 
--- the start place and each place of a request is one of which pieces and standing zones may be asked
+-- the start place and each place of a request is one of which pieces and standing zones may be asked; no more stops
+-- are made than are named
 pub record MayBeCut (net : Network) (settings : Settings) (request : Request) : Type 0 where
   pub start : IsPlaceIn net settings request.train start_place
   pub places : (place : Place) → IsPlace net request place
       → IsPlaceIn net settings request.train place
+  pub made : (place : Place) → IsPlace net request place → place.made ≤ length request.stops
 
 -- so it is for each request within its limits
 abbrev pub PlacesMayBeCut : Type 0
