@@ -1,5 +1,5 @@
 -- The statuses of a command.
-use Rattle.std.specs.Prelude.{◌⊎◌}
+use Rattle.std.specs.Prelude.{◌⊎◌, ⊤}
 use Rattle.outside_io.specs.Openings.{Opening, Standing as standing_type}
 use Rattle.exit_status.specs.declared.Status.{Status}
 use Rattle.exit_status.specs.declared.Status.TheVariants.{Done, No, Words, Network, Base, Trains, Journal, Opening as not_opened, DiskFault, ClientEnd, Report, Memory}
@@ -44,3 +44,18 @@ CommandEnds streams standing serve old new Report = ⊥
 CommandEnds streams standing serve old new not_opened = (CanOpen standing serve → ⊥) × Unchanged old new
 CommandEnds streams standing serve old new ClientEnd = WasServedBadly streams standing serve old new
 CommandEnds streams standing serve old new Memory = Unchanged old new ⊎ WasServed streams standing serve old new memory_end
+
+-- the statuses with which serving a client's hold lines ends
+abbrev pub IsHoldStatus : Status → Type 0
+IsHoldStatus Done = ⊤
+IsHoldStatus No = ⊥
+IsHoldStatus Words = ⊤
+IsHoldStatus Network = ⊥
+IsHoldStatus Base = ⊥
+IsHoldStatus Trains = ⊥
+IsHoldStatus Journal = ⊥
+IsHoldStatus not_opened = ⊤
+IsHoldStatus DiskFault = ⊥
+IsHoldStatus ClientEnd = ⊤
+IsHoldStatus Report = ⊥
+IsHoldStatus Memory = ⊤

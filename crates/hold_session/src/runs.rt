@@ -7,7 +7,7 @@ ghost use Rattle.outside_io.specs.Places.{Untouched};
 ghost use Rattle.hold_session.specs.declared.sessions.Why.TheVariants.{Input, Memory as memory_end};
 ghost use Rattle.hold_session.specs.Ends.{Ends, streams};
 ghost use Rattle.hold_session.specs.Run.{caller_of, Refuses, Serves, ServesBadly, Unchanged, under};
-ghost use Rattle.hold_session.specs.Status.{CommandEnds, end_status};
+ghost use Rattle.hold_session.specs.Status.{CommandEnds, end_status, IsHoldStatus};
 ghost use Rattle.hold_session.specs.Words.{AskNothing, IsServe};
 
 use crate::desks::Desk;
@@ -28,6 +28,9 @@ pub fn run<R: AllocGlobal, O: Outside>(rt: &R, words: &[String], outside: &mut O
     ensures words { result ≡ Status.Words → AskNothing (map string_bytes words.now) }
     ensures form { AskNothing (map string_bytes words.now) → (result ≡ Status.Words) ⊎ (result ≡ Status.Memory) }
     ensures untouched { AskNothing (map string_bytes words.now) → outside.new ≡ outside.old }
+
+    // No other status comes.
+    ensures among { IsHoldStatus result }
 
     // The client was served to the end of its input; or to an end that is its own fault, or a fault of its streams.
     ensures done { result ≡ Status.Done → Serves (streams O.Src.left O.Src.faults O.Snk.held O.Snk.faults) (O.standing outside.old) (map string_bytes words.now) Input (under (O.sources outside.old) (O.sinks outside.old)) (under (O.sources outside.new) (O.sinks outside.new)) }
@@ -61,6 +64,7 @@ pub fn run<R: AllocGlobal, O: Outside>(rt: &R, words: &[String], outside: &mut O
 fn serve_command<O: Outside>(alloc: Global, serve: &Serve, outside: &mut O) -> Status
     requires { IsServe serve.now }
     ensures command { CommandEnds (streams O.Src.left O.Src.faults O.Snk.held O.Snk.faults) (O.standing outside.old) serve.now (under (O.sources outside.old) (O.sinks outside.old)) (under (O.sources outside.new) (O.sinks outside.new)) result }
+    ensures among { IsHoldStatus result }
     ensures opening { result ≡ Status.Opening → Rose (O.faults outside.old) (O.faults outside.new) }
     ensures back { Undisturbed (O.standing outside.old) (O.standing outside.new) }
     ensures later { O.faults outside.old ≤ O.faults outside.new }
@@ -96,7 +100,8 @@ fn serve_streams<S: Source, K: Sink>(alloc: Global, serve: &Serve, src: &mut S, 
 
 // The status of a session's end.
 fn status_of(why: Why) -> Status
-    ensures { result ≡ end_status why }
+    ensures status { result ≡ end_status why }
+    ensures among { IsHoldStatus result }
 {
     match why {
         Why::Input => Status::Done,

@@ -11,6 +11,7 @@ use Rattle.list_command.specs.Runs.{AskNothing as AskNoList, ListIsDone, RunSays
 use Rattle.hold_session.specs.declared.sessions.Why.TheVariants.{Input, Memory as memory_end}
 use Rattle.hold_session.specs.Ends.{Streams, streams}
 use Rattle.hold_session.specs.Run.{Refuses, Serves, ServesBadly, Unchanged, Under, under}
+use Rattle.hold_session.specs.Status.{IsHoldStatus}
 use Rattle.hold_session.specs.Words.{AskNothing}
 
 -- the first word is `list`
@@ -45,6 +46,8 @@ pub record HoldsSay {Src Snk Dsk : Type 0} (streams : Streams Src Snk) (words : 
   pub wording : status ≡ Words → AskNothing words
   pub form : AskNothing words → (status ≡ Words) ⊎ (status ≡ Memory)
   pub untouched : AskNothing words → new ≡ old
+  -- no other status comes
+  pub among : IsHoldStatus status
   -- the client was served to the end of its input; or to an end that is its fault or its streams'
   pub done : status ≡ Done
       → Serves streams old.standing words Input (hold_scene old) (hold_scene new)

@@ -28,6 +28,6 @@ returns-clause-command g c =
     source_out c.in-Ok.ensures.sinks sink_out c.in-Ok-sink.ensures.sources source_back c.put_back_source-2.ensures.sinks sink_back c.put_back_sink.ensures.sources in
     let streams_of = streams g.O.Src.Source.left g.O.Src.Source.faults g.O.Snk.Sink.held g.O.Snk.Sink.faults in
     let standing = g.O.Outside.standing c.args.outside.now in
-    rw c.status_of.ensures (status_says streams_of standing c.args.serve.now _ _ c.serve_streams-why.result (was_served streams_of standing c.args.serve.now c.serve_streams-why.result rounds
+    rw c.status_of.ensures.status (status_says streams_of standing c.args.serve.now _ _ c.serve_streams-why.result (was_served streams_of standing c.args.serve.now c.serve_streams-why.result rounds
     (both_opened c.args.serve.now c.in-Ok.src c.in-Ok-sink.snk standing (g.O.Outside.standing c.source.new.self) (g.O.Outside.standing c.sink.new.self) opened both)
     c.serve_streams-why.ensures.ended))
