@@ -1,12 +1,14 @@
 -- What a file tells that should be a journal of a version, with two digests, on a timetable.
-use Rattle.std.specs.Prelude.{◌≡◌, ℕ, List, ◌++◌}
+use Rattle.std.specs.Prelude.{◌≡◌, ℕ, ◌<◌, ◌^◌, List, ◌++◌, length, All}
 use Rattle.rail_types.specs.declared.entries.Entry.{Entry}
 use Rattle.rail_types.specs.Timetables.{Timetable}
+use Rattle.grant_log.specs.Legal.{IsLegal}
 use Rattle.journal_text.specs.Headers.{header_of_version}
+use Rattle.journal_text.specs.Histories.{bodies_of, ReadsAs}
 use Rattle.journal_reading.specs.declared.faults.OpenFault.{OpenFault}
 use Rattle.journal_reading.specs.declared.faults.OpenFault.TheVariants.{ReadFault, Damaged, Illegal, Memory}
 use Rattle.journal_reading.specs.Starts.{StartIsRefused}
-use Rattle.journal_reading.specs.Walks.{IsReadTo, IsDamagedAt, IsIllegalAt}
+use Rattle.journal_reading.specs.Walks.{IsReadTo, IsDamagedAt, IsIllegalAt, IsSpelledIn}
 
 -- behind the header stands what has P
 abbrev pub HasBehind : List ℕ → List ℕ → (List ℕ → Type 0) → Type 0
@@ -17,6 +19,14 @@ abbrev pub IsFound : Timetable → ℕ → List ℕ → List ℕ → List ℕ �
 IsFound timetable version network base file entries gate =
     HasBehind (header_of_version version network base) file
     (λ left. IsReadTo timetable version left 76 entries gate)
+
+-- the file reads as these entries, which are legal, and which a journal of this version can have
+pub record TellsHistory (timetable : Timetable) (version : ℕ) (network base file : List ℕ)
+    (entries : List Entry) : Type 0 where
+  pub legal : IsLegal timetable entries
+  pub spelled : All (IsSpelledIn version) entries
+  pub short : All (λ body. length body < 2 ^ 32) (bodies_of entries)
+  pub reads : ReadsAs (header_of_version version network base) (bodies_of entries) file
 
 -- why the bytes of a file are refused; a fault of the disk and want of memory are none of their own
 abbrev pub IsRefused : Timetable → ℕ → List ℕ → List ℕ → List ℕ → OpenFault → Type 0

@@ -1,9 +1,12 @@
 ghost use Rattle.std.specs.Prelude.{◌≡◌, ◌+◌, ◌<◌, ◌≤◌, ◌^◌, [], ℕ, List, All, Some, IfErr, IfOk, IfSome, OnOk, length};
 ghost use Rattle.journal_text.specs.Histories.{bodies_of, bytes_of};
 ghost use Rattle.history_reading.specs.Failing.{IsAsFaulty, IsNotOfDisk, IsOnlyRead, IsUnread};
-ghost use Rattle.history_reading.specs.Files.{IsFound, IsRefused};
+ghost use Rattle.history_reading.specs.Files.{IsFound, IsRefused, TellsHistory};
+ghost use Rattle.journal_reading.specs.Walks.{IsSpelledIn};
+ghost use Rattle.rail_types.specs.declared.entries.Entry.{Entry as entry_type};
 
 use crate::histories::{Found, read_history};
+use crate::laws::one_reading;
 use grant_log::History;
 use journal_reading::{OpenFault, pass_header};
 use journal_text::bytes_are_counted;
@@ -54,14 +57,19 @@ pub fn read_journal<D: Disk>(
     ensures used { IfOk result (λ found. found.gate + 1 ≡ bytes_of found.history.entries) }
     ensures short { IfOk result (λ found.
         All (λ body. length body < 2 ^ 32) (bodies_of found.history.entries)) }
+    ensures spelled { IfOk result (λ found. All (IsSpelledIn version) found.history.entries) }
     ensures durable { OnOk result ((image : List ℕ) → D.images disk.new image →
         D.contents disk.old ≡ Some image) }
     ensures read { IsOnlyRead D.Disk disk.old disk.new }
     ensures tick { D.clock disk.new ≤ D.clock disk.old + 1 }
+    ensures whole { IfErr result (λ fault. IfSome (D.contents disk.old) (λ file.
+        (entries : List entry_type) → TellsHistory empty.timetable version network.now base.now
+        file entries → IsUnread fault)) }
     ensures refused { IfErr result (λ fault. IfSome (D.contents disk.old) (λ file.
         IsRefused empty.timetable version network.now base.now file fault)) }
     ensures cause { IsAsFaulty (D.faults disk.old) (D.faults disk.new) result }
 {
+    one_reading();
     let file = read_file(alloc, disk)?;
     read_bytes(alloc, &file, empty, version, network, base)
 }
@@ -83,6 +91,7 @@ pub(crate) fn read_bytes(
     ensures used { IfOk result (λ found. found.gate + 1 ≡ bytes_of found.history.entries) }
     ensures short { IfOk result (λ found.
         All (λ body. length body < 2 ^ 32) (bodies_of found.history.entries)) }
+    ensures spelled { IfOk result (λ found. All (IsSpelledIn version) found.history.entries) }
     ensures refused { IfErr result
         (IsRefused empty.timetable version network.now base.now file.now) }
     ensures quiet { IfErr result IsNotOfDisk }

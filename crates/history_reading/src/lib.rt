@@ -4,10 +4,12 @@
 mod files;
 mod histories;
 mod joins;
+mod laws;
 mod moves;
 
 pub use files::read_journal;
 pub use histories::Found;
+pub use laws::one_reading;
 pub use moves::{MoveFault, init_from};
 
 #[cfg(test)]

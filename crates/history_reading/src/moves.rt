@@ -3,9 +3,10 @@ ghost use Rattle.outside_io.specs.Faults.{HasCause};
 ghost use Rattle.rail_types.specs.Timetables.{IsTimetable, timetable_of};
 ghost use Rattle.journal_text.specs.Headers.{header_of};
 ghost use Rattle.journal_text.specs.Histories.{bodies_of, front_of};
+ghost use Rattle.journal_reading.specs.Beginning.{WasEmpty};
 ghost use Rattle.history_reading.specs.Failing.{IsAsFaulty, IsNotOfDisk, IsOnlyRead};
 ghost use Rattle.history_reading.specs.Files.{IsFound, IsRefused};
-ghost use Rattle.history_reading.specs.Moving.{HasMoveCause, IsMoved, IsMoveRefused, IsUnwritten};
+ghost use Rattle.history_reading.specs.Moving.{HasMoveCause, IsMoved, IsMoveRefused, IsUnwritten, move_fault};
 
 use crate::files::{read_bytes, read_file};
 use grant_log::History;
@@ -20,9 +21,9 @@ use std::alloc::Global;
 pub enum MoveFault {
     /// The new disk has so many bytes.
     NotEmpty { len: u64 },
-    /// The old disk is refused by opening it as a journal of version 1.
+    /// The old disk is refused by opening it as a journal of version 1. It is never refused so for want of memory.
     From(OpenFault),
-    /// The new disk failed. It may have any bytes now.
+    /// The new disk failed. If it was empty, it may have any bytes now; if not, it is as it was.
     Fault,
     /// Memory was wanted.
     Memory,
@@ -39,6 +40,16 @@ fn renewed(file: Vec<u8>, gate: usize) -> Result<Vec<u8>, NoMemory>
     bytes[11] = 2;
     bytes.push(0)?;
     Ok(bytes)
+}
+
+// What is told where the old disk is refused.
+fn refusal(fault: OpenFault) -> MoveFault
+    ensures { result ≡ move_fault fault }
+{
+    match fault {
+        OpenFault::Memory => MoveFault::Memory,
+        _ => MoveFault::From(fault),
+    }
 }
 
 // Writes the first bytes of an empty disk, and syncs them.
@@ -92,7 +103,7 @@ pub fn init_from<D: Disk, E: Disk>(
     requires { IsTimetable (timetable_of net.now base) }
     ensures moved { IfOk result (λ moved. IfSome (E.contents from) (IsMoved
         (timetable_of net.now base) network.now base_digest.now moved.1 (D.images disk.new))) }
-    ensures empty { OnOk result (IfSome (D.contents disk.old) (λ bytes. bytes ≡ [])) }
+    ensures empty { OnOk result (WasEmpty D.Disk disk.old) }
     ensures refused { IfErr result (λ refused. IsMoveRefused D.Disk E.Disk
         (timetable_of net.now base) network.now base_digest.now disk.old from refused.1) }
     ensures unwritten { IfErr result (λ refused. IsUnwritten D.Disk disk.old disk.new refused.1) }
@@ -116,8 +127,7 @@ pub fn init_from<D: Disk, E: Disk>(
     let empty = History::new(alloc, net, base);
     let (bytes, count) = match read_old(alloc, &mut from, empty, network, base_digest) {
         Ok(moved) => moved,
-        Err(OpenFault::Memory) => return Err((from, MoveFault::Memory)),
-        Err(fault) => return Err((from, MoveFault::From(fault))),
+        Err(fault) => return Err((from, refusal(fault))),
     };
     let Ok(()) = write_first(disk, &bytes) else {
         return Err((from, MoveFault::Fault));

@@ -1,5 +1,6 @@
 -- How a journal is begun.
-use Rattle.std.specs.Prelude.{◌≡◌, ◌≢◌, ℕ, List, [], length, Result, Ok, Err}
+use Rattle.std.specs.Prelude.{◌≡◌, ◌≢◌, ◌⊎◌, ℕ, List, [], length, IfSome, Result, Ok, Err}
+use Rattle.outside_io.specs.Disks.{Looks}
 use Rattle.outside_io.specs.Faults.{Rose}
 use Rattle.outside_io.specs.declared.disks.Disk.{Ghosts}
 use Rattle.journal_reading.specs.declared.beginning.InitFault.{InitFault}
@@ -10,11 +11,20 @@ abbrev pub IsNotEmpty : InitFault → List ℕ → Type 0
 IsNotEmpty (NotEmpty len) file = (len ≡ length file) × (file ≢ [])
 IsNotEmpty Fault file = Unit {0}
 
--- a disk that isn't empty keeps its contents and its clock
+-- nothing was written: the contents, the clock and all images are as they were
+pub record IsAsItWas {D : Type 0} (disk : Ghosts D) (old new : D) : Type 0 where
+  pub contents : disk.contents new ≡ disk.contents old
+  pub time : Looks (disk.clock old) (disk.clock new) (disk.since old) (disk.since new)
+      (disk.images old) (disk.images new)
+
+-- the disk had no byte, where it tells
+abbrev pub WasEmpty : {D : Type 0} → Ghosts D → D → Type 0
+WasEmpty disk old = IfSome (disk.contents old) (λ file. file ≡ [])
+
+-- nothing was written to a disk that isn't empty, whatever failed
 abbrev pub IsUntouched : {D : Type 0} → Ghosts D → D → D → InitFault → Type 0
-IsUntouched disk old new (NotEmpty len) =
-    (disk.contents new ≡ disk.contents old) × (disk.clock new ≡ disk.clock old)
-IsUntouched disk old new Fault = Unit {0}
+IsUntouched disk old new (NotEmpty len) = IsAsItWas disk old new
+IsUntouched disk old new Fault = IsAsItWas disk old new ⊎ WasEmpty disk old
 
 -- the count rose where a fault is told, and stays otherwise
 abbrev pub HasInitCause : {T : Type 0} → ℕ → ℕ → Result T InitFault → Type 0

@@ -2,7 +2,7 @@ ghost use Rattle.std.specs.Prelude.{◌≡◌, ◌∷◌, ◌++◌, [], ℕ, Lis
 ghost use Rattle.outside_io.specs.Disks.{Spans};
 ghost use Rattle.journal_text.specs.Headers.{header_of};
 ghost use Rattle.journal_text.specs.Histories.{ReadsAs};
-ghost use Rattle.journal_reading.specs.Beginning.{HasInitCause, IsNotEmpty, IsUntouched};
+ghost use Rattle.journal_reading.specs.Beginning.{HasInitCause, IsNotEmpty, IsUntouched, WasEmpty};
 
 use journal_text::{HEADER_BYTES, header};
 use outside_io::Disk;
@@ -12,7 +12,7 @@ use outside_io::Disk;
 pub enum InitFault {
     /// The disk has so many bytes.
     NotEmpty { len: u64 },
-    /// The disk failed. It may have any bytes now.
+    /// The disk failed. If it was empty, it may have any bytes now; if not, it is as it was.
     Fault,
 }
 
@@ -24,7 +24,7 @@ pub fn init<D: Disk>(disk: &mut D, network: &[u8; 32], base: &[u8; 32]) -> Resul
     ensures contents { OnOk result (IfSome (D.contents disk.new)
         (λ file. ReadsAs (header_of network.now base.now) [] file)) }
     ensures size { OnOk result (IfSome (D.contents disk.new) (λ file. length file ≡ 77)) }
-    ensures empty { OnOk result (IfSome (D.contents disk.old) (λ file. file ≡ [])) }
+    ensures empty { OnOk result (WasEmpty D.Disk disk.old) }
     ensures refused { IfErr result (λ fault. IfSome (D.contents disk.old) (IsNotEmpty fault)) }
     ensures untouched { IfErr result (λ fault. IsUntouched D.Disk disk.old disk.new fault) }
     ensures cause { HasInitCause (D.faults disk.old) (D.faults disk.new) result }
