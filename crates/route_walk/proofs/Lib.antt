@@ -6,3 +6,6 @@ pub mod Starts
 pub mod Passing
 pub mod Strays
 pub mod Wholes
+pub mod Leading
+pub mod Sweeps
+pub mod Shortness

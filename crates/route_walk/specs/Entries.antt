@@ -1,5 +1,6 @@
 -- Where a route begins, and where it ends.
-use Rattle.std.specs.Prelude.{ℕ, ◌+◌, min, max, Bool, true, false, nat_eq, nat_lt, List, slice_get, Option, Some, None, if◌then◌else◌}
+use Rattle.std.specs.Prelude.{◌≡◌, ℕ, ◌+◌, min, max, Bool, true, false, nat_eq, nat_lt, List, length, slice_get, Option, Some, None, if◌then◌else◌}
+use Rattle.infra_types.specs.Infras.{IsRoutePoint}
 use Rattle.infra_types.specs.declared.ends.Direction.{Direction}
 use Rattle.infra_types.specs.declared.ends.Direction.TheVariants.{StartToStop, StopToStart}
 use Rattle.infra_types.specs.declared.infras.Infra.{Infra}
@@ -123,3 +124,9 @@ entry_at infra layout direction (BufferStop number) exit = record {
 -- the place at which a route begins
 abbrev pub entry_of : Infra → Layout → Route → Place
 entry_of infra layout route = entry_at infra layout route.direction route.entry route.exit
+
+-- A route begins at this place.
+pub record IsEntry (infra : Infra) (layout : Layout) (place : Place) : Type 0 where
+  pub route : Route
+  pub point : IsRoutePoint (length infra.detectors) (length infra.buffer_stops) route.entry
+  pub is : place ≡ entry_of infra layout route

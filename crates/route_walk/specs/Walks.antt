@@ -1,5 +1,5 @@
 -- The walk of a route, and why a route has none.
-use Rattle.std.specs.Prelude.{◌≡◌, ℕ, ◌+◌, ◌*◌, ◌⊎◌, List, ◌∷◌, length, map, slice_get, Option, Some, None}
+use Rattle.std.specs.Prelude.{◌≡◌, ℕ, ◌+◌, ◌*◌, List, ◌∷◌, length, map, slice_get, Option, Some, None}
 use Rattle.std.specs.List.{filter_map, sum_by}
 use Rattle.infra_types.specs.declared.infras.Infra.{Infra}
 use Rattle.infra_types.specs.declared.routes.Route.{Route}
@@ -8,7 +8,7 @@ use Rattle.route_walk.specs.declared.places.Place.{Place}
 use Rattle.route_walk.specs.declared.walks.Walk.{Walk}
 use Rattle.route_walk.specs.declared.walks.WalkFault.{WalkFault}
 use Rattle.route_walk.specs.declared.walks.WalkFault.TheVariants.{NoWay, Loop, StrayRelease, Memory}
-use Rattle.route_walk.specs.Courses.{HasNoWay, IsEndless, IsRound, IsThrough, detectors_of}
+use Rattle.route_walk.specs.Courses.{HasNoWay, IsRound, IsThrough, detectors_of}
 use Rattle.route_walk.specs.Entries.{entry_of, exit_of}
 use Rattle.route_walk.specs.Legs.{ArePassed, leg_at, length_m, stretch_of}
 use Rattle.route_walk.specs.Releases.{first_stray, releases_at}
@@ -18,9 +18,9 @@ use Rattle.route_walk.specs.Ways.{Comes}
 abbrev pub IsRouteAt : Infra → ℕ → Route → Type 0
 IsRouteAt infra number route = slice_get infra.routes number ≡ Some route
 
--- no fewer than the detectors and the ends of tracks
+-- one more than the detectors and the ends of tracks
 abbrev pub limit_of : Infra → ℕ
-limit_of infra = length infra.detectors + 2 * length infra.tracks
+limit_of infra = length infra.detectors + 2 * length infra.tracks + 1
 
 -- The route comes by these places to its exit.
 abbrev pub Reaches : Infra → Layout → Route → List Place → Type 0
@@ -56,13 +56,12 @@ pub record EndsAt (infra : Infra) (layout : Layout) (number at : ℕ) : Type 0 w
   pub no_way : HasNoWay (Comes infra layout route.ways) (entry_of infra layout route) (exit_of infra route.exit) places
   pub metres : at ≡ sum_by length_m places
 
--- The route of that number comes to a detector again, or to more places than there are detectors and ends of tracks.
+-- The route of that number comes to a detector that it has passed.
 pub record GoesRound (infra : Infra) (layout : Layout) (number : ℕ) : Type 0 where
   pub route : Route
   pub is : IsRouteAt infra number route
   pub places : List Place
   pub round : IsRound (Comes infra layout route.ways) (entry_of infra layout route) (exit_of infra route.exit) places
-      ⊎ IsEndless (Comes infra layout route.ways) (entry_of infra layout route) (exit_of infra route.exit) (limit_of infra) places
 
 -- The route of that number comes to its exit, and this is the first of its release detectors that is beside it.
 pub record Strays (infra : Infra) (layout : Layout) (number detector : ℕ) : Type 0 where

@@ -59,13 +59,13 @@ pub fn walk(alloc: Global, graph: &Graph, infra: &Infra, route: u32) -> Result<W
     Ok(walk)
 }
 
-/// No fewer than the detectors and the ends of tracks.
+/// One more than the detectors and the ends of tracks.
 fn limit_of(infra: &Infra) -> u64
     requires { IsInfra infra.now }
     ensures limit { result ≡ limit_of infra.now }
     ensures bound { limit_of infra.now ≤ 2 ^ 18 }
 {
-    infra.detectors.len() as u64 + 2 * infra.tracks.len() as u64
+    infra.detectors.len() as u64 + 2 * infra.tracks.len() as u64 + 1
 }
 
 /// What a walk tells that comes by these places.
