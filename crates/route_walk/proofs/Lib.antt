@@ -9,3 +9,6 @@ pub mod Wholes
 pub mod Leading
 pub mod Sweeps
 pub mod Shortness
+pub mod Unique
+pub mod OnePassed
+pub mod OneWalk

@@ -112,9 +112,9 @@ module _ (places : List Place) where
       let low = (s 0 one (omega arith)).low in
       let low' = (s' 0 other (omega arith)).low in
       let rest = same_ones numbers (first + 1) ones others
-          (all_behind (Some number) numbers first ones (tail_of (StandsAt (Some number ∷ numbers) first) one ones s) (all_above one ones first u low))
-          (all_behind (Some number) numbers first others (tail_of (StandsAt (Some number ∷ numbers) first) other others s') (all_above other others first u' low'))
-          (ascends_on one ones u) (ascends_on other others u') (tail_of Measured one ones m) (tail_of Measured other others m') (omega arith) (omega arith) in
+      (all_behind (Some number) numbers first ones (tail_of (StandsAt (Some number ∷ numbers) first) one ones s) (all_above one ones first u low))
+      (all_behind (Some number) numbers first others (tail_of (StandsAt (Some number ∷ numbers) first) other others s') (all_above other others first u' low'))
+      (ascends_on one ones u) (ascends_on other others u') (tail_of Measured one ones m) (tail_of Measured other others m') (omega arith) (omega arith) in
       ap (λ (x : Passed). x ∷ ones) head ∙ ap (λ (xs : List Passed). other ∷ xs) rest
 
 numbers_there : (f : Place → Option ℕ) (places : List Place) → somes (map f places) ≡ filter_map f places

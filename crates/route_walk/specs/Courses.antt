@@ -26,13 +26,15 @@ abbrev pub NoneTwice : List ℕ → Type 0
 NoneTwice ds = AllPairs (λ a b. a ≢ b) ds
 
 -- The route comes by these places and goes on: no exit, no buffer stop, no detector twice.
-pub record IsOpen (next : Place → Place → Type 0) (entry : Place) (exit : Point) (places : List Place) : Type 0 where
+pub record IsOpen (next : Place → Place → Type 0) (entry : Place) (exit : Point)
+    (places : List Place) : Type 0 where
   pub follows : Follows next entry places
   pub goes_on : All (λ p. GoesOn p.point exit) places
   pub once : NoneTwice (detectors_of (entry ∷ places))
 
 -- Open places, and one more to which the last of them leads.
-pub record IsOpenTo (next : Place → Place → Type 0) (entry : Place) (exit : Point) (places : List Place) (last : Place) : Type 0 where
+pub record IsOpenTo (next : Place → Place → Type 0) (entry : Place) (exit : Point)
+    (places : List Place) (last : Place) : Type 0 where
   pub before : List Place
   pub whole : places ≡ before ++ last ∷ []
   pub runs : IsOpen next entry exit before

@@ -54,7 +54,8 @@ pub(crate) fn course_of(
     requires on { IsPlace infra.now graph.now entry.now }
     requires limit { length infra.now.detectors + 2 * length infra.now.tracks < limit }
     ensures ends { IfOk result (λ course.
-        Ends (Comes infra.now graph.now ways.now) entry.now exit course.ending course.places.items) }
+        Ends (Comes infra.now graph.now ways.now) entry.now exit
+        course.ending course.places.items) }
     ensures places { IfOk result (λ course. All (IsPlace infra.now graph.now) course.places.items) }
     ensures passed { IfOk result (λ course. course.ending ≡ Ending.Exit
         → course.detectors.keys ≡ detectors_of (entry.now ∷ course.places.items)) }

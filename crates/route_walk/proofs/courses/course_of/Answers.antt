@@ -16,7 +16,6 @@ unreachable-requires c =
     let short = open_short c.args.infra.now c.args.graph.now c.args.ways.now entry.route.direction entry.route.entry entry.route.exit c.args.exit c.requires.infra c.requires.layout entry.point c.steps.places.items runs c.steps.invariant.places in
     omega (arith, c.steps.invariant.count, c.requires.limit)
 
-
 pub returns-then-not-goes_on-clause-ends : goal.returns-then-not-goes_on-clause-ends
 returns-then-not-goes_on-clause-ends c =
     rw (c.in_ok-push.ensures.items, c.ending_of.ensures) (ends_here (Comes c.args.infra.now c.args.graph.now c.args.ways.now) c.args.entry.now c.args.exit c.steps.places.items c.steps.place c.in-Some.next c.steps.detectors.keys c.in_ok-passage.passage c.steps.invariant.runs c.steps.invariant.place c.steps.invariant.passed ((c.ahead.ensures.next c.in-Some.next).0 c.in-Some.is) c.in_ok-passage.ensures.passage (λ e. absurd (let on = c.goes_on.ensures.1 e in let off = c.if-not-goes_on.true in cc)))
