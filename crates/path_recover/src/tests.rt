@@ -123,7 +123,7 @@ fn is_timetable(net: &Network, base: &Base) -> bool
 }
 
 // Opens a disk for the line of three and a limit of the journal's bytes. The disk comes back at a refusal.
-fn opened<D: Disk>(
+fn opened<D: Disk + Drop>(
     alloc: Global,
     disk: D,
     journal_bytes: u64,
@@ -151,6 +151,7 @@ fn journal(alloc: Global, version: u8, bodies: &[&[u8]]) -> Result<Vec<u8>, NoMe
 }
 
 // What is written to a journal's bytes: a version, these records, so many bytes of it, then others, and one is changed.
+#[derive(Clone, Copy, Debug)]
 struct Row {
     version: u8,
     bodies: &'static [&'static [u8]],
@@ -295,6 +296,26 @@ fn send<D: Disk>(alloc: Global, book: &mut Book<D>, body: &[u8]) -> Result<Told,
     Ok(told_of(&committed))
 }
 
+// Whether these lines are told so, on a disk of which these syncs fail.
+fn are_told(
+    alloc: Global,
+    limit: u64,
+    syncs: &[u64],
+    lines: &[(&[u8], Told)],
+) -> Result<bool, Fail> {
+    let fails = Vec::from_slice(alloc, syncs)?;
+    let disk = MemDisk::failing_syncs(alloc, journal(alloc, 2, &[])?, 4096, fails)?;
+    let Ok(mut book) = opened(alloc, disk, limit)? else {
+        return Ok(false);
+    };
+    for (body, told) in lines {
+        if send(alloc, &mut book, body)? != *told {
+            return Ok(false);
+        }
+    }
+    Ok(true)
+}
+
 #[test]
 fn an_entry_is_settled_by_a_later_turn(rt: HostRuntime) -> Result<(), Fail> {
     let alloc = rt.alloc();
@@ -331,15 +352,7 @@ fn an_entry_is_settled_by_a_later_turn(rt: HostRuntime) -> Result<(), Fail> {
         ),
     ];
     for (limit, syncs, lines) in rows {
-        let fails = Vec::from_slice(alloc, syncs)?;
-        let disk = MemDisk::failing_syncs(alloc, journal(alloc, 2, &[])?, 4096, fails)?;
-        let first = opened(alloc, disk, limit)?;
-        let Ok(mut book) = first else {
-            return Err("not opened".into());
-        };
-        for (body, told) in lines {
-            assert_eq!(rt; send(alloc, &mut book, body)?, *told, "limit {limit}");
-        }
+        assert!(rt; are_told(alloc, limit, syncs, lines)?, "limit {limit}");
     }
     Ok(())
 }
@@ -404,35 +417,41 @@ impl Seen {
     // What is seen once a line was told this; None where it should have been told something else.
     fn behind(self, line: u64, told: Told) -> Option<Seen> {
         let joins = self.joins(line);
-        let frees = line == 1 || line == 4;
-        let grown = Seen {
-            front: self.front.saturating_add(1),
-            is_freed: self.is_freed || frees,
-            ..self
-        };
+        let mut seen = self;
         match told {
-            Told::Done(at) if joins && at == self.front => Some(Seen {
-                settled: grown.front,
-                ..grown
-            }),
-            Told::Unsettled(at) if joins && at == self.front => Some(Seen {
-                settled: at,
-                faults: self.faults.saturating_add(1),
-                ..grown
-            }),
-            Told::DiskFault => Some(Seen {
-                faults: self.faults.saturating_add(1),
-                ..self
-            }),
-            Told::Kept(_) | Told::Gone(_) | Told::AlreadyFreed(_) | Told::Other if !joins => {
-                Some(Seen {
-                    settled: self.front,
-                    ..self
-                })
+            Told::Done(at) => {
+                seen.grow(line);
+                seen.settled = seen.front;
+                is_told(seen, joins && at == self.front)
             }
-            _ => None,
+            Told::Unsettled(at) => {
+                seen.grow(line);
+                seen.settled = at;
+                seen.faults = seen.faults.saturating_add(1);
+                is_told(seen, joins && at == self.front)
+            }
+            Told::DiskFault => {
+                seen.faults = seen.faults.saturating_add(1);
+                Some(seen)
+            }
+            _ => {
+                seen.settled = seen.front;
+                is_told(seen, !joins)
+            }
         }
     }
+
+    // One entry more, which frees entry 0 if it is line 1 or line 4.
+    fn grow(&mut self, line: u64) {
+        self.front = self.front.saturating_add(1);
+        if line == 1 || line == 4 {
+            self.is_freed = true;
+        }
+    }
+}
+
+fn is_told(seen: Seen, right: bool) -> Option<Seen> {
+    if right { Some(seen) } else { None }
 }
 
 // The five lines on a book; what is seen then.
@@ -464,41 +483,65 @@ fn numbers_of(alloc: Global, history: &History) -> Result<Vec<u64>, NoMemory> {
     Ok(numbers)
 }
 
-// Whether each crash leaves the first entries of a history that has what is seen, all that are settled among them.
+// The numbers of the entries that a disk opens to.
+fn numbers_left(alloc: Global, left: MemDisk) -> Result<Option<Vec<u64>>, Fail> {
+    let Ok(book) = opened(alloc, left, MOST)? else {
+        return Ok(None);
+    };
+    let numbers = numbers_of(alloc, book.history())?;
+    Ok(Some(numbers))
+}
+
+// Whether these are the first of all numbers, so many at least.
+fn is_prefix(found: Option<Vec<u64>>, all: &[u64], least: u64) -> bool {
+    match found {
+        Some(numbers) => least <= numbers.len() as u64 && all.starts_with(&numbers),
+        None => false,
+    }
+}
+
+// Whether each crash leaves the first entries of a history, all that are settled among them.
 fn are_images_right(
     alloc: Global,
     disk: &MemDisk,
-    numbers: &[u64],
-    seen: &Seen,
+    all: &[u64],
+    settled: u64,
 ) -> Result<bool, Fail> {
     for choice in 0..8u64 {
         let left = disk.crash(alloc, choice)?;
-        match opened(alloc, left, MOST)? {
-            Ok(again) if seen.settled <= again.front() => {
-                if !numbers.starts_with(&numbers_of(alloc, again.history())?) {
-                    return Ok(false);
-                }
-            }
-            _ => return Ok(false),
+        let found = numbers_left(alloc, left)?;
+        if !is_prefix(found, all, settled) {
+            return Ok(false);
         }
     }
     Ok(true)
 }
 
-// A book on an empty journal, of whose disk these calls fail; where opening fails, the disk is opened again.
-fn book_on(alloc: Global, fails: &[u64]) -> Result<Book<MemDisk>, Fail> {
+// A disk with an empty journal, of which these calls fail.
+fn begun(alloc: Global, fails: &[u64]) -> Result<MemDisk, NoMemory> {
     let bytes = journal(alloc, 2, &[])?;
-    let disk = MemDisk::new(alloc, bytes, 4096, Vec::from_slice(alloc, fails)?)?;
-    let first = opened(alloc, disk, MOST)?;
-    let disk = match first {
+    MemDisk::new(alloc, bytes, 4096, Vec::from_slice(alloc, fails)?)
+}
+
+// Opens a disk, and once more where it fails.
+fn opened_at_last(alloc: Global, disk: MemDisk) -> Result<Book<MemDisk>, Fail> {
+    let disk = match opened(alloc, disk, MOST)? {
         Ok(book) => return Ok(book),
-        Err((disk, OpenFault::ReadFault)) => disk,
-        Err(_) => return Err("refused".into()),
+        Err((disk, _fault)) => disk,
     };
     match opened(alloc, disk, MOST)? {
         Ok(book) => Ok(book),
-        Err(_) => Err("refused twice".into()),
+        Err((_disk, _fault)) => Err("refused twice".into()),
     }
+}
+
+// The five lines on a disk of which a call fails: what is seen, and whether each crash then leaves it all.
+fn seen_with(alloc: Global, call: u64) -> Result<(Seen, bool), Fail> {
+    let mut book = opened_at_last(alloc, begun(alloc, &[call])?)?;
+    let seen = run_lines(alloc, &mut book)?;
+    let all = numbers_of(alloc, book.history())?;
+    let right = are_images_right(alloc, book.disk(), &all, seen.settled)?;
+    Ok((seen, right && all.len() as u64 == seen.front))
 }
 
 // Opening makes three calls of the disk, and each of the three lines that join makes four.
@@ -508,44 +551,39 @@ fn one_failing_call_is_told_once_and_costs_no_entry_that_was_settled(
 ) -> Result<(), Fail> {
     let alloc = rt.alloc();
     for call in 0..16u64 {
-        let mut book = book_on(alloc, &[call])?;
-        let seen = run_lines(alloc, &mut book)?;
-        let faults = if 3 <= call && call < 15 { 1 } else { 0 };
-        assert_eq!(rt; seen.faults, faults, "call {call}");
-        assert_eq!(rt; book.front(), seen.front, "call {call}");
-        assert!(rt;
-            are_images_right(alloc, book.disk(), &numbers_of(alloc, book.history())?, &seen)?,
-            "call {call}"
-        );
-        if faults == 0 {
-            assert_eq!(rt; seen.front, 3, "call {call}");
-        }
+        let (seen, right) = seen_with(alloc, call)?;
+        let is_in_a_line = 3 <= call && call < 15;
+        assert!(rt; right, "call {call}");
+        assert_eq!(rt; seen.faults == 1, is_in_a_line, "call {call}");
+        assert!(rt; is_in_a_line || seen.front == 3, "call {call}");
+        assert_eq!(rt; seen.settled, seen.front, "call {call}");
     }
     Ok(())
+}
+
+// The five lines on a disk that fails after so many calls: what is left of it, the numbers of all entries, and how many
+// were settled. A disk that is not opened comes back.
+fn left_after(alloc: Global, calls: u64) -> Result<(MemDisk, Vec<u64>, u64), Fail> {
+    let fuse = Fuse::new(begun(alloc, &[])?, calls);
+    let mut book = match opened(alloc, fuse, MOST)? {
+        Ok(book) => book,
+        Err((fuse, _fault)) => return Ok((fuse.into_inner(), Vec::new(alloc), 0)),
+    };
+    let seen = run_lines(alloc, &mut book)?;
+    let all = numbers_of(alloc, book.history())?;
+    Ok((book.close().into_inner(), all, seen.settled))
 }
 
 #[test]
 fn a_crash_after_any_call_leaves_what_was_settled(rt: HostRuntime) -> Result<(), Fail> {
     let alloc = rt.alloc();
     for calls in 0..16u64 {
-        let bytes = journal(alloc, 2, &[])?;
-        let disk = MemDisk::new(alloc, bytes, 4096, Vec::new(alloc))?;
-        let first = opened(alloc, Fuse::new(disk, calls), MOST)?;
-        let mut book = match first {
-            Ok(book) => book,
-            Err((fuse, OpenFault::ReadFault)) => {
-                assert!(rt; calls < 3, "calls {calls}");
-                assert_eq!(rt; fuse.into_inner().bytes().len(), 77);
-                continue;
-            }
-            Err(_) => return Err("refused".into()),
-        };
-        let seen = run_lines(alloc, &mut book)?;
-        assert_eq!(rt; book.front(), seen.front, "calls {calls}");
-        let numbers = numbers_of(alloc, book.history())?;
-        let left = book.close().into_inner();
+        let (left, all, settled) = left_after(alloc, calls)?;
+        // Four calls settle an entry: the record's write and sync, and those of its gate.
+        let expected = calls.saturating_sub(3) / 4;
+        assert_eq!(rt; settled, expected, "calls {calls}");
         assert!(rt;
-            are_images_right(alloc, &left, &numbers, &seen)?,
+            are_images_right(alloc, &left, &all, settled)?,
             "calls {calls}"
         );
     }
