@@ -1,0 +1,15 @@
+//! The book that a journal stands for, opened again after a crash.
+#![tactic(auto)]
+
+mod laws;
+mod opening;
+mod texts;
+
+pub use history_reading::{MoveFault, init_from};
+pub use journal_reading::{InitFault, OpenFault, init};
+pub use laws::{reopen, run_and_reopen};
+pub use opening::open;
+pub use texts::{fault_text, not_empty_text};
+
+#[cfg(test)]
+mod tests;
