@@ -1,0 +1,11 @@
+pub mod Lists
+pub mod Noted
+pub mod Named
+pub mod Owned
+pub mod Stepping
+pub mod Keeping
+pub mod Marking
+pub mod Joined
+pub mod Whole
+pub mod Telling
+pub mod Running

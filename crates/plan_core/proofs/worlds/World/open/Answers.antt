@@ -1,0 +1,23 @@
+use Rattle.std.proofs.Common.{◌≡◌, ◌+◌, ◌-◌, ◌<◌, ◌≤◌, ◌++◌, ◌∷◌, [], true, false, None, Some, length, map, take, refl, ap, sym, subst, ◌∙◌, arith}
+use Rattle.std.specs.List.{flat_map}
+use Rattle.std.proofs.lemmas.List.{take_all, take-append-le}
+use Rattle.rail_types.specs.Timetables.{Timetable}
+use Rattle.occupation_book.specs.Held.{held}
+use Rattle.grant_log.specs.Following.{AreLive}
+use Rattle.grant_log.specs.Legal.{Register}
+use Rattle.plan_core.specs.Events.{begun, read, stopped, without_last, written}
+use Rattle.plan_core.specs.Inside.{AreOne, party_of, plan_of}
+use Rattle.plan_core.specs.Parties.{changed_at, losing, noting, restarting, seeking, writing}
+use Rattle.plan_core.specs.Worlds.{IsSettled, MayWrite, Plan}
+use Rattle.plan_core.proofs.Keeping.{kept_begun, kept_first, kept_lost, kept_read, kept_seek, kept_settled, kept_stopped, kept_written}
+use Rattle.plan_core.proofs.Whole.{plan_is, whole}
+use Rattle.plan_core.proofs.worlds.World.open.Goals as goal
+
+pub invariant_of-self : goal.invariant_of-self
+invariant_of-self c =
+    let s = c.self-2.inside in
+    let world = plan_of s.history s.settled s.up s.clients.items in
+    let known = c.self-2.view_is ∙ c.in_ok-settle_all.ensures.ok in
+    let settled : s.settled ≡ length s.history.entries = ap (λ (it : Plan). it.settled) known ∙ ap (λ (it : Plan). length it.entries) (sym known) in
+    let live = subst (λ n. AreLive s.history.timetable (held s.claims) (take n s.history.entries)) settled c.self-2.invariant.live in
+    whole s.history s.claims s.settled true s.clients.items (record world { settled = length s.history.entries; up = true }) (kept_settled world c.self-2.invariant.kept true) refl refl settled refl refl live c.self-2.invariant.zones
