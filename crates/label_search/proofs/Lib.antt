@@ -13,5 +13,6 @@ pub mod Starting
 pub mod Fronts
 pub mod Members
 pub mod Rebuilding
+pub mod Within
 pub mod Seeking
 pub mod Below

@@ -1,7 +1,8 @@
 -- The members of windows are their arrivals.
 use Rattle.std.proofs.Common.{◌≡◌, ◌⊎◌, ℕ, List, [], ◌∷◌, ◌++◌, map, filter, not, Bool, true, false, cond, sym, subst, inl, inr, refl, arith}
-use Rattle.std.specs.Prelude.{ℤ, Any}
+use Rattle.std.specs.Prelude.{ℤ, ◌≤ℤ◌, All, Any}
 use Rattle.std.proofs.lemmas.List.Quantifiers.{Any-push}
+use Rattle.std.proofs.lemmas.List.Elements.{All-filter, All-map}
 use Rattle.label_search.specs.declared.plans.Member.{Member}
 use Rattle.label_search.specs.declared.labels.Front.{Front}
 use Rattle.free_windows.specs.Free.{Holds}
@@ -63,3 +64,6 @@ module _ (place : ℕ) (tick : ℤ) where
     | inl here ↦ any_here IsThere label labels here
     | inr behind ↦ any_there IsThere label labels (in_of_held labels behind)
   ]
+
+pub members_some : (fronts : List Front) → All (λ front. front.ticks.from ≤ℤ front.ticks.to) fronts → All (λ member. member.window.from ≤ℤ member.window.to) (members_of fronts)
+members_some fronts some = All-map (λ member. member.window.from ≤ℤ member.window.to) as_member (filter (λ front. not front.ready) fronts) (All-filter (λ front. not front.ready) (λ front. front.ticks.from ≤ℤ front.ticks.to) fronts some)

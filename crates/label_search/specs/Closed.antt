@@ -1,5 +1,5 @@
 -- Sets of places and ticks that no move leads out of.
-use Rattle.std.specs.Prelude.{◌≡◌, ℕ, ℤ, pos, ◌-ℤ◌, List, Any}
+use Rattle.std.specs.Prelude.{◌≡◌, ℕ, ◌<◌, ℤ, pos, ◌-ℤ◌, ◌≤ℤ◌, List, length, Any}
 use Rattle.label_search.specs.declared.plans.Target.{Target}
 use Rattle.label_search.specs.declared.plans.Target.TheVariants.{Place as To, End}
 use Rattle.label_search.specs.declared.plans.Plan.{Plan}
@@ -10,7 +10,7 @@ use Rattle.label_search.specs.Free.{Book}
 use Rattle.free_windows.specs.Free.{Holds}
 use Rattle.label_search.specs.declared.limits.Limits.{Limits}
 use Rattle.label_search.specs.Limits.{IsBelow}
-use Rattle.label_search.specs.Paths.{IsMove, MoveFits, Enters, WaitFits, place_at, target_of, leave_of}
+use Rattle.label_search.specs.Paths.{IsMove, MoveFits, Enters, WaitFits, place_at, move_at, target_of, leave_of}
 
 abbrev pub IsHeld : List Member → ℕ → ℤ → Type 0
 IsHeld members place tick = Any (λ member. (member.place ≡ place)
@@ -52,3 +52,14 @@ before trip tick = record {
   depart = trip.depart;
   arrive = record { from = trip.arrive.from; to = tick -ℤ pos 1 };
 }
+
+-- a move of the plan leads to the place
+abbrev pub IsLedTo : Plan → ℕ → Type 0
+IsLedTo plan place = (from number : ℕ) × (from < length plan.places)
+    × ((move_at plan from number).target ≡ To place)
+
+-- a place that a move leads to, and one tick at least, all of them ticks of the plan
+pub record IsMemberOf (plan : Plan) (member : Member) : Type 0 where
+  pub place : IsLedTo plan member.place
+  pub some : member.window.from ≤ℤ member.window.to
+  pub ticks : (pos 0 ≤ℤ member.window.from) × (member.window.to ≤ℤ plan.horizon)

@@ -146,6 +146,8 @@ impl Labels {
             → IsReached self.now.labels place false tick → IsHeld members.items place tick) }
         ensures reached { IfOk result (λ members. (place : ℕ) (tick : ℤ)
             → IsHeld members.items place tick → IsReached self.now.labels place false tick) }
+        ensures some { IfOk result (λ members. All
+            (λ member. member.window.from ≤ℤ member.window.to) members.items) }
     {
         let fronts = self.fronts(alloc, 0)?;
         let members = members_among(alloc, fronts.as_slice())?;

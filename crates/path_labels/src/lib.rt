@@ -1,0 +1,12 @@
+//! The path of a request that leaves last as early as can be, or what shows that there is none.
+#![tactic(auto)]
+
+mod answers;
+mod laws;
+mod members;
+mod paths;
+mod seeks;
+
+pub use answers::Sought;
+pub use laws::{closed_plans_are_closed, granted_paths_are_planned, planned_paths_are_granted};
+pub use seeks::{find, label_count, seek};
