@@ -1,2 +1,5 @@
-pub mod Cuts
 pub mod Names
+pub mod Cuts
+pub mod Forms
+pub mod Reading
+pub mod Lines

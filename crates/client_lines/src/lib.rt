@@ -1,7 +1,18 @@
 //! The lines of clients, read by their forms.
 #![tactic(auto)]
 
+mod asks;
+mod cuts;
+mod faults;
+mod groups;
+mod items;
 mod known;
+mod lines;
+mod numbers;
 mod places;
+mod words;
 
+pub use asks::{Ask, Line};
+pub use faults::LineFault;
 pub use known::Known;
+pub use lines::{MAX_LINE_BYTES, read_line};
