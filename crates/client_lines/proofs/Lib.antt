@@ -6,3 +6,6 @@ pub mod Fields
 pub mod Grouping
 pub mod Indexes
 pub mod Passed
+pub mod Claims
+pub mod Found
+pub mod Ranges

@@ -3,3 +3,4 @@ pub mod Cuts
 pub mod Forms
 pub mod Reading
 pub mod Lines
+pub mod Within
