@@ -83,18 +83,21 @@ module _ (known : Names) where
     hold_within fields ask s =
         let claim = claim_within None s.5.1 s.5.0 s.5.4 in
         let all = All-cons IsClaimOf s.5.0 [] claim (All-nil IsClaimOf) in
-        subst (IsAskWithin net) (sym s.5.5.1)
-        (omega (arith, s.4.2.3), record {
-          within = firsts IsClaimWithinLimits (λ one. one.zone < net.zones) (s.5.0 ∷ []) all;
-          some = omega arith;
-          count = omega arith;
-          joined = record {
-            ticks = All-cons (λ (one : Claim). HasTicks one.span) s.5.0 [] claim.0.ordered (All-nil (λ (one : Claim). HasTicks one.span));
-            apart = AllPairs-cons EndsBefore s.5.0 [] (All-nil (EndsBefore s.5.0)) none_apart;
-          };
-          short = omega arith;
-          plain = λ none. refl;
-        }, seconds IsClaimWithinLimits (λ one. one.zone < net.zones) (s.5.0 ∷ []) all)
+        subst (IsAskWithin net) (sym s.5.5.1) (
+          omega (arith, s.4.2.3),
+          record {
+            within = firsts IsClaimWithinLimits (λ one. one.zone < net.zones) (s.5.0 ∷ []) all;
+            some = omega arith;
+            count = omega arith;
+            joined = record {
+              ticks = All-cons (λ (one : Claim). HasTicks one.span) s.5.0 [] claim.0.ordered (All-nil (λ (one : Claim). HasTicks one.span));
+              apart = AllPairs-cons EndsBefore s.5.0 [] (All-nil (EndsBefore s.5.0)) none_apart;
+            };
+            short = omega arith;
+            plain = λ none. refl;
+          },
+          seconds IsClaimWithinLimits (λ one. one.zone < net.zones) (s.5.0 ∷ []) all,
+        )
 
     holds_within : (fields : List (List ℕ)) (ask : Ask) → Spells (a_holds known) fields ask → IsAskWithin net ask
     unfolding a_holds
@@ -104,27 +107,33 @@ module _ (known : Names) where
         let within = firsts IsClaimWithinLimits (λ one. one.zone < net.zones) s.5.5.5.0 claims.0 in
         let reason = reason_short s.5.4.2.0 s.5.0 s.5.4.2.3 in
         let some : 1 ≤ length s.5.0 = subst (λ (one : List ℕ). 1 ≤ length one) reason.0 s.5.4.2.2.some in
-        subst (IsAskWithin net) (sym s.5.5.5.5.1)
-        (omega (arith, s.4.2.3), record {
-          within = within;
-          some = omega (arith, claims.1, s.5.5.4.2.2);
-          count = omega (arith, claims.1, s.5.5.4.2.3);
-          joined = record { ticks = λ k d less. (within k d less).ordered; apart = apart.1 };
-          short = reason.1;
-          plain = λ none. absurd (omega (arith, some, ap length none));
-        }, seconds IsClaimWithinLimits (λ one. one.zone < net.zones) s.5.5.5.0 claims.0)
+        subst (IsAskWithin net) (sym s.5.5.5.5.1) (
+          omega (arith, s.4.2.3),
+          record {
+            within = within;
+            some = omega (arith, claims.1, s.5.5.4.2.2);
+            count = omega (arith, claims.1, s.5.5.4.2.3);
+            joined = record { ticks = λ k d less. (within k d less).ordered; apart = apart.1 };
+            short = reason.1;
+            plain = λ none. absurd (omega (arith, some, ap length none));
+          },
+          seconds IsClaimWithinLimits (λ one. one.zone < net.zones) s.5.5.5.0 claims.0,
+        )
 
     pin_within : (fields : List (List ℕ)) (ask : Ask) → Spells (a_pin known) fields ask → IsAskWithin net ask
     unfolding a_pin
     pin_within fields ask s =
         let runs = groups_all IsRunOf (a_run known) run_within s.5.5.0 None s.5.5.5.1 s.5.5.5.0 s.5.5.5.4 in
-        subst (IsAskWithin net) (sym s.5.5.5.5.1)
-        (omega (arith, s.4.2.3), record {
-          train = train_within s.5.1 s.5.0 s.5.4;
-          some = omega (arith, runs.1, s.5.5.4.2.2);
-          count = omega (arith, runs.1, s.5.5.4.2.3);
-          runs = firsts IsRunWithinLimits (λ run. run.block < length net.blocks) s.5.5.5.0 runs.0;
-        }, seconds IsRunWithinLimits (λ run. run.block < length net.blocks) s.5.5.5.0 runs.0)
+        subst (IsAskWithin net) (sym s.5.5.5.5.1) (
+          omega (arith, s.4.2.3),
+          record {
+            train = train_within s.5.1 s.5.0 s.5.4;
+            some = omega (arith, runs.1, s.5.5.4.2.2);
+            count = omega (arith, runs.1, s.5.5.4.2.3);
+            runs = firsts IsRunWithinLimits (λ run. run.block < length net.blocks) s.5.5.5.0 runs.0;
+          },
+          seconds IsRunWithinLimits (λ run. run.block < length net.blocks) s.5.5.5.0 runs.0,
+        )
 
     ask_within : (fields : List (List ℕ)) (ask : Ask) → Spells (an_ask known) fields ask → IsAskWithin net ask
     unfolding an_ask
@@ -137,18 +146,21 @@ module _ (known : Names) where
         let count = arrive.5 in
         let listed = count.5 in
         let stops = groups_all IsStopOf (a_stop known) stop_within count.0 None listed.1 listed.0 listed.4 in
-        subst (IsAskWithin net) (sym listed.5.1)
-        (omega (arith, s.4.2.3), record {
-          train = train_within train.1 train.0 train.4;
-          depart = window_within depart.1 depart.0 depart.4;
-          arrive = window_within arrive.1 arrive.0 arrive.4;
-          count = omega (arith, stops.1, count.4.2.3);
-          dwells = firsts (λ stop. stop.dwell ≤ MAX_DWELL) (λ stop. stop.stop < net.stops) listed.0 stops.0;
-        }, record {
-          origin = point_within origin.1 origin.0 origin.4;
-          destination = point_within destination.1 destination.0 destination.4;
-          stops = seconds (λ stop. stop.dwell ≤ MAX_DWELL) (λ stop. stop.stop < net.stops) listed.0 stops.0;
-        })
+        subst (IsAskWithin net) (sym listed.5.1) (
+          omega (arith, s.4.2.3),
+          record {
+            train = train_within train.1 train.0 train.4;
+            depart = window_within depart.1 depart.0 depart.4;
+            arrive = window_within arrive.1 arrive.0 arrive.4;
+            count = omega (arith, stops.1, count.4.2.3);
+            dwells = firsts (λ stop. stop.dwell ≤ MAX_DWELL) (λ stop. stop.stop < net.stops) listed.0 stops.0;
+          },
+          record {
+            origin = point_within origin.1 origin.0 origin.4;
+            destination = point_within destination.1 destination.0 destination.4;
+            stops = seconds (λ stop. stop.dwell ≤ MAX_DWELL) (λ stop. stop.stop < net.stops) listed.0 stops.0;
+          },
+        )
 
     free_within : (fields : List (List ℕ)) (ask : Ask) → Spells a_free fields ask → IsAskWithin net ask
     unfolding a_free

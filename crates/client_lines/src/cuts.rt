@@ -41,8 +41,9 @@ impl<'a> Model for Fields<'a> {
     ghost Value = { Left };
 
     ghost view = { λ a. record {
-        at = a.at;
-        fields = if a.is_done then [] else fields_of a.rest.now } };
+      at = a.at;
+      fields = if a.is_done then [] else fields_of a.rest.now;
+    } };
 
     ghost invariant = { λ a. a.is_done ≡ false → a.at + length a.rest.now + 1 < 2 ^ 32 };
 }

@@ -35,7 +35,11 @@ pub(crate) fn read_window(fields: &mut Fields<'_>) -> Result<Window, LineFault>
     Ok(Window { from, to })
 }
 
-pub(crate) fn read_train(alloc: Global, fields: &mut Fields<'_>, known: &Known) -> Result<Train, LineFault>
+pub(crate) fn read_train(
+    alloc: Global,
+    fields: &mut Fields<'_>,
+    known: &Known,
+) -> Result<Train, LineFault>
     ensures { Gives fields.new result (read (a_train known.now) fields.old) }
 {
     let at = fields.at();
@@ -48,7 +52,11 @@ pub(crate) fn read_train(alloc: Global, fields: &mut Fields<'_>, known: &Known) 
     Ok(train.copy(alloc)?)
 }
 
-pub(crate) fn read_point(alloc: Global, fields: &mut Fields<'_>, known: &Known) -> Result<u32, LineFault>
+pub(crate) fn read_point(
+    alloc: Global,
+    fields: &mut Fields<'_>,
+    known: &Known,
+) -> Result<u32, LineFault>
     ensures { Gives fields.new result (read (a_point known.now) fields.old) }
 {
     let at = fields.at();

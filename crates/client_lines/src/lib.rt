@@ -11,6 +11,8 @@ mod laws;
 mod lines;
 mod numbers;
 mod places;
+#[cfg(test)]
+mod tests;
 mod words;
 
 pub use asks::{Ask, Line};

@@ -16,9 +16,7 @@ use crate::items::{read_point, read_position, read_reason, read_train, read_wind
 use crate::known::Known;
 use crate::words::{read_first_word, read_word};
 use name_text::names_are_spelled_once;
-use rail_types::{
-    Claim, List, MAX_HOLD_CLAIMS, MAX_PINNED_RUNS, MAX_STOPS, Name, Path, Request,
-};
+use rail_types::{Claim, List, MAX_HOLD_CLAIMS, MAX_PINNED_RUNS, MAX_STOPS, Name, Path, Request};
 use std::alloc::Global;
 
 /// Most bytes of a line, its end not counted.

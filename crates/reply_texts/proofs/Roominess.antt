@@ -65,7 +65,6 @@ numbered number entry n fields number_fits entry_fits others =
     let word = field_le (codes "entry") (decimal entry ∷ fields) 5 (20 + n + 1) (omega arith) last in
     omega (arith, field_le (decimal number) (codes "entry" ∷ decimal entry ∷ fields) 20 (5 + (20 + n + 1) + 1) (number_le number number_fits) word)
 
-
 -- WORD N entry I at K
 told_le : (word : List ℕ) (number entry front : ℕ) → length word ≤ 9 → TellsEntry number entry front
     → length ((word ++ spaced (decimal number ∷ codes "entry" ∷ decimal entry ∷ codes "at" ∷ decimal front ∷ [])) ++ 10 ∷ []) ≤ room_for 0

@@ -5,8 +5,9 @@ mod deeds;
 mod parts;
 mod prints;
 mod replies;
-
 mod rooms;
+#[cfg(test)]
+mod tests;
 mod texts;
 
 pub use replies::Reply;
