@@ -1,6 +1,6 @@
 //! A text of bytes that grows.
 
-ghost use Rattle.std.specs.Prelude.{◌≡◌, ◌+◌, ◌≤◌, ◌++◌, ◌↔◌, [], length, OnOk, OnErr, IsOk, IsTrue};
+ghost use Rattle.std.specs.Prelude.{◌≡◌, ◌+◌, ◌≤◌, ◌++◌, ◌↔◌, [], length, take, OnOk, OnErr, IsOk, IsTrue};
 
 use no_memory::NoMemory;
 use std::alloc::Global;
@@ -91,6 +91,14 @@ impl Buffer {
         ensures spare { self.new.spare ≡ self.old.spare + length self.old.held }
     {
         self.bytes.clear();
+    }
+
+    /// Lets go of all but the first `count` bytes held, and keeps their room.
+    pub fn truncate(&mut self, count: usize)
+        ensures held { self.new.held ≡ take count self.old.held }
+        ensures spare { self.old.spare ≤ self.new.spare }
+    {
+        self.bytes.truncate(count);
     }
 
     /// The bytes held, as a `Vec`.

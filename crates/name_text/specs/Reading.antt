@@ -48,3 +48,7 @@ read_on (Halfway high) [] = None
 read_on escape (byte ∷ bytes) =
     option_and_then (λ step. with_front (found_bytes step.found) (read_on step.escape bytes))
     (step_of escape byte)
+
+-- the name that a text spells
+abbrev pub name_in : List ℕ → Option (List ℕ)
+name_in text = read_on Outside text

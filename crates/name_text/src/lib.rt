@@ -2,5 +2,7 @@
 #![tactic(auto)]
 
 mod spellings;
+mod writing;
 
-pub use spellings::unescaped;
+pub use spellings::{names_are_spelled_once, unescaped};
+pub use writing::push_escaped;

@@ -1,10 +1,9 @@
 //! The names that texts spell.
 
-ghost use Rattle.std.specs.Prelude.{◌≡◌, ◌<◌, ◌++◌, ℕ, List, OnOk, option_map, IfOk, IfSome};
-ghost use Rattle.name_text.specs.declared.spellings.Escape.TheVariants.{Outside};
-ghost use Rattle.json_fields.specs.Escapes.{is_plain};
-ghost use Rattle.name_text.specs.Spellings.{Spells};
-ghost use Rattle.name_text.specs.Reading.{found_bytes, hex_value, IsHalf, read_on, step_of};
+ghost use Rattle.std.specs.Prelude.{◌≡◌, ◌<◌, ◌++◌, ℕ, List, Some, OnOk, option_map, IfOk, IfSome};
+ghost use Rattle.json_fields.specs.Escapes.{escaped, is_plain};
+ghost use Rattle.name_text.specs.Spellings.{AreBytes, Spells};
+ghost use Rattle.name_text.specs.Reading.{found_bytes, hex_value, IsHalf, name_in, step_of};
 
 use no_memory::NoMemory;
 use std::alloc::Global;
@@ -27,19 +26,21 @@ struct Step {
 /// The name that a text spells, None where it spells none. Each byte has one spelling, so that no name is spelled
 /// twice.
 pub fn unescaped(alloc: Global, text: &[u8]) -> Result<Option<Vec<u8>>, NoMemory>
-    ensures { IfOk result (λ name. Spells text.now (option_map (λ bytes. bytes.items) name)) }
+    ensures spelled { IfOk result (λ name. Spells text.now (option_map (λ bytes. bytes.items) name)) }
+    ensures read { IfOk result (λ name. option_map (λ bytes. bytes.items) name ≡ name_in text.now) }
 {
     names_are_spelled_once();
     read(alloc, text)
 }
 
 /// What is read is spelled so, and what is spelled so is read.
-fn names_are_spelled_once()
-    ensures { (text : List ℕ) → Spells text (read_on Outside text) }
+pub fn names_are_spelled_once()
+    ensures spelled { (text : List ℕ) → Spells text (name_in text) }
+    ensures read { (name : List ℕ) → AreBytes name → name_in (escaped name) ≡ Some name }
 {}
 
 fn read(alloc: Global, text: &[u8]) -> Result<Option<Vec<u8>>, NoMemory>
-    ensures { IfOk result (λ name. option_map (λ bytes. bytes.items) name ≡ read_on Outside text.now) }
+    ensures { IfOk result (λ name. option_map (λ bytes. bytes.items) name ≡ name_in text.now) }
 {
     let mut name = Vec::with_capacity(alloc, text.len())?;
     let mut escape = Escape::Outside;
@@ -122,7 +123,7 @@ fn hex_value(byte: u8) -> Option<u8>
 }
 
 /// Whether a name's spelling shows this byte as it is.
-fn is_plain(byte: u8) -> bool
+pub(crate) fn is_plain(byte: u8) -> bool
     ensures { result ≡ is_plain byte }
 {
     33 <= byte && byte <= 126 && byte != b'%'

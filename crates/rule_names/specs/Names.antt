@@ -1,0 +1,10 @@
+-- The names of admission rules as texts.
+use Rattle.std.specs.Prelude.{List, ℕ, ◌++◌, codes, decimal}
+use Rattle.rule_names.specs.declared.RuleName.{RuleName}
+use Rattle.rule_names.specs.declared.RuleName.TheVariants.{Quota, Curfew, Longest, Own}
+
+abbrev pub name_text : RuleName → List ℕ
+name_text Quota = codes "quota"
+name_text Curfew = codes "curfew"
+name_text Longest = codes "longest"
+name_text (Own number) = codes "own-" ++ decimal number
