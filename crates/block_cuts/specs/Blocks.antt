@@ -33,10 +33,12 @@ pub record IsBlock (lines : Lines) (walk : Walk) (from to : ℕ) (block : Block)
   pub serves : AreServed lines.parts (stretches_between walk from to) block.serves
 
 -- One block between each two neighbouring cuts, in order.
-pub record AreBlocks (lines : Lines) (walk : Walk) (cuts : List ℕ) (blocks : List Block) : Type 0 where
+pub record AreBlocks (lines : Lines) (walk : Walk) (cuts : List ℕ)
+    (blocks : List Block) : Type 0 where
   pub many : length blocks + 1 ≡ length cuts
   pub each : (k : ℕ) (d : Block) → k < length blocks
-      → IsBlock lines walk (slice_index cuts k) (slice_index cuts (k + 1)) (slice_index_or blocks k d)
+      → IsBlock lines walk (slice_index cuts k) (slice_index cuts (k + 1))
+      (slice_index_or blocks k d)
 
 -- The blocks of a walk, between its cuts.
 abbrev pub AreBlocksOf : Lines → Walk → List Block → Type 0

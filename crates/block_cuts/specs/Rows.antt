@@ -11,5 +11,6 @@ abbrev pub row_of : {X : Type 0} → List (List X) → ℕ → List X
 row_of rows row = slice_index_or rows row []
 
 -- *Inside*: each row has its objects, in their order.
-pub record AreRows {X : Type 0} (row_number : X → ℕ) (items : List X) (rows : List (List X)) : Type 0 where
+pub record AreRows {X : Type 0} (row_number : X → ℕ) (items : List X)
+    (rows : List (List X)) : Type 0 where
   pub each : (row : ℕ) → row_of rows row ≡ filter (is_in row_number row) items

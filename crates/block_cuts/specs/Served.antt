@@ -20,6 +20,7 @@ abbrev pub stops_on : List StopPart → List Stretch → List ℕ
 stops_on parts stretches = flat_map (λ stretch. stops_in parts stretch) stretches
 
 -- Each operational point with a part on the stretches, once, ascending.
-pub record AreServed (parts : List StopPart) (stretches : List Stretch) (stops : List ℕ) : Type 0 where
+pub record AreServed (parts : List StopPart) (stretches : List Stretch)
+    (stops : List ℕ) : Type 0 where
   pub rises : IsStrictlyIncreasing stops
   pub each : (stop : ℕ) → Contains stops stop ↔ Contains (stops_on parts stretches) stop

@@ -90,7 +90,8 @@ fn fill_rows<T: InRow + Copy>(rows: &mut [List<T>], all: &[T]) -> Result<(), NoM
 fn add_item<T: InRow + Copy>(rows: &mut [List<T>], item: &T) -> Result<(), NoMemory>
     requires { T.row_number item.now < length rows.old }
     ensures ok { OnOk result (rows.new
-        ≡ slice_set rows.old (T.row_number item.now) (row_of rows.old (T.row_number item.now) ++ item.now ∷ [])) }
+        ≡ slice_set rows.old (T.row_number item.now)
+        (row_of rows.old (T.row_number item.now) ++ item.now ∷ [])) }
 {
     let row = &mut rows[item.row_number() as usize];
     row.push(*item)?;
