@@ -69,7 +69,6 @@ bodies-count (entry ∷ entries) = ap suc (bodies-count entries)
 module _ (once : (timetable : Timetable) (version : ℕ) (network base file : List ℕ) (a b : List Entry) → TellsHistory timetable version network base file a → TellsHistory timetable version network base file b → a ≡ b)
     {D : Type 0} (disk : Ghosts D) (book : Ledger D) (kept : IsKept disk book) (has : All HasBody book.entries)
     (timetable : Timetable) (network base : List ℕ) (files : IsOfFiles timetable network base book) where
-
   -- a file that reads as a prefix of the book's history tells one, by the files of the book
   tells-it : (least : ℕ) (image : List ℕ) (prefix : IsPrefixOf book least image) → TellsHistory timetable 2 network base image (take prefix.count book.entries)
   tells-it least image prefix =

@@ -1,16 +1,13 @@
 //! What a crash leaves of a book, opened again.
 
-ghost use Rattle.std.specs.Prelude.{◌≡◌, IfErr, IfOk, OnOk, All};
-ghost use Rattle.entry_codec.specs.Within.{HasBody};
+ghost use Rattle.std.specs.Prelude.{◌≡◌, IfErr, IfOk};
 ghost use Rattle.rail_types.specs.Timetables.{IsTimetable, timetable_of};
-ghost use Rattle.history_reading.specs.Failing.{IsUnread};
+ghost use Rattle.history_reading.specs.Failing.{HasFaultCause, IsUnread};
 ghost use Rattle.path_commit.specs.Runs.{AreInRange, Grows};
 ghost use Rattle.path_recover.specs.Crashes.{IsOfFiles, IsReopened, KeepsDone, WasLeft};
+ghost use Rattle.path_recover.specs.Opening.{IsJustMade};
 
 use crate::open;
-use byte_fields::Buffer;
-use entry_codec::write;
-use grant_log::History;
 use history_reading::one_reading;
 use journal_reading::OpenFault;
 use no_memory::NoMemory;
@@ -35,14 +32,15 @@ pub fn reopen<D: Disk, E: Disk>(
     requires files { IsOfFiles (timetable_of net.now base) network.now base_digest.now book.now }
     ensures opened { IfOk result (λ opened.
         IsReopened D.Disk book.now (E.contents left) opened.entries) }
+    ensures made { IfOk result (λ opened. IsJustMade E.Disk (timetable_of net.now base)
+        network.now base_digest.now opened) }
+    ensures cause { IfErr result (λ refused.
+        HasFaultCause (E.faults left) (E.faults refused.0) refused.1) }
     ensures refused { IfErr result (λ refused.
         WasLeft D.Disk book.now.disk book.now.made (E.contents left) → IsUnread refused.1) }
 {
     one_reading();
     book.keeps();
-    let Ok(()) = have_bodies(alloc, book.history()) else {
-        return Err((left, OpenFault::Memory));
-    };
     let opened = match open(alloc, left, net, base, network, base_digest) {
         Ok(opened) => opened,
         Err(refused) => return Err(refused),
@@ -69,6 +67,8 @@ pub fn run_and_reopen<D: Disk, E: Disk>(
     ensures grows { Grows book.old book.new }
     ensures opened { IfOk result (λ ended. IfOk ended.1 (λ opened.
         IsReopened D.Disk book.new (E.contents left) opened.entries)) }
+    ensures made { IfOk result (λ ended. IfOk ended.1 (λ opened. IsJustMade E.Disk
+        (timetable_of net.now base) network.now base_digest.now opened)) }
     ensures done { IfOk result (λ ended. IfOk ended.1 (λ opened. KeepsDone D.Disk book.new
         (E.contents left) sent.now ended.0.items opened.entries)) }
     ensures refused { IfOk result (λ ended. IfErr ended.1 (λ refused.
@@ -79,17 +79,4 @@ pub fn run_and_reopen<D: Disk, E: Disk>(
     };
     let opened = reopen(alloc, book, left, net, base, network, base_digest);
     Ok((answers, opened))
-}
-
-// For clauses: each entry of a history has a body.
-fn have_bodies(alloc: Global, history: &History) -> Result<(), NoMemory>
-    ensures { OnOk result (All HasBody history.now.entries) }
-{
-    let mut body = Buffer::new(alloc);
-    for at in 0..history.front() {
-        if let Some(entry) = history.entry(at) {
-            write(entry, &mut body)?;
-        }
-    }
-    Ok(())
 }

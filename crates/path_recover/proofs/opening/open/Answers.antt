@@ -1,5 +1,8 @@
 use Rattle.std.proofs.Common.{◌≡◌, ℕ, List, ap, subst, sym, ◌∙◌}
 use Rattle.std.specs.Prelude.{IfSome}
+use Rattle.std.proofs.lemmas.List.Elements.{All-weaker}
+use Rattle.entry_codec.specs.Within.{HasBody}
+use Rattle.journal_reading.specs.Walks.{IsSpelledIn}
 use Rattle.rail_types.specs.declared.entries.Entry.{Entry}
 use Rattle.rail_types.specs.Timetables.{Timetable, timetable_of}
 use Rattle.history_reading.specs.Failing.{IsUnread}
@@ -35,3 +38,7 @@ returns-in-Ok-of-clause-tells g c =
     if-more (λ file. IsFound timetable 2 network base file found.history.entries found.gate) (λ file. TellsHistory (timetable_of c.args.net.now c.args.base) 2 network base file c.in-Ok-of.book.entries) (g.D.Disk.contents c.args.disk)
     (λ file is. subst (λ (t : Timetable). TellsHistory t 2 network base file c.in-Ok-of.book.entries) same (subst (λ (l : List Entry). TellsHistory timetable 2 network base file l) (sym entries) (c.one_reading.ensures.found timetable 2 network base file found.history.entries found.gate is)))
     c.in-Ok-read.ensures.found
+
+pub of-requires-clause-spelled : goal.of-requires-clause-spelled
+of-requires-clause-spelled g c =
+    All-weaker (IsSpelledIn 2) HasBody (λ entry is. is.0) c.in-Ok-read.found.history.entries c.in-Ok-read.ensures.spelled
