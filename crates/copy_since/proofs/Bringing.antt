@@ -1,22 +1,20 @@
 -- What entries bring and free since a front, against what is live then and now.
-use Rattle.std.proofs.Common.{◌≡◌, ◌≢◌, ◌↔◌, ◌⊎◌, ℕ, zero, suc, ◌+◌, ◌-◌, ◌<◌, ◌≤◌, Bool, true, false, nat_eq, List, [], ◌∷◌, ◌++◌, length, take, drop, get_or, map, position, Option, Some, None, option_map, is_some, if◌then◌else◌, All, AllPairs, Any, Contains, inl, inr, sym, ap, subst, refl, ◌∙◌, arith, length-append, length-drop, length-take, slice_get, ℤ, ◌<ℤ◌}
+use Rattle.std.proofs.Common.{◌≡◌, ◌≢◌, ◌⊎◌, ℕ, zero, suc, ◌+◌, ◌-◌, ◌<◌, ◌≤◌, true, false, nat_eq, List, [], ◌∷◌, ◌++◌, length, take, drop, get_or, position, Option, Some, None, option_map, is_some, if◌then◌else◌, All, AllPairs, Any, Contains, inl, inr, sym, ap, subst, refl, ◌∙◌, arith, length-append, slice_get, ℤ, ◌<ℤ◌}
 use Rattle.std.proofs.lemmas.Bool.{cases_lt}
 use Rattle.std.proofs.lemmas.Int.{ints}
 use Rattle.std.proofs.Math.Seq.{get_or-append_seam}
 use Rattle.std.proofs.Math.ListN.{get_or-append}
 use Rattle.std.proofs.lemmas.Bool.Decides.{nat_tests}
-use Rattle.std.proofs.lemmas.List.{get_or-drop}
-use Rattle.std.proofs.lemmas.List.Elements.{All-append, All-nil, All-cons, All-contains, All-contains_itself, All-map, Contains-append_left, Contains-append_right, Contains-append_cases}
+use Rattle.std.proofs.lemmas.List.Elements.{All-append, All-nil, All-cons, All-contains, All-map, Contains-append_left, Contains-append_right}
 use Rattle.std.proofs.lemmas.Option.{slice_get_within}
 use Rattle.rail_types.specs.declared.paths.Claim.{Claim}
 use Rattle.rail_types.specs.declared.bases.BaseClaim.{BaseClaim}
 use Rattle.rail_types.specs.declared.entries.Entry.{Entry}
 use Rattle.rail_types.specs.declared.entries.Deed.{Deed}
 use Rattle.rail_types.specs.declared.entries.Deed.TheVariants.{Hold, Grant, Free}
-use Rattle.rail_types.specs.declared.entries.Owner.{Owner}
 use Rattle.rail_types.specs.declared.entries.Owner.TheVariants.{Base as of_train, Entry as of_entry}
 use Rattle.rail_types.specs.Limits.{IsNear, IsNearSpan, IsTick}
-use Rattle.rail_types.specs.Occupation.{AreJoined, Clash, EndsBefore, HasTicks, HeldClaim}
+use Rattle.rail_types.specs.Occupation.{AreJoined, Clash, HasTicks, HeldClaim}
 use Rattle.rail_types.specs.Timetables.{IsTimetable, Timetable, base_claims}
 use Rattle.occupation_book.specs.Held.{AreOnZonesOf, IsFree}
 use Rattle.grant_log.specs.Following.{AreLive, Gains}
@@ -24,13 +22,13 @@ use Rattle.grant_log.specs.Legal.{IsInRange, IsLegal, NoneClash}
 use Rattle.grant_log.specs.Live.{claims_of, freed_by, frees, live_claims, live_from, live_of, owned_by}
 use Rattle.grant_log.specs.Verdict.{breaks}
 use Rattle.grant_log.proofs.Freed.{freed_take}
-use Rattle.grant_log.proofs.Lives.{IsOf, IsUnfreed, entry_at, is_live, is_owned, live_cases, live_from_more, live_is, owned_is, planned_is_live, planned_owner, unfreed_is_live}
+use Rattle.grant_log.proofs.Lives.{IsUnfreed, is_live, live_cases, live_from_more, live_is, owned_is, planned_is_live, planned_owner, unfreed_is_live}
 use Rattle.grant_log.proofs.Positions.{is_false, none_passes, not_true, position_none}
 use Rattle.grant_log.proofs.Slices.{is_contained, slice_get_take, take_slice_get}
 use Rattle.copy_since.specs.Rooms.{MayBeHeld}
-use Rattle.copy_since.specs.Since.{AreFreedBelow, IsFreedFrom, IsFreedSince, brought_since, claims_at, claims_of_some}
+use Rattle.copy_since.specs.Since.{AreFreedBelow, IsFreedSince, brought_since, claims_at, claims_of_some}
 use Rattle.copy_since.specs.declared.since.Freed.{Freed}
-use Rattle.copy_since.proofs.Elements.{all_by, contains_head, contains_tail, contains_cases, no_element}
+use Rattle.copy_since.proofs.Elements.{all_by, no_element}
 use Rattle.copy_since.proofs.Pairs.{all_pairs_append, all_pairs_map, all_pairs_nil}
 use Rattle.copy_since.proofs.Gaining.{Left}
 

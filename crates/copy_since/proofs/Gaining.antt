@@ -1,7 +1,7 @@
 -- Claims held one after another, or taken out.
-use Rattle.std.proofs.Common.{◌≡◌, ◌≢◌, ◌↔◌, ◌⊎◌, ℕ, zero, suc, ◌+◌, ◌<◌, ◌≤◌, List, [], ◌∷◌, ◌++◌, length, take, drop, get_or, All, AllPairs, Any, Contains, pos, IsPermutation, length-take, inl, inr, sym, ap, subst, refl, ◌∙◌, arith}
+use Rattle.std.proofs.Common.{◌≡◌, ◌≢◌, ◌↔◌, ℕ, suc, ◌+◌, ◌<◌, ◌≤◌, List, [], ◌∷◌, ◌++◌, length, take, drop, get_or, All, AllPairs, Any, Contains, pos, IsPermutation, length-take, inl, inr, sym, ap, subst, refl, ◌∙◌, arith}
 use Rattle.std.proofs.lemmas.Bool.{cases_eq}
-use Rattle.std.proofs.lemmas.List.{get_or_default, get_or-take, take_more}
+use Rattle.std.proofs.lemmas.List.{get_or_default, get_or-take}
 use Rattle.std.proofs.Math.Seq.{drop-cons}
 use Rattle.std.proofs.lemmas.List.Elements.{All-append, All-nil, All-cons, All-contains, Contains-append_left, Contains-append_right, Contains-append_cases}
 use Rattle.std.proofs.lemmas.List.Sorted.{Contains-permutation, IsPermutation-sym}
@@ -10,8 +10,8 @@ use Rattle.rail_types.specs.declared.entries.Owner.{Owner}
 use Rattle.rail_types.specs.declared.entries.Owner.TheVariants.{Base as of_train, Entry as of_entry}
 use Rattle.rail_types.specs.Occupation.{Clash, HeldClaim}
 use Rattle.occupation_book.specs.Zones.{Zone}
-use Rattle.occupation_book.specs.Held.{AreOnZonesOf, IsFree, claims_of_others, held, zone_at}
-use Rattle.grant_log.specs.Following.{Gains, Loses}
+use Rattle.occupation_book.specs.Held.{AreOnZonesOf, IsFree, claims_of_others, zone_at}
+use Rattle.grant_log.specs.Following.{Gains}
 use Rattle.copy_since.specs.Rooms.{HasRoomFor, how_many_on}
 use Rattle.copy_since.specs.declared.since.Freed.{Freed}
 use Rattle.copy_since.proofs.Counted.{room_other, room_same}

@@ -1,6 +1,5 @@
 -- What holds of all pairs of a list.
-use Rattle.std.proofs.Common.{zero, suc, List, [], ◌∷◌, ◌++◌, map, length, arith, All, AllPairs}
-use Rattle.std.proofs.lemmas.List.{get_or-map, get_or_default, length-map}
+use Rattle.std.proofs.Common.{zero, suc, List, [], ◌∷◌, ◌++◌, map, arith, All, AllPairs}
 use Rattle.std.proofs.lemmas.List.Elements.{All-append, All-head, All-map, All-tail}
 
 module _ {X : Type 0} (R : X → X → Type 0) where

@@ -1,5 +1,5 @@
 -- What a journal with its moments keeps after each answer.
-use Rattle.std.proofs.Common.{◌≡◌, inl, inr, ◌⊎◌, ⊎_elim, ℕ, ◌+◌, ◌<◌, ◌^◌, List, [], ◌∷◌, ◌++◌, length, All, sym, refl, ◌∙◌, ap, subst, arith, length-append}
+use Rattle.std.proofs.Common.{◌≡◌, inl, inr, ◌⊎◌, ℕ, ◌+◌, ◌<◌, ◌^◌, List, [], ◌∷◌, ◌++◌, length, All, sym, refl, ◌∙◌, ap, subst, arith, length-append}
 use Rattle.outside_io.specs.Disks.{Spans}
 use Rattle.outside_io.specs.declared.disks.Disk.{Ghosts}
 use Rattle.grant_journal.specs.Gates.{Gated}

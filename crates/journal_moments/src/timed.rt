@@ -87,6 +87,7 @@ impl<D: Disk> TimedJournal<D> {
             → Enters D.Disk self.old self.new header bodies body result }
         ensures cause { HasWriteCause (D.faults self.old.journal.disk)
             (D.faults self.new.journal.disk) result }
+        ensures later { D.faults self.old.journal.disk ≤ D.faults self.new.journal.disk }
     {
         let written = self.journal.append(bytes);
         if let Written::Done = written {
@@ -107,6 +108,7 @@ impl<D: Disk> TimedJournal<D> {
             → Settles D.Disk self.old self.new header bodies result }
         ensures cause { HasSettleCause (D.faults self.old.journal.disk)
             (D.faults self.new.journal.disk) result }
+        ensures later { D.faults self.old.journal.disk ≤ D.faults self.new.journal.disk }
     {
         if !self.journal.pending() {
             return Settled::Done;

@@ -1,11 +1,11 @@
 -- How many bytes a file of a history has up to its first gate that isn't open.
-use Rattle.std.proofs.Common.{◌≡◌, ℕ, ◌+◌, List, [], ◌∷◌, ◌++◌, length, map, refl, sym, ◌∙◌, ap, arith, length-append}
+use Rattle.std.proofs.Common.{◌≡◌, ℕ, ◌+◌, List, [], ◌∷◌, length, refl, sym, ◌∙◌, arith, length-append}
 use Rattle.std.specs.Prelude.{sum_by}
 use Rattle.std.proofs.lemmas.List.Sums.{sum_by-cons}
 use Rattle.std.specs.Int.{w32, to_be_bytes}
 use Rattle.rail_types.specs.declared.entries.Entry.{Entry}
 use Rattle.entry_codec.specs.Body.{body_of}
-use Rattle.journal_text.specs.Headers.{header_of, magic}
+use Rattle.journal_text.specs.Headers.{header_of}
 use Rattle.journal_text.specs.Histories.{bodies_of, bytes_of, counted, front_of, opened}
 
 four : (n : ℕ) → length (to_be_bytes w32 n) ≡ 4

@@ -1,8 +1,9 @@
 //! The record of an entry.
 
-ghost use Rattle.std.specs.Prelude.{◌≡◌, ◌+◌, ◌<◌, ◌^◌, length, IfOk};
+ghost use Rattle.std.specs.Prelude.{◌≡◌, ◌+◌, ◌<◌, ◌^◌, length, IfOk, OnOk};
 ghost use Rattle.rail_types.specs.Limits.{IsEntryWithinLimits};
 ghost use Rattle.entry_codec.specs.Body.{body_of};
+ghost use Rattle.entry_codec.specs.Within.{HasBody};
 ghost use Rattle.journal_text.specs.Histories.{record_of};
 
 use byte_fields::{Buffer, put_u8, put_u32};
@@ -15,7 +16,8 @@ use std::alloc::Global;
 pub fn record(alloc: Global, entry: &Entry) -> Result<Vec<u8>, NoMemory>
     requires within { IsEntryWithinLimits entry.now }
     requires short { length (body_of entry.now) + 5 < 2 ^ 32 }
-    ensures { IfOk result (λ bytes. bytes.items ≡ record_of entry.now) }
+    ensures spelled { IfOk result (λ bytes. bytes.items ≡ record_of entry.now) }
+    ensures has { OnOk result (HasBody entry.now) }
 {
     let mut bytes = Buffer::new(alloc);
     let count = body_len(entry);

@@ -1,5 +1,5 @@
 -- How an entry changes the claims that are held.
-use Rattle.std.proofs.Common.{◌≡◌, ◌≢◌, ◌↔◌, ℕ, ◌<◌, ◌+◌, ℤ, ◌<ℤ◌, ◌≤ℤ◌, true, false, List, [], length, map, get_or, Option, Some, None, slice_get, All, AllPairs, Any, Contains, inl, inr, sym, ap, subst, refl, ◌∙◌, arith}
+use Rattle.std.proofs.Common.{◌≡◌, ℕ, ◌<◌, ◌<ℤ◌, true, false, List, length, get_or, Option, Some, None, slice_get, All, AllPairs, Any, Contains, inl, inr, sym, ap, subst, refl, arith}
 use Rattle.std.proofs.lemmas.Int.{ints}
 use Rattle.std.proofs.lemmas.List.Elements.{All-map, All-nil}
 use Rattle.rail_types.specs.declared.paths.Claim.{Claim}
@@ -8,14 +8,14 @@ use Rattle.rail_types.specs.declared.entries.Deed.{Deed}
 use Rattle.rail_types.specs.declared.entries.Deed.TheVariants.{Hold, Grant, Free}
 use Rattle.rail_types.specs.declared.entries.Owner.TheVariants.{Entry as of_entry}
 use Rattle.rail_types.specs.Limits.{IsNearSpan}
-use Rattle.rail_types.specs.Occupation.{AreJoined, Clash, EndsBefore, HasTicks, HeldClaim}
-use Rattle.rail_types.specs.Timetables.{IsTimetable, Timetable}
+use Rattle.rail_types.specs.Occupation.{AreJoined, Clash, HeldClaim}
+use Rattle.rail_types.specs.Timetables.{Timetable}
 use Rattle.occupation_book.specs.Held.{AreOnZonesOf, IsFree, claims_of_others}
 use Rattle.grant_log.specs.declared.verdicts.Verdict.{Verdict}
 use Rattle.grant_log.specs.declared.verdicts.Verdict.TheVariants.{Fresh}
 use Rattle.grant_log.specs.Following.{AreLive, Follow, Gains, Loses}
 use Rattle.grant_log.specs.Legal.{IsInRange, IsLegal}
-use Rattle.grant_log.specs.Live.{claims_of, freed_by, live_claims, owned_by}
+use Rattle.grant_log.specs.Live.{claims_of, live_claims, owned_by}
 use Rattle.grant_log.specs.Meanings.{MayJoin, Says}
 use Rattle.grant_log.specs.Verdict.{breaks, takes}
 use Rattle.copy_since.specs.Rooms.{MayBeHeld}

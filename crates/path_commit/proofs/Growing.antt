@@ -1,5 +1,6 @@
 -- Histories that go on from turn to turn.
-use Rattle.std.proofs.Common.{◌≡◌, inl, inr, ◌⊎◌, ℕ, zero, suc, ◌+◌, ◌<◌, ◌≤◌, List, [], ◌∷◌, ◌++◌, length, Some, refl, sym, ◌∙◌, ap, subst, arith, append_assoc, length-append, append-nil, get_or, slice_get}
+use Rattle.std.proofs.Common.{◌≡◌, inl, inr, ℕ, zero, suc, ◌+◌, ◌<◌, ◌≤◌, List, [], ◌∷◌, ◌++◌, length, Some, refl, sym, ◌∙◌, ap, subst, arith, append_assoc, length-append, append-nil, get_or, slice_get, take, add-one}
+use Rattle.std.proofs.Math.Seq.{take-suc}
 use Rattle.std.proofs.lemmas.Option.{slice_get_within}
 use Rattle.rail_types.specs.declared.entries.Entry.{Entry}
 use Rattle.outside_io.specs.declared.disks.Disk.{Ghosts}
@@ -12,7 +13,7 @@ use Rattle.path_commit.specs.declared.turns.Sent.{Sent}
 use Rattle.path_commit.specs.Answers.{Commits, Settles}
 use Rattle.path_commit.specs.Footings.{footing_of}
 use Rattle.path_commit.specs.Ledgers.{Ledger, settled_of}
-use Rattle.path_commit.specs.Runs.{AreAnswered, Grows, IsAnswered}
+use Rattle.path_commit.specs.Runs.{AreAnswered, AreTurns, Grows, IsAnswered, IsTurn}
 use Rattle.path_commit.specs.declared.stands.Footing.{Footing}
 
 slice_get-front : {X : Type 0} (xs ys : List X) (k : ℕ) (x : X) → slice_get xs k ≡ Some x → slice_get (xs ++ ys) k ≡ Some x
@@ -112,3 +113,14 @@ item_at (y ∷ xs) (suc k) x within is = item_at xs k x (omega arith) is
 
 pub none_answered : {D : Type 0} (ledger : Ledger D) (sent : List Sent) (answers : List Committed) → answers ≡ [] → AreAnswered ledger sent answers
 none_answered ledger sent answers none k one answer sent_is answer_is = absurd (let within = slice_get_within answers k answer answer_is in omega (arith, within, ap length none))
+
+-- one turn more
+pub turns-more : {D : Type 0} (disk : Ghosts D) (old mid new : Ledger D) (sent : List Sent) (answers : List Committed) (one : Sent) (answer : Committed) → AreTurns disk old sent answers mid → IsTurn disk mid new one answer → AreTurns disk old (sent ++ (one ∷ [])) (answers ++ (answer ∷ [])) new
+turns-more disk old mid new [] [] one answer before now = (new, subst (λ l. IsTurn disk l new one answer) before now, refl)
+turns-more disk old mid new (first ∷ sent) [] one answer before now = absurd before
+turns-more disk old mid new [] (told ∷ answers) one answer before now = absurd before
+turns-more disk old mid new (first ∷ sent) (told ∷ answers) one answer before now = (before.0, before.1, turns-more disk before.0 mid new sent answers one answer before.2 now)
+
+-- the items so far, with the next one
+pub take-next : {X : Type 0} (xs : List X) (k : ℕ) (x : X) → k < length xs → x ≡ get_or xs k x → take (k + 1) xs ≡ take k xs ++ (x ∷ [])
+take-next {X = X} xs k x within is = rw add-one (take-suc xs k x within ∙ ap (λ (y : X). take k xs ++ (y ∷ [])) (sym is))

@@ -1,12 +1,12 @@
 -- How the parts of a book go on together.
-use Rattle.std.proofs.Common.{◌≡◌, ◌⊎◌, ◌∷◌, ◌++◌, [], ℕ, ◌+◌, ◌-◌, ◌<◌, ◌≤◌, ◌^◌, List, length, map, take, Option, Some, None, slice_get, nat_lt, if◌then◌else◌, true, false, Bool, All, inl, inr, sym, ap, subst, refl, ◌∙◌, arith, length-append, zero, suc}
+use Rattle.std.proofs.Common.{◌≡◌, ◌∷◌, ◌++◌, [], ℕ, ◌+◌, ◌-◌, ◌<◌, ◌≤◌, List, length, Option, Some, None, slice_get, nat_lt, if◌then◌else◌, true, false, Bool, All, inl, inr, sym, ap, subst, refl, ◌∙◌, arith, length-append, zero, suc}
 use Rattle.std.specs.Prelude.{slice_index}
 use Rattle.std.specs.Int.{w32, to_be_bytes}
-use Rattle.std.proofs.lemmas.Bool.{cases_lt}
 use Rattle.std.proofs.lemmas.Bool.Decides.{nat_tests}
 use Rattle.std.proofs.lemmas.List.{length-map}
+use Rattle.std.proofs.lemmas.List.Elements.{All-push}
 use Rattle.rail_types.specs.declared.entries.Entry.{Entry}
-use Rattle.rail_types.specs.Timetables.{IsTimetable, Timetable}
+use Rattle.rail_types.specs.Timetables.{IsTimetable}
 use Rattle.occupation_book.specs.Zones.{Zone}
 use Rattle.occupation_book.specs.Held.{held}
 use Rattle.outside_io.specs.declared.disks.Disk.{Ghosts}
@@ -17,19 +17,20 @@ use Rattle.grant_journal.specs.declared.journals.Settled.{Settled}
 use Rattle.grant_journal.specs.declared.journals.Settled.TheVariants.{Done as Put, Fault as Failed}
 use Rattle.grant_journal.proofs.Spanning.{spans-weaker}
 use Rattle.std.proofs.lemmas.Option.{slice_get_within}
-use Rattle.grant_log.specs.Following.{AreLive, Follow}
+use Rattle.grant_log.specs.Following.{AreLive}
 use Rattle.grant_log.specs.Legal.{IsLegal, Register}
 use Rattle.entry_codec.specs.Body.{body_of}
+use Rattle.entry_codec.specs.Within.{HasBody}
 use Rattle.journal_text.specs.Headers.{header_of}
-use Rattle.journal_text.specs.Histories.{bodies_of, bytes_of, counted, front_of, record_of, ReadsAs, ReadsAsEither, ReadsAsPrefix}
+use Rattle.journal_text.specs.Histories.{bodies_of, bytes_of, counted, front_of, record_of, ReadsAs, ReadsAsEither}
 use Rattle.journal_text.proofs.Prefixes.{reads-least}
 use Rattle.journal_moments.specs.Answers.{Enters, Leaves, Settles as Settling}
-use Rattle.journal_moments.specs.Keeping.{AllAreSettled, Keeps, LastIsPending, Left}
+use Rattle.journal_moments.specs.Keeping.{Keeps, Left}
 use Rattle.journal_moments.specs.Timed.{Timed, settled_of}
 use Rattle.journal_moments.proofs.Keepings.{next-at, rest-at, stands-for}
 use Rattle.path_commit.specs.Answers.{Commits, HasCommitCause, IsBeforeOrAfter, IsRefusal, Settles}
 use Rattle.path_commit.specs.Inside.{AreOne, IsToldBy, ledger_of}
-use Rattle.path_commit.specs.Ledgers.{IsKept, IsPrefixOf, Ledger, moment_of}
+use Rattle.path_commit.specs.Ledgers.{IsKept, IsPrefixOf, Ledger}
 use Rattle.path_commit.specs.declared.answers.Committed.{Committed}
 use Rattle.path_commit.specs.declared.answers.Committed.TheVariants.{Done as told_done, Refused, Clash, Full, DiskFault as told_fault, Unsettled as told_unsettled, Memory}
 
@@ -56,7 +57,7 @@ module _ {D : Type 0} (disk : Ghosts D) (network base : List ℕ) (history : Reg
 
   module _ (made : new.made ≡ old.made) (found : new.found ≡ old.found) (room : new.spare + length new.moments ≡ old.spare + length old.moments) where
     still_one : Keeps disk new (header_of network base) (bodies_of history.entries) → AreOne disk network base history claims new
-    still_one kept = record { digests = one.digests; live = one.live; zones = one.zones; kept = kept; room = let had = one.room in omega (arith, had, found, room) }
+    still_one kept = record { digests = one.digests; live = one.live; zones = one.zones; spelled = one.spelled; kept = kept; room = let had = one.room in omega (arith, had, found, room) }
 
     pub settled_one : (told : Settled) → Settling disk old new (header_of network base) (bodies_of history.entries) told → AreOne disk network base history claims new
     settled_one Put leaves = still_one leaves.0.keeps
@@ -82,7 +83,7 @@ module _ {D : Type 0} (disk : Ghosts D) (network base : List ℕ) (history : Reg
 module _ {D : Type 0} (disk : Ghosts D) (network base : List ℕ) (history after : Register) (claims now : List Zone) (old new : Timed D) (entry : Entry) (one : AreOne disk network base history claims old) where
   -- the write of the record failed
   pub faulty_one : Leaves disk old new (header_of network base) (bodies_of history.entries) old.moments (ReadsAs (header_of network base) (bodies_of history.entries)) → new.made ≡ old.made → new.found ≡ old.found → new.spare + length new.moments ≡ old.spare + length old.moments → AreOne disk network base history claims new
-  faulty_one leaves made found room = record { digests = one.digests; live = one.live; zones = one.zones; kept = leaves.keeps; room = let had = one.room in omega (arith, had, found, room) }
+  faulty_one leaves made found room = record { digests = one.digests; live = one.live; zones = one.zones; spelled = one.spelled; kept = leaves.keeps; room = let had = one.room in omega (arith, had, found, room) }
 
   pub faulty_left : Leaves disk old new (header_of network base) (bodies_of history.entries) old.moments (ReadsAs (header_of network base) (bodies_of history.entries)) → Left disk old.journal.disk new.journal.disk (IsBeforeOrAfter (ledger_of network base history old) (ledger_of network base history new))
   faulty_left leaves = record {
@@ -90,7 +91,7 @@ module _ {D : Type 0} (disk : Ghosts D) (network base : List ℕ) (history after
     began = λ image was. inl (leaves.left.began image was);
   }
 
-  module _ (timetable : after.timetable ≡ history.timetable) (entries : after.entries ≡ history.entries ++ entry ∷ []) (live : AreLive history.timetable (held now) (history.entries ++ entry ∷ [])) (zones : length now ≡ length claims) (made : new.made ≡ old.made) (found : new.found ≡ old.found) (room : new.spare + length new.moments ≡ old.spare + length old.moments) (some : 1 ≤ old.spare) (settled : settled_of old ≡ length history.entries) where
+  module _ (timetable : after.timetable ≡ history.timetable) (entries : after.entries ≡ history.entries ++ entry ∷ []) (live : AreLive history.timetable (held now) (history.entries ++ entry ∷ [])) (zones : length now ≡ length claims) (made : new.made ≡ old.made) (found : new.found ≡ old.found) (room : new.spare + length new.moments ≡ old.spare + length old.moments) (some : 1 ≤ old.spare) (settled : settled_of old ≡ length history.entries) (has : HasBody entry) where
     bodies : bodies_of after.entries ≡ bodies_of history.entries ++ body_of entry ∷ []
     bodies = ap bodies_of entries ∙ bodies_more history.entries entry
 
@@ -99,6 +100,7 @@ module _ {D : Type 0} (disk : Ghosts D) (network base : List ℕ) (history after
       digests = one.digests;
       live = rw (timetable, entries) live;
       zones = zones ∙ one.zones ∙ ap (λ t. t.net.zones) (sym timetable);
+      spelled = subst (All HasBody) (sym entries) (All-push HasBody history.entries entry one.spelled has);
       kept = rw bodies leaves.keeps;
       room = let had = one.room in omega (arith, had, found, room, some, settled, ap length entries, length-append history.entries (entry ∷ []));
     }
@@ -107,6 +109,14 @@ module _ {D : Type 0} (disk : Ghosts D) (network base : List ℕ) (history after
     entered_left moments leaves = subst (λ (l : List (List ℕ)). Left disk old.journal.disk new.journal.disk (ReadsAsEither (header_of network base) (bodies_of history.entries) l)) (sym bodies) leaves.left
 
 -- ---- what a book keeps
+
+index_of : (moments : List ℕ) (k : ℕ) (moment : ℕ) → slice_get moments k ≡ Some moment → slice_index moments k ≡ moment
+index_of [] k moment is = absurd (let wrong : ◌≡◌ {A = Option ℕ} None (Some moment) = is in cc)
+index_of (m ∷ moments) zero moment is = let same : Some m ≡ Some moment = is in cc
+index_of (m ∷ moments) (suc k) moment is = index_of moments k moment is
+
+same_some : (a b : ℕ) → Some a ≡ Some b → a ≡ b
+same_some a b same = cc
 
 module _ {D : Type 0} (disk : Ghosts D) (network base : List ℕ) (history : Register) (claims : List Zone) (timed : Timed D) (one : AreOne disk network base history claims timed) where
   since_found : (at moment : ℕ) (image : List ℕ) → at < timed.found → timed.made ≡ moment → disk.since timed.journal.disk moment image → IsPrefixOf (ledger_of network base history timed) (at + 1) image
@@ -119,17 +129,17 @@ module _ {D : Type 0} (disk : Ghosts D) (network base : List ℕ) (history : Reg
       let here : slice_index timed.moments k ≡ moment = index_of timed.moments k moment is in
       let number : timed.found + k + 1 ≡ at + 1 = omega arith in
       subst (λ n. IsPrefixOf (ledger_of network base history timed) n image) number (one.kept.remembers.since_settled k within image (subst (λ m. disk.since timed.journal.disk m image) (sym here) was))
-    where
-      index_of : (moments : List ℕ) (k : ℕ) (moment : ℕ) → slice_get moments k ≡ Some moment → slice_index moments k ≡ moment
-      index_of [] k moment is = absurd (let wrong : ◌≡◌ {A = Option ℕ} None (Some moment) = is in cc)
-      index_of (m ∷ moments) zero moment is = let same : Some m ≡ Some moment = is in cc
-      index_of (m ∷ moments) (suc k) moment is = index_of moments k moment is
+
+  before_now : (at moment : ℕ) (test : Bool) → (if test then Some timed.made else slice_get timed.moments (at - timed.found)) ≡ Some moment → moment ≤ disk.clock timed.journal.disk
+  before_now at moment true is = let same = same_some timed.made moment is in let before = one.kept.remembers.made_before in omega (arith, same, before)
+  before_now at moment false is =
+      let k = at - timed.found in
+      let here = index_of timed.moments k moment is in
+      let before = one.kept.remembers.settled_before k (slice_get_within timed.moments k moment is) in
+      omega (arith, here, before)
 
   since_moment : (at moment : ℕ) (image : List ℕ) (test : Bool) → nat_lt at timed.found ≡ test → (if test then Some timed.made else slice_get timed.moments (at - timed.found)) ≡ Some moment → disk.since timed.journal.disk moment image → IsPrefixOf (ledger_of network base history timed) (at + 1) image
   since_moment at moment image true test is was = since_found at moment image (grind (arith, nat_tests)) (same_some timed.made moment is) was
-    where
-      same_some : (a b : ℕ) → Some a ≡ Some b → a ≡ b
-      same_some a b same = cc
   since_moment at moment image false test is was = since_later at moment image (grind (arith, nat_tests)) is was
 
   pub keeps_all : IsTimetable history.timetable → IsLegal history.timetable history.entries → IsKept disk (ledger_of network base history timed)
@@ -139,9 +149,12 @@ module _ {D : Type 0} (disk : Ghosts D) (network base : List ℕ) (history : Reg
         timetable = planned;
         legal = legal;
         settled = (let low = bounds.0 in omega (arith, low, count), let high = bounds.1 in omega (arith, high, count));
+        spelled = one.spelled;
         short = one.kept.short;
         now = stands-for disk.images disk.clock disk.since timed.journal (header_of network base) (bodies_of history.entries) (settled_of timed) one.kept.now;
+        made_before = one.kept.remembers.made_before;
         since_made = one.kept.remembers.since_made;
+        settled_before = λ at moment is. before_now at moment (nat_lt at timed.found) is;
         since_settled = λ at moment image is was. since_moment at moment image (nat_lt at timed.found) refl is was;
       }
 
@@ -156,16 +169,16 @@ next_used disk network base history claims timed one law =
     ap (λ n. n + 1) next ∙ law network base history.entries one.digests.0 one.digests.1
 
 module _ {D : Type 0} (disk : Ghosts D) (network base : List ℕ) (history after : Register) (claims now : List Zone) (old new : Timed D) (entry : Entry) (one : AreOne disk network base history claims old)
-    (timetable : after.timetable ≡ history.timetable) (entries : after.entries ≡ history.entries ++ entry ∷ []) (live : AreLive history.timetable (held now) (history.entries ++ entry ∷ [])) (zones : length now ≡ length claims) (made : new.made ≡ old.made) (found : new.found ≡ old.found) (room : new.spare + length new.moments ≡ old.spare + length old.moments) (some : 1 ≤ old.spare) (settled : settled_of old ≡ length history.entries) where
+    (timetable : after.timetable ≡ history.timetable) (entries : after.entries ≡ history.entries ++ entry ∷ []) (live : AreLive history.timetable (held now) (history.entries ++ entry ∷ [])) (zones : length now ≡ length claims) (made : new.made ≡ old.made) (found : new.found ≡ old.found) (room : new.spare + length new.moments ≡ old.spare + length old.moments) (some : 1 ≤ old.spare) (settled : settled_of old ≡ length history.entries) (has : HasBody entry) where
   pub one_by : (written : Written) (at : ℕ) (told : Committed) → IsToldBy written at told → Enters disk old new (header_of network base) (bodies_of history.entries) (body_of entry) written → AreOne disk network base after now new
-  one_by Done at told is leaves = entered_one disk network base history after claims now old new entry one timetable entries live zones made found room some settled _ leaves
+  one_by Done at told is leaves = entered_one disk network base history after claims now old new entry one timetable entries live zones made found room some settled has _ leaves
   one_by (Fault Record) at told is leaves = absurd is
-  one_by (Fault Gate) at told is leaves = entered_one disk network base history after claims now old new entry one timetable entries live zones made found room some settled _ leaves
+  one_by (Fault Gate) at told is leaves = entered_one disk network base history after claims now old new entry one timetable entries live zones made found room some settled has _ leaves
 
   pub left_by : (written : Written) (at : ℕ) (told : Committed) → IsToldBy written at told → Enters disk old new (header_of network base) (bodies_of history.entries) (body_of entry) written → Left disk old.journal.disk new.journal.disk (IsBeforeOrAfter (ledger_of network base history old) (ledger_of network base after new))
-  left_by Done at told is leaves = entered_left disk network base history after claims now old new entry one timetable entries live zones made found room some settled _ leaves
+  left_by Done at told is leaves = entered_left disk network base history after claims now old new entry one timetable entries live zones made found room some settled has _ leaves
   left_by (Fault Record) at told is leaves = absurd is
-  left_by (Fault Gate) at told is leaves = entered_left disk network base history after claims now old new entry one timetable entries live zones made found room some settled _ leaves
+  left_by (Fault Gate) at told is leaves = entered_left disk network base history after claims now old new entry one timetable entries live zones made found room some settled has _ leaves
 
   pub commits_by : (written : Written) (at : ℕ) (told : Committed) → at ≡ length history.entries → IsToldBy written at told → Enters disk old new (header_of network base) (bodies_of history.entries) (body_of entry) written → Commits disk (ledger_of network base history old) (ledger_of network base after new) entry told
   commits_by Done at told place is leaves = subst (Commits disk (ledger_of network base history old) (ledger_of network base after new) entry) (sym is) (place, entries, leaves.moments)
@@ -182,6 +195,7 @@ roomy_one disk network base history after claims now timed spare one timetable e
   digests = one.digests;
   live = rw (timetable, entries, same) one.live;
   zones = zones ∙ one.zones ∙ ap (λ t. t.net.zones) (sym timetable);
+  spelled = rw entries one.spelled;
   kept = rw entries one.kept;
   room = let had = one.room in omega (arith, had, more, ap length entries);
 }

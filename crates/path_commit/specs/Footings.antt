@@ -1,5 +1,4 @@
 -- What no turn changes of a book.
-use Rattle.std.specs.Prelude.{ℕ}
 use Rattle.path_commit.specs.declared.stands.Footing.{Footing}
 use Rattle.path_commit.specs.Ledgers.{Ledger}
 

@@ -1,5 +1,5 @@
 -- Inside: how the parts of a book belong together, and what its private calls leave.
-use Rattle.std.specs.Prelude.{◌≡◌, ℕ, ◌+◌, ◌<◌, ◌≤◌, ◌^◌, true, List, length}
+use Rattle.std.specs.Prelude.{◌≡◌, ℕ, ◌+◌, ◌<◌, ◌≤◌, ◌^◌, true, List, length, All}
 use Rattle.rail_types.specs.declared.entries.Entry.{Entry}
 use Rattle.rail_types.specs.declared.entries.Deed.{Deed}
 use Rattle.rail_types.specs.declared.entries.Deed.TheVariants.{Free}
@@ -14,6 +14,7 @@ use Rattle.grant_journal.specs.declared.journals.Stage.TheVariants.{Record, Gate
 use Rattle.grant_log.specs.Legal.{Joins, Register}
 use Rattle.grant_log.specs.Live.{claims_of, owned_by}
 use Rattle.grant_log.specs.Verdict.{takes}
+use Rattle.entry_codec.specs.Within.{HasBody}
 use Rattle.journal_text.specs.Headers.{header_of}
 use Rattle.journal_text.specs.Histories.{bodies_of, record_of}
 use Rattle.journal_moments.specs.Keeping.{Keeps}
@@ -34,6 +35,7 @@ pub record AreOne {D : Type 0} (disk : Ghosts D) (network base : List ℕ) (hist
   pub digests : (length network ≡ 32) × (length base ≡ 32)
   pub live : AreLive history.timetable (held claims) history.entries
   pub zones : length claims ≡ history.timetable.net.zones
+  pub spelled : All HasBody history.entries
   pub kept : Keeps disk journal (header_of network base) (bodies_of history.entries)
   pub room : length history.entries ≤ settled_of journal + journal.spare
 
@@ -70,6 +72,7 @@ pub record IsReady {D : Type 0} (history : Register) (claims : List Zone) (journ
   pub fits : bytes_with history.entries entry ≤ history.timetable.settings.journal_bytes
   pub few : history.timetable.settings.journal_bytes < 2 ^ 32
   pub bytes : ready.bytes ≡ record_of entry
+  pub spelled : HasBody entry
   pub change : IsChangeOf history.timetable history.entries entry.deed ready.change
   pub claims_room : HasRoomToChange claims ready.change
   pub history_room : 1 ≤ history.spare

@@ -2,6 +2,7 @@
 use Rattle.std.specs.Prelude.{◌≡◌, ℕ, ◌+◌, ◌-◌, ◌≤◌, ◌<◌, ◌^◌, List, length, Option, Some, slice_get, nat_lt, if◌then◌else◌, All}
 use Rattle.rail_types.specs.declared.entries.Entry.{Entry}
 use Rattle.rail_types.specs.Timetables.{IsTimetable, Timetable}
+use Rattle.entry_codec.specs.Within.{HasBody}
 use Rattle.outside_io.specs.declared.disks.Disk.{Ghosts}
 use Rattle.grant_log.specs.Legal.{IsLegal}
 use Rattle.journal_text.specs.Headers.{header_of}
@@ -36,18 +37,23 @@ IsPrefixOf ledger least file =
     ReadsAsPrefix (header_of ledger.network_digest ledger.base_digest) (bodies_of ledger.entries)
     least file
 
--- What a book keeps at any time: its history is legal; all entries are settled, or all but the last; each image of now
--- reads as the history, or as it without an entry that is not settled; each image since the making reads as a prefix
--- that has the entries found then; and each image since the moment of an entry as a prefix that has this entry.
+-- What a book keeps at any time: its history is legal, and each entry can be spelled; all entries are settled, or all
+-- but the last; each image of now reads as the history, or as it without an entry that is not settled; each image since
+-- the making reads as a prefix that has the entries found then; and each image since the moment of an entry as a prefix
+-- that has this entry. No moment that is kept is later than now.
 pub record IsKept {D : Type 0} (disk : Ghosts D) (ledger : Ledger D) : Type 0 where
   pub timetable : IsTimetable ledger.timetable
   pub legal : IsLegal ledger.timetable ledger.entries
+  pub spelled : All HasBody ledger.entries
   pub settled : (settled_of ledger ≤ length ledger.entries)
       × (length ledger.entries ≤ settled_of ledger + 1)
   pub short : All (λ body. length body < 2 ^ 32) (bodies_of ledger.entries)
   pub now : (image : List ℕ) → disk.images ledger.disk image
       → IsPrefixOf ledger (settled_of ledger) image
+  pub made_before : ledger.made ≤ disk.clock ledger.disk
   pub since_made : (image : List ℕ) → disk.since ledger.disk ledger.made image
       → IsPrefixOf ledger ledger.found image
+  pub settled_before : (at moment : ℕ) → moment_of ledger at ≡ Some moment
+      → moment ≤ disk.clock ledger.disk
   pub since_settled : (at moment : ℕ) (image : List ℕ) → moment_of ledger at ≡ Some moment
       → disk.since ledger.disk moment image → IsPrefixOf ledger (at + 1) image

@@ -3,6 +3,7 @@ ghost use Rattle.rail_types.specs.Timetables.{IsTimetable};
 ghost use Rattle.occupation_book.specs.Held.{claims_by_zone, held};
 ghost use Rattle.grant_log.specs.Following.{AreLive};
 ghost use Rattle.grant_log.specs.Legal.{IsInRange};
+ghost use Rattle.entry_codec.specs.Within.{HasBody};
 ghost use Rattle.journal_text.specs.Headers.{header_of};
 ghost use Rattle.journal_text.specs.Histories.{bodies_of, bytes_of, ReadsAs};
 ghost use Rattle.path_commit.specs.Footings.{footing_of};
@@ -62,6 +63,7 @@ impl<D: Disk> Book<D> {
         requires reads { (image : List ℕ) → D.images journal.disk image →
             ReadsAs (header_of network base) (bodies_of history.entries) image }
         requires short { All (λ body. length body < 2 ^ 32) (bodies_of history.entries) }
+        requires spelled { All HasBody history.entries }
         ensures book { IfOk result (λ book. book ≡ record {
           disk = journal.disk;
           network_digest = network;
@@ -103,6 +105,7 @@ impl<D: Disk> Book<D> {
         ensures footing { footing_of self.new ≡ footing_of self.old }
         ensures left { Left D.Disk self.old.disk self.new.disk (IsBeforeOrAfter self.old self.new) }
         ensures cause { HasCommitCause (D.faults self.old.disk) (D.faults self.new.disk) result }
+        ensures later { D.faults self.old.disk ≤ D.faults self.new.disk }
     {
         match self.parts.prepare(self.alloc, &entry, searched) {
             Ok(ready) => self.parts.enter(entry, ready),
@@ -121,6 +124,7 @@ impl<D: Disk> Book<D> {
         ensures footing { footing_of self.new ≡ footing_of self.old }
         ensures left { Left D.Disk self.old.disk self.new.disk (IsBeforeOrAfter self.old self.new) }
         ensures cause { HasCommitCause (D.faults self.old.disk) (D.faults self.new.disk) result }
+        ensures later { D.faults self.old.disk ≤ D.faults self.new.disk }
     {
         let front = self.front();
         self.commit(entry, front)
@@ -134,6 +138,7 @@ impl<D: Disk> Book<D> {
         ensures left { Left D.Disk self.old.disk self.new.disk
             (IsPrefixOf self.old (settled_of self.old)) }
         ensures cause { HasSettleCause (D.faults self.old.disk) (D.faults self.new.disk) result }
+        ensures later { D.faults self.old.disk ≤ D.faults self.new.disk }
     {
         self.parts.settle()
     }
@@ -196,6 +201,43 @@ impl<D: Disk> Book<D> {
         ensures order { settled_of self.now ≤ length self.now.entries }
     {
         self.parts.journal.pending()
+    }
+
+    /// How many entries are settled: all, or all but the last.
+    pub fn settled(&self) -> u64
+        ensures { result ≡ settled_of self.now }
+    {
+        self.keeps();
+        let front = self.front();
+        if self.pending() { front - 1 } else { front }
+    }
+
+    /// The digest of the network's file.
+    pub fn network_digest(&self) -> &[u8; 32]
+        ensures { result.now ≡ self.now.network_digest }
+    {
+        &self.parts.network
+    }
+
+    /// The digest of the base timetable's file.
+    pub fn base_digest(&self) -> &[u8; 32]
+        ensures { result.now ≡ self.now.base_digest }
+    {
+        &self.parts.base
+    }
+
+    /// What the disk's clock said when the book was made.
+    pub fn made(&self) -> u64
+        ensures { result ≡ self.now.made }
+    {
+        self.parts.journal.made()
+    }
+
+    /// How many entries there were then.
+    pub fn found(&self) -> u64
+        ensures { result ≡ self.now.found }
+    {
+        self.parts.journal.found()
     }
 
     /// What the disk's clock says.

@@ -145,6 +145,8 @@ impl<D: Disk> Parts<D> {
             IsTold self.old.history.timetable self.old.history.entries entry searched result }
         ensures cause { HasCommitCause (D.faults self.old.journal.journal.disk)
             (D.faults self.new.journal.journal.disk) result }
+        ensures later { D.faults self.old.journal.journal.disk
+            ≤ D.faults self.new.journal.journal.disk }
     {
         live_claims_follow();
         bytes_are_counted();
@@ -181,6 +183,8 @@ impl<D: Disk> Parts<D> {
             (settled_of self.old.journal)) }
         ensures cause { HasSettleCause (D.faults self.old.journal.journal.disk)
             (D.faults self.new.journal.journal.disk) result }
+        ensures later { D.faults self.old.journal.journal.disk
+            ≤ D.faults self.new.journal.journal.disk }
     {
         self.journal.settle()
     }

@@ -21,7 +21,7 @@ use Rattle.route_walk.specs.Places.{IsPlace, IsSpot, ahead_in, at_detector, at_w
 use Rattle.route_walk.specs.Ways.{ComesFrom, IsLead, end_of, group_of}
 use Rattle.route_walk.proofs.Groups.{got_within}
 
-one_ahead : (direction : Direction) (row : List Stand) (gap : ℕ) (stand : Stand) → ahead_in direction row gap ≡ Some stand → gap ≤ length row → (gap_behind direction gap ≤ length row) × ((i : ℕ) × (slice_get row i ≡ Some stand))
+pub one_ahead : (direction : Direction) (row : List Stand) (gap : ℕ) (stand : Stand) → ahead_in direction row gap ≡ Some stand → gap ≤ length row → (gap_behind direction gap ≤ length row) × ((i : ℕ) × (slice_get row i ≡ Some stand))
 one_ahead StartToStop row gap stand e count = (let within = (got_within row gap stand e).0 in (omega arith, (gap, e)))
 one_ahead StopToStart row zero stand e count = absurd (cc)
 one_ahead StopToStart row (suc gap) stand e count =

@@ -6,3 +6,9 @@ pub mod Starts
 pub mod Passing
 pub mod Strays
 pub mod Wholes
+pub mod Leading
+pub mod Sweeps
+pub mod Shortness
+pub mod Unique
+pub mod OnePassed
+pub mod OneWalk

@@ -50,7 +50,7 @@ module _ (next : Place → Place → Type 0) (entry : Place) (exit : Point) wher
     once = subst NoneTwice (sym (detectors_on (entry ∷ ps) p)) (none_twice_on (detectors_of (entry ∷ ps)) (detector_of p.point) runs.once (λ d e h. fresh (d, e, h)));
   }
 
-module _ (next : Place → Place → Type 0) (entry : Place) (exit : Point) (limit : ℕ) (places : List Place) (place coming : Place) (keys : List ℕ) (passage : Passage)
+module _ (next : Place → Place → Type 0) (entry : Place) (exit : Point) (places : List Place) (place coming : Place) (keys : List ℕ) (passage : Passage)
     (runs : IsOpen next entry exit places) (here : place ≡ last_of entry places) (seen : keys ≡ detectors_of (entry ∷ places))
     (leads : next place coming) (is : Is keys coming.point exit passage) where
   from_last : next (last_of entry places) coming
@@ -59,13 +59,13 @@ module _ (next : Place → Place → Type 0) (entry : Place) (exit : Point) (lim
   not_again : (ComesAgain keys coming.point → ⊥) → ComesAgain (detectors_of (entry ∷ places)) coming.point → ⊥
   not_again fresh = subst (λ (ds : List ℕ). ComesAgain ds coming.point → ⊥) seen fresh
 
-  ends_at : (passage' : Passage) → Is keys coming.point exit passage' → (passage' ≡ On → ⊥) → Ends next entry exit limit (ending_of passage') (places ++ coming ∷ [])
+  ends_at : (passage' : Passage) → Is keys coming.point exit passage' → (passage' ≡ On → ⊥) → Ends next entry exit (ending_of passage') (places ++ coming ∷ [])
   ends_at On found differ = absurd (differ refl)
   ends_at Exit found differ = (coming, record { before = places; whole = refl; runs = runs; leads = from_last }, found.0, not_again found.1)
-  ends_at Twice found differ = inl (coming, record { before = places; whole = refl; runs = runs; leads = from_last }, subst (λ (ds : List ℕ). ComesAgain ds coming.point) seen found)
+  ends_at Twice found differ = (coming, record { before = places; whole = refl; runs = runs; leads = from_last }, subst (λ (ds : List ℕ). ComesAgain ds coming.point) seen found)
   ends_at Barred found differ = inr (coming, record { before = places; whole = refl; runs = runs; leads = from_last }, found)
 
-  pub ends_here : (passage ≡ On → ⊥) → Ends next entry exit limit (ending_of passage) (places ++ coming ∷ [])
+  pub ends_here : (passage ≡ On → ⊥) → Ends next entry exit (ending_of passage) (places ++ coming ∷ [])
   ends_here differ = ends_at passage is differ
 
   pub goes_on : passage ≡ On → IsOpen next entry exit (places ++ coming ∷ [])

@@ -31,7 +31,7 @@ some_at [] number within = absurd (omega arith)
 some_at (p ∷ ps) zero within = (p, refl)
 some_at (p ∷ ps) (suc n) within = some_at ps n (omega arith)
 
-abbrev stand_at : List Placed → ℕ → Stand
+abbrev pub stand_at : List Placed → ℕ → Stand
 stand_at all number = record { track = track_at all number; position = metre_at all number; number = number }
 
 stands_there : (all : List Placed) (number : ℕ) → number < length all → Stands all (stand_at all number)
@@ -39,7 +39,7 @@ stands_there all number within =
     let it = some_at all number within in
     record { placed = it.0; is = it.1; track = ap track_of (sym it.1); position = ap metre_of (sym it.1) }
 
-in_row : (all : List Placed) (number : ℕ) (row : List Stand) → number < length all → AreStands all (track_at all number) row → Contains row (stand_at all number)
+pub in_row : (all : List Placed) (number : ℕ) (row : List Stand) → number < length all → AreStands all (track_at all number) row → Contains row (stand_at all number)
 in_row all number row within are = (are.each (stand_at all number)).1 (refl, stands_there all number within)
 
 pub metre_on : (tracks : List Track) (all : List Placed) (number : ℕ) (row : List Stand) → number < length all → AreStands all (track_at all number) row → AreOn tracks (track_at all number) row → metre_at all number ≤ length_of tracks (track_at all number)

@@ -22,7 +22,7 @@ use Rattle.route_walk.specs.declared.walks.Walk.{Walk}
 use Rattle.route_walk.specs.declared.courses.Ending.{Ending}
 use Rattle.route_walk.specs.Courses.{Ends, Follows, IsThrough, detectors_of}
 use Rattle.route_walk.specs.Entries.{entry_of, exit_of}
-use Rattle.route_walk.specs.Walks.{limit_of, stray_of}
+use Rattle.route_walk.specs.Walks.{stray_of}
 use Rattle.route_walk.specs.Legs.{ArePassed, IsBehind, length_m, metres_to, number_at, numbers_at, stretch_of}
 use Rattle.route_walk.specs.Places.{IsPlace, ahead_in, at_detector, at_metre, begin_of, come, come_to, wall_at}
 use Rattle.route_walk.specs.Releases.{first_stray, has, release_at, releases_at}
@@ -184,14 +184,13 @@ module _ (count bound detectors : ℕ) (route : Route) (places : List Place) (pa
     points = subst (λ (ps : List Passed). All (λ (one : Passed). one.point < bound) ps) (sym same) sound.points;
   }
 
-pub ends_are : (infra : Infra) (layout : Layout) (route : Route) (ways : List Way) (entry : Place) (exit : Point) (limit : ℕ) (ending how : Ending) (places : List Place) → ways ≡ route.ways → entry ≡ entry_of infra layout route → exit ≡ exit_of infra route.exit → limit ≡ limit_of infra → ending ≡ how
-    → Ends (Comes infra layout ways) entry exit limit ending places → Ends (Comes infra layout route.ways) (entry_of infra layout route) (exit_of infra route.exit) (limit_of infra) how places
-ends_are infra layout route ways entry exit limit ending how places w e x l h ends =
-    subst (λ (n : Ending). Ends (Comes infra layout route.ways) (entry_of infra layout route) (exit_of infra route.exit) (limit_of infra) n places) h
-    (subst (λ (n : ℕ). Ends (Comes infra layout route.ways) (entry_of infra layout route) (exit_of infra route.exit) n ending places) l
-    (subst (λ (n : Point). Ends (Comes infra layout route.ways) (entry_of infra layout route) n limit ending places) x
-    (subst (λ (n : Place). Ends (Comes infra layout route.ways) n exit limit ending places) e
-    (subst (λ (n : List Way). Ends (Comes infra layout n) entry exit limit ending places) w ends))))
+pub ends_are : (infra : Infra) (layout : Layout) (route : Route) (ways : List Way) (entry : Place) (exit : Point) (ending how : Ending) (places : List Place) → ways ≡ route.ways → entry ≡ entry_of infra layout route → exit ≡ exit_of infra route.exit → ending ≡ how
+    → Ends (Comes infra layout ways) entry exit ending places → Ends (Comes infra layout route.ways) (entry_of infra layout route) (exit_of infra route.exit) how places
+ends_are infra layout route ways entry exit ending how places w e x h ends =
+    subst (λ (n : Ending). Ends (Comes infra layout route.ways) (entry_of infra layout route) (exit_of infra route.exit) n places) h
+    (subst (λ (n : Point). Ends (Comes infra layout route.ways) (entry_of infra layout route) n ending places) x
+    (subst (λ (n : Place). Ends (Comes infra layout route.ways) n exit ending places) e
+    (subst (λ (n : List Way). Ends (Comes infra layout n) entry exit ending places) w ends)))
 
 pub released_are : (n detectors : ℕ) (rs releases : List ℕ) (ps passed : List Passed) → n ≡ detectors → rs ≡ releases → ps ≡ passed → releases_at n rs ps ≡ releases_at detectors releases passed
 released_are n detectors rs releases ps passed e f g =

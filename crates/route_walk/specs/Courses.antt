@@ -1,5 +1,5 @@
 -- The places that a route comes by.
-use Rattle.std.specs.Prelude.{◌≡◌, ◌≢◌, ℕ, ◌≤◌, ◌⊎◌, List, [], ◌∷◌, ◌++◌, length, Some}
+use Rattle.std.specs.Prelude.{◌≡◌, ◌≢◌, ℕ, ◌⊎◌, List, [], ◌∷◌, ◌++◌, Some}
 use Rattle.std.specs.List.{All, AllPairs, filter_map}
 use Rattle.route_walk.specs.declared.courses.Ending.{Ending}
 use Rattle.route_walk.specs.declared.courses.Ending.TheVariants.{Exit, NoWay, Loop}
@@ -26,13 +26,15 @@ abbrev pub NoneTwice : List ℕ → Type 0
 NoneTwice ds = AllPairs (λ a b. a ≢ b) ds
 
 -- The route comes by these places and goes on: no exit, no buffer stop, no detector twice.
-pub record IsOpen (next : Place → Place → Type 0) (entry : Place) (exit : Point) (places : List Place) : Type 0 where
+pub record IsOpen (next : Place → Place → Type 0) (entry : Place) (exit : Point)
+    (places : List Place) : Type 0 where
   pub follows : Follows next entry places
   pub goes_on : All (λ p. GoesOn p.point exit) places
   pub once : NoneTwice (detectors_of (entry ∷ places))
 
 -- Open places, and one more to which the last of them leads.
-pub record IsOpenTo (next : Place → Place → Type 0) (entry : Place) (exit : Point) (places : List Place) (last : Place) : Type 0 where
+pub record IsOpenTo (next : Place → Place → Type 0) (entry : Place) (exit : Point)
+    (places : List Place) (last : Place) : Type 0 where
   pub before : List Place
   pub whole : places ≡ before ++ last ∷ []
   pub runs : IsOpen next entry exit before
@@ -64,15 +66,11 @@ IsEnded next entry exit places =
 abbrev pub HasNoWay : (Place → Place → Type 0) → Place → Point → List Place → Type 0
 HasNoWay next entry exit places = IsEnded next entry exit places ⊎ IsStopped next entry exit places
 
--- The route goes on for at least so many places.
-abbrev pub IsEndless : (Place → Place → Type 0) → Place → Point → ℕ → List Place → Type 0
-IsEndless next entry exit limit places = IsOpen next entry exit places × (limit ≤ length places)
-
 -- How the route ends, at the last of these places.
-abbrev pub Ends : (Place → Place → Type 0) → Place → Point → ℕ → Ending → List Place → Type 0
-Ends next entry exit limit Exit places = IsThrough next entry exit places
-Ends next entry exit limit NoWay places = HasNoWay next entry exit places
-Ends next entry exit limit Loop places = IsRound next entry exit places ⊎ IsEndless next entry exit limit places
+abbrev pub Ends : (Place → Place → Type 0) → Place → Point → Ending → List Place → Type 0
+Ends next entry exit Exit places = IsThrough next entry exit places
+Ends next entry exit NoWay places = HasNoWay next entry exit places
+Ends next entry exit Loop places = IsRound next entry exit places
 
 -- how a route ends at a place where it does not go on
 abbrev pub ending_of : Passage → Ending

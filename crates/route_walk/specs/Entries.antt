@@ -1,5 +1,6 @@
 -- Where a route begins, and where it ends.
-use Rattle.std.specs.Prelude.{ℕ, ◌+◌, min, max, Bool, true, false, nat_eq, nat_lt, List, slice_get, Option, Some, None, if◌then◌else◌}
+use Rattle.std.specs.Prelude.{◌≡◌, ℕ, ◌+◌, min, max, Bool, true, false, nat_eq, nat_lt, List, length, slice_get, Option, Some, None, if◌then◌else◌}
+use Rattle.infra_types.specs.Infras.{IsRoutePoint}
 use Rattle.infra_types.specs.declared.ends.Direction.{Direction}
 use Rattle.infra_types.specs.declared.ends.Direction.TheVariants.{StartToStop, StopToStart}
 use Rattle.infra_types.specs.declared.infras.Infra.{Infra}
@@ -17,6 +18,10 @@ use Rattle.route_walk.specs.declared.places.Point.TheVariants as points
 use Rattle.route_walk.specs.declared.places.Spot.{Spot}
 use Rattle.route_walk.specs.Counts.{below, rank_of}
 use Rattle.route_walk.specs.Places.{ahead_in, position_of}
+
+-- one of the detectors or buffer stops
+abbrev pub IsPointOf : Infra → RoutePoint → Type 0
+IsPointOf infra point = IsRoutePoint (length infra.detectors) (length infra.buffer_stops) point
 
 abbrev pub track_of : Option Placed → ℕ
 track_of None = 0
@@ -64,7 +69,8 @@ detector_spot infra layout direction number =
       direction = direction;
       at = at;
       gap = gap_past direction (rank_of at number (stands_of layout.stands track));
-      stop = stop_from direction (side_of_detector direction (length_of infra.tracks track) at) (stands_of layout.stops track);
+      stop = stop_from direction (side_of_detector direction (length_of infra.tracks track) at)
+          (stands_of layout.stops track);
       passed = true;
     }
 
@@ -100,7 +106,8 @@ stop_spot infra layout direction number exit =
       track = track;
       direction = direction;
       at = at;
-      gap = below (side_of_stop direction (length_of infra.tracks track) at) (stands_of layout.stands track);
+      gap = below (side_of_stop direction (length_of infra.tracks track) at)
+          (stands_of layout.stands track);
       stop = if is_beside infra number exit then Some at
           else stop_from direction (side_past_stop direction at) (stands_of layout.stops track);
       passed = false;
@@ -115,7 +122,7 @@ entry_at infra layout direction (Detector number) exit = record {
 }
 entry_at infra layout direction (BufferStop number) exit = record {
   from = metre_at infra.buffer_stops number;
-  point = Some (points.Stop (track_at infra.buffer_stops number) (metre_at infra.buffer_stops number));
+  point = Some (exit_of infra (BufferStop number));
   level = false;
   spot = stop_spot infra layout direction number exit;
 }
@@ -123,3 +130,9 @@ entry_at infra layout direction (BufferStop number) exit = record {
 -- the place at which a route begins
 abbrev pub entry_of : Infra → Layout → Route → Place
 entry_of infra layout route = entry_at infra layout route.direction route.entry route.exit
+
+-- A route begins at this place.
+pub record IsEntry (infra : Infra) (layout : Layout) (place : Place) : Type 0 where
+  pub route : Route
+  pub point : IsPointOf infra route.entry
+  pub is : place ≡ entry_of infra layout route

@@ -1,5 +1,5 @@
 -- What a walk passes: its points with their metres, and the zones between them.
-use Rattle.std.specs.Prelude.{◌≡◌, ℕ, ◌+◌, ◌-◌, ◌*◌, ◌<◌, min, max, true, nat_eq, List, ◌∷◌, map, take, slice_get, Option, Some, None, option_map, if◌then◌else◌}
+use Rattle.std.specs.Prelude.{◌≡◌, ℕ, ◌+◌, ◌-◌, ◌*◌, ◌<◌, min, max, true, nat_eq, List, ◌∷◌, length, map, take, slice_get, slice_index_or, Option, Some, None, option_map, if◌then◌else◌}
 use Rattle.std.specs.List.{All, AllPairs, filter_map, sum_by}
 use Rattle.infra_types.specs.declared.ends.Direction.{Direction}
 use Rattle.infra_types.specs.declared.ends.Direction.TheVariants.{StartToStop, StopToStart}
@@ -37,6 +37,10 @@ abbrev pub side_of : Direction → ℕ
 side_of StartToStop = 0
 side_of StopToStart = 1
 
+-- how many directed points there are: each detector and each buffer stop in both directions
+abbrev pub point_count : Infra → ℕ
+point_count infra = 2 * (length infra.detectors + length infra.buffer_stops)
+
 -- the number of a point among twice so many detectors, and the buffer stops behind them
 abbrev pub point_number : ℕ → Direction → RoutePoint → ℕ
 point_number detectors direction (Detector number) = 2 * number + side_of direction
@@ -49,7 +53,8 @@ number_of detectors exit direction (points.Stop track at) = point_number detecto
 
 -- the number of the point at a place, None where there is none
 abbrev pub number_at : ℕ → RoutePoint → Place → Option ℕ
-number_at detectors exit place = option_map (number_of detectors exit place.spot.direction) place.point
+number_at detectors exit place =
+    option_map (number_of detectors exit place.spot.direction) place.point
 
 -- the number of a route's entry
 abbrev pub first_number : ℕ → Route → ℕ
@@ -61,10 +66,12 @@ numbers_at detectors route places =
     Some (first_number detectors route) ∷ map (number_at detectors route.exit) places
 
 -- The points passed, from the entry on: all that stand at these places, each where it stands and at its metres.
-pub record ArePassed (detectors : ℕ) (route : Route) (places : List Place) (passed : List Passed) : Type 0 where
+pub record ArePassed (detectors : ℕ) (route : Route) (places : List Place)
+    (passed : List Passed) : Type 0 where
   pub points : map (λ one. one.point) passed
       ≡ first_number detectors route ∷ filter_map (number_at detectors route.exit) places
-  pub stand : All (λ one. slice_get (numbers_at detectors route places) one.reach ≡ Some (Some one.point)) passed
+  pub stand : All (λ one.
+      slice_get (numbers_at detectors route places) one.reach ≡ Some (Some one.point)) passed
   pub metres : All (λ one. one.metres ≡ metres_to places one.reach) passed
   pub order : AllPairs (λ one later. one.reach < later.reach) passed
 
@@ -82,12 +89,14 @@ side_before_stop StopToStart length_m at = if nat_eq at length_m then at + 1 els
 abbrev pub arrival_side : Direction → ℕ → ℕ → Option Point → ℕ
 arrival_side direction length_m at None = side_before direction at
 arrival_side direction length_m at (Some (points.Detector number)) = side_before direction at
-arrival_side direction length_m at (Some (points.Stop track metre)) = side_before_stop direction length_m at
+arrival_side direction length_m at (Some (points.Stop track metre)) =
+    side_before_stop direction length_m at
 
 -- the piece through which a place is reached
 abbrev pub arrival_piece : Infra → Layout → Place → ℕ
 arrival_piece infra layout place =
-    begun_before (arrival_side place.spot.direction (length_of infra.tracks place.spot.track) place.spot.at place.point)
+    let length_m = length_of infra.tracks place.spot.track in
+    begun_before (arrival_side place.spot.direction length_m place.spot.at place.point)
     (pieces_of layout.pieces place.spot.track) - 1
 
 -- the zone through which a place is reached, None between detectors at one position
@@ -104,3 +113,9 @@ leg_at infra layout place = option_map (λ point. zone_to infra layout place) pl
 pub record IsBehind (before place : Place) : Type 0 where
   pub level : place.level ≡ true → (before.spot.passed ≡ true) × (place.from ≡ place.spot.at)
   pub passed : place.spot.passed ≡ true → place.point ≡ None → ⊥
+
+-- Each place is behind the one before it.
+abbrev pub AreBehind : Place → List Place → Type 0
+AreBehind entry places =
+    (k : ℕ) (d : Place) → k < length places
+    → IsBehind (slice_index_or (entry ∷ places) k d) (slice_index_or places k d)

@@ -33,7 +33,8 @@ far_end StopToStart length_m = 0
 abbrev pub stands_first : Direction → ℕ → Option ℕ → ℕ → Bool
 stands_first direction length_m None at = true
 stands_first StartToStop length_m (Some stop) at = if nat_lt 0 stop then nat_le at stop else false
-stands_first StopToStart length_m (Some stop) at = if nat_lt stop length_m then nat_le stop at else false
+stands_first StopToStart length_m (Some stop) at =
+    if nat_lt stop length_m then nat_le stop at else false
 
 -- how many stand on the begin's side of the next one, after it in a direction
 abbrev pub gap_behind : Direction → ℕ → ℕ
@@ -82,7 +83,8 @@ at_wall spot length_m = wall_at spot length_m spot.stop
 abbrev pub come_to : Spot → ℕ → Option Stand → Place
 come_to spot length_m None = at_wall spot length_m
 come_to spot length_m (Some detector) =
-    if stands_first spot.direction length_m spot.stop detector.position then at_detector spot detector
+    if stands_first spot.direction length_m spot.stop detector.position
+    then at_detector spot detector
     else at_wall spot length_m
 
 -- what a route comes to next along its track

@@ -14,7 +14,9 @@ first_stray detectors releases = find (λ release. not (has detectors release)) 
 -- the metres of a point that is one of these releases; so many detectors stand before the buffer stops
 abbrev pub release_at : ℕ → List ℕ → Passed → Option ℕ
 release_at detectors releases one =
-    if nat_lt one.point (2 * detectors) then (if has releases (one.point / 2) then Some one.metres else None) else None
+    if nat_lt one.point (2 * detectors)
+    then (if has releases (one.point / 2) then Some one.metres else None)
+    else None
 
 -- the metres of those points passed that are releases
 abbrev pub releases_at : ℕ → List ℕ → List Passed → List ℕ

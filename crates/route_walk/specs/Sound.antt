@@ -16,13 +16,15 @@ pub record IsWalk (walk : Walk) : Type 0 where
 -- Zones and points are below these numbers, and a zone is passed wherever metres rise.
 pub record IsSound (zone_count point_count : ℕ) (walk : Walk) : Type 0 where
   pub sound : IsWalk walk
-  pub zoned : (n : ℕ) (d : Passed) → n + 1 < length walk.passed → slice_index_or walk.zones n None ≡ None
+  pub zoned : (n : ℕ) (d : Passed) → n + 1 < length walk.passed
+      → slice_index_or walk.zones n None ≡ None
       → (slice_index_or walk.passed n d).metres ≡ (slice_index_or walk.passed (n + 1) d).metres
   pub zones : (n zone : ℕ) → slice_index_or walk.zones n None ≡ Some zone → zone < zone_count
   pub points : All (λ passed. passed.point < point_count) walk.passed
 
 -- Of points and the zones between them: those numbers, one zone less than points, and a zone wherever metres rise.
-pub record AreSound (zone_count point_count : ℕ) (passed : List Passed) (zones : List (Option ℕ)) : Type 0 where
+pub record AreSound (zone_count point_count : ℕ) (passed : List Passed)
+    (zones : List (Option ℕ)) : Type 0 where
   pub legs : length zones + 1 ≡ length passed
   pub zoned : (n : ℕ) (d : Passed) → n + 1 < length passed → slice_index_or zones n None ≡ None
       → (slice_index_or passed n d).metres ≡ (slice_index_or passed (n + 1) d).metres

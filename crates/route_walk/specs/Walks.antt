@@ -1,14 +1,14 @@
 -- The walk of a route, and why a route has none.
-use Rattle.std.specs.Prelude.{◌≡◌, ℕ, ◌+◌, ◌*◌, ◌⊎◌, List, ◌∷◌, length, map, slice_get, Option, Some, None}
+use Rattle.std.specs.Prelude.{◌≡◌, ◌≢◌, ℕ, ◌+◌, ◌*◌, List, ◌∷◌, length, map, slice_get, Option, Some, None}
 use Rattle.std.specs.List.{filter_map, sum_by}
 use Rattle.infra_types.specs.declared.infras.Infra.{Infra}
 use Rattle.infra_types.specs.declared.routes.Route.{Route}
-use Rattle.track_graph.specs.Layouts.{Layout}
+use Rattle.track_graph.specs.Layouts.{IsLayoutOf, Layout}
 use Rattle.route_walk.specs.declared.places.Place.{Place}
 use Rattle.route_walk.specs.declared.walks.Walk.{Walk}
 use Rattle.route_walk.specs.declared.walks.WalkFault.{WalkFault}
 use Rattle.route_walk.specs.declared.walks.WalkFault.TheVariants.{NoWay, Loop, StrayRelease, Memory}
-use Rattle.route_walk.specs.Courses.{HasNoWay, IsEndless, IsRound, IsThrough, detectors_of}
+use Rattle.route_walk.specs.Courses.{HasNoWay, IsRound, IsThrough, detectors_of}
 use Rattle.route_walk.specs.Entries.{entry_of, exit_of}
 use Rattle.route_walk.specs.Legs.{ArePassed, leg_at, length_m, stretch_of}
 use Rattle.route_walk.specs.Releases.{first_stray, releases_at}
@@ -18,14 +18,15 @@ use Rattle.route_walk.specs.Ways.{Comes}
 abbrev pub IsRouteAt : Infra → ℕ → Route → Type 0
 IsRouteAt infra number route = slice_get infra.routes number ≡ Some route
 
--- no fewer than the detectors and the ends of tracks
+-- one more than the detectors and the ends of tracks
 abbrev pub limit_of : Infra → ℕ
-limit_of infra = length infra.detectors + 2 * length infra.tracks
+limit_of infra = length infra.detectors + 2 * length infra.tracks + 1
 
 -- The route comes by these places to its exit.
 abbrev pub Reaches : Infra → Layout → Route → List Place → Type 0
 Reaches infra layout route places =
-    IsThrough (Comes infra layout route.ways) (entry_of infra layout route) (exit_of infra route.exit) places
+    IsThrough (Comes infra layout route.ways) (entry_of infra layout route)
+    (exit_of infra route.exit) places
 
 -- the release that is none of the detectors passed, the first in the route's own order
 abbrev pub stray_of : Infra → Layout → Route → List Place → Option ℕ
@@ -33,7 +34,8 @@ stray_of infra layout route places =
     first_stray (detectors_of (entry_of infra layout route ∷ places)) route.releases
 
 -- What the walk tells of these places.
-pub record TellsOf (infra : Infra) (layout : Layout) (route : Route) (places : List Place) (walk : Walk) : Type 0 where
+pub record TellsOf (infra : Infra) (layout : Layout) (route : Route) (places : List Place)
+    (walk : Walk) : Type 0 where
   pub points : ArePassed (length infra.detectors) route places walk.passed
   pub between : walk.zones ≡ filter_map (leg_at infra layout) places
   pub along : walk.stretches ≡ map stretch_of places
@@ -53,16 +55,17 @@ pub record EndsAt (infra : Infra) (layout : Layout) (number at : ℕ) : Type 0 w
   pub route : Route
   pub is : IsRouteAt infra number route
   pub places : List Place
-  pub no_way : HasNoWay (Comes infra layout route.ways) (entry_of infra layout route) (exit_of infra route.exit) places
+  pub no_way : HasNoWay (Comes infra layout route.ways) (entry_of infra layout route)
+      (exit_of infra route.exit) places
   pub metres : at ≡ sum_by length_m places
 
--- The route of that number comes to a detector again, or to more places than there are detectors and ends of tracks.
+-- The route of that number comes to a detector that it has passed.
 pub record GoesRound (infra : Infra) (layout : Layout) (number : ℕ) : Type 0 where
   pub route : Route
   pub is : IsRouteAt infra number route
   pub places : List Place
-  pub round : IsRound (Comes infra layout route.ways) (entry_of infra layout route) (exit_of infra route.exit) places
-      ⊎ IsEndless (Comes infra layout route.ways) (entry_of infra layout route) (exit_of infra route.exit) (limit_of infra) places
+  pub round : IsRound (Comes infra layout route.ways) (entry_of infra layout route)
+      (exit_of infra route.exit) places
 
 -- The route of that number comes to its exit, and this is the first of its release detectors that is beside it.
 pub record Strays (infra : Infra) (layout : Layout) (number detector : ℕ) : Type 0 where
@@ -76,5 +79,26 @@ pub record Strays (infra : Infra) (layout : Layout) (number detector : ℕ) : Ty
 abbrev pub WalkTells : Infra → Layout → ℕ → WalkFault → Type 0
 WalkTells infra layout number (NoWay route at) = (route ≡ number) × EndsAt infra layout number at
 WalkTells infra layout number (Loop route) = (route ≡ number) × GoesRound infra layout number
-WalkTells infra layout number (StrayRelease route detector) = (route ≡ number) × Strays infra layout number detector
+WalkTells infra layout number (StrayRelease route detector) =
+    (route ≡ number) × Strays infra layout number detector
 WalkTells infra layout number Memory = Unit {0}
+
+-- Two walks of a route are the same.
+abbrev pub WalksAreOne : Type 0
+WalksAreOne =
+    (infra : Infra) (layout : Layout) (number : ℕ) (one other : Walk) → IsLayoutOf infra layout
+    → IsWalkOf infra layout number one → IsWalkOf infra layout number other → one ≡ other
+
+-- Two faults of a route are the same, unless memory was wanted.
+abbrev pub FaultsAreOne : Type 0
+FaultsAreOne =
+    (infra : Infra) (layout : Layout) (number : ℕ) (one other : WalkFault) → IsLayoutOf infra layout
+    → one ≢ Memory → other ≢ Memory
+    → WalkTells infra layout number one → WalkTells infra layout number other → one ≡ other
+
+-- A route that has a walk has no fault, unless memory was wanted.
+abbrev pub WalkOrFault : Type 0
+WalkOrFault =
+    (infra : Infra) (layout : Layout) (number : ℕ) (walk : Walk) (fault : WalkFault)
+    → IsLayoutOf infra layout → fault ≢ Memory
+    → IsWalkOf infra layout number walk → WalkTells infra layout number fault → ⊥

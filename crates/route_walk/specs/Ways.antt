@@ -32,7 +32,8 @@ Leads switches ways end next =
 
 -- The end to which the route's group leads from this one, None where there is no way.
 abbrev pub IsLead : Layout → List Way → TrackEnd → Option TrackEnd → Type 0
-IsLead layout ways end found = (next : TrackEnd) → (found ≡ Some next) ↔ Leads layout.infra.switches ways end next
+IsLead layout ways end found =
+    (next : TrackEnd) → (found ≡ Some next) ↔ Leads layout.infra.switches ways end next
 
 abbrev pub end_towards : Direction → End
 end_towards StartToStop = ends.End
@@ -55,4 +56,5 @@ Comes infra layout ways place next = ComesFrom place.point infra layout ways pla
 
 -- The next place, None where no way leads on.
 abbrev pub IsNext : Infra → Layout → List Way → Place → Option Place → Type 0
-IsNext infra layout ways place found = (next : Place) → (found ≡ Some next) ↔ Comes infra layout ways place next
+IsNext infra layout ways place found =
+    (next : Place) → (found ≡ Some next) ↔ Comes infra layout ways place next

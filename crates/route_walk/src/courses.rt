@@ -1,10 +1,11 @@
 //! Follows a route from place to place, until it ends.
 
-ghost use Rattle.std.specs.Prelude.{◌≡◌, ◌∷◌, ◌≤◌, ◌+◌, ◌<◌, ◌^◌, ◌↔◌, length, IfOk, IsTrue};
+ghost use Rattle.std.specs.Prelude.{◌≡◌, ◌∷◌, ◌≤◌, ◌+◌, ◌*◌, ◌<◌, ◌^◌, ◌↔◌, length, IfOk, IsTrue};
 ghost use Rattle.std.specs.List.{All, AllPairs};
 ghost use Rattle.infra_types.specs.Infras.{IsInfra};
 ghost use Rattle.track_graph.specs.Layouts.{IsLayoutOf};
 ghost use Rattle.route_walk.specs.Places.{IsPlace};
+ghost use Rattle.route_walk.specs.Entries.{IsEntry};
 ghost use Rattle.route_walk.specs.Ways.{Comes};
 ghost use Rattle.std.specs.Option.{option_to_list};
 ghost use Rattle.route_walk.specs.Courses.{Ends, detectors_of, ending_of};
@@ -35,7 +36,8 @@ pub(crate) struct Course {
     pub detectors: IndexSet<u32>,
 }
 
-/// Follows a route with these ways from its entry for so many places at most.
+/// Follows a route with these ways from its entry. The limit is above the detectors and the ends of tracks: a route that
+/// goes on comes to none of them twice.
 pub(crate) fn course_of(
     alloc: Global,
     graph: &Graph,
@@ -48,10 +50,15 @@ pub(crate) fn course_of(
     requires infra { IsInfra infra.now }
     requires layout { IsLayoutOf infra.now graph.now }
     requires ascend { AllPairs (λ one later. one.switch < later.switch) ways.now }
-    requires entry { IsPlace infra.now graph.now entry.now }
-    ensures ends { IfOk result (λ course. Ends (Comes infra.now graph.now ways.now) entry.now exit limit course.ending course.places.items) }
+    requires entry { IsEntry infra.now graph.now entry.now }
+    requires on { IsPlace infra.now graph.now entry.now }
+    requires limit { length infra.now.detectors + 2 * length infra.now.tracks < limit }
+    ensures ends { IfOk result (λ course.
+        Ends (Comes infra.now graph.now ways.now) entry.now exit
+        course.ending course.places.items) }
     ensures places { IfOk result (λ course. All (IsPlace infra.now graph.now) course.places.items) }
-    ensures passed { IfOk result (λ course. course.ending ≡ Ending.Exit → course.detectors.keys ≡ detectors_of (entry.now ∷ course.places.items)) }
+    ensures passed { IfOk result (λ course. course.ending ≡ Ending.Exit
+        → course.detectors.keys ≡ detectors_of (entry.now ∷ course.places.items)) }
     ensures few { IfOk result (λ course. length course.places.items ≤ limit) }
 {
     let mut detectors = first_detectors(alloc, entry.point)?;
@@ -76,11 +83,7 @@ pub(crate) fn course_of(
         }
         place = next;
     }
-    Ok(Course {
-        places,
-        ending: Ending::Loop,
-        detectors,
-    })
+    unreachable!()
 }
 
 /// The detector of a route's entry, if it is one.

@@ -2,12 +2,12 @@
 
 ghost use Rattle.std.specs.Prelude.{◌≡◌, ◌<◌, ◌≤◌, ◌+◌, ◌^◌, length, IfSome};
 ghost use Rattle.std.specs.List.{AllPairs};
-ghost use Rattle.infra_types.specs.Infras.{IsInfra, IsRoutePoint};
+ghost use Rattle.infra_types.specs.Infras.{IsInfra};
 ghost use Rattle.track_graph.specs.Layouts.{IsLayoutOf};
 ghost use Rattle.track_graph.specs.Pieces.{length_of};
 ghost use Rattle.track_graph.specs.Stands.{ComesBefore};
 ghost use Rattle.route_walk.specs.Places.{IsPlace, IsSpot};
-ghost use Rattle.route_walk.specs.Entries.{detector_spot, entry_of, exit_of, gap_past, is_beside, metre_at, side_of_detector, side_of_stop, side_past_stop, stop_from, stop_spot, track_at};
+ghost use Rattle.route_walk.specs.Entries.{IsPointOf, detector_spot, entry_of, exit_of, gap_past, is_beside, metre_at, side_of_detector, side_of_stop, side_past_stop, stop_from, stop_spot, track_at};
 
 use crate::counts::{below, rank_of};
 use crate::places::{Place, Point, Spot, ahead_in, length_of, position_of};
@@ -174,7 +174,7 @@ fn stop_spot(
 pub(crate) fn entry_of(graph: &Graph, infra: &Infra, route: &Route) -> Place
     requires infra { IsInfra infra.now }
     requires layout { IsLayoutOf infra.now graph.now }
-    requires entry { IsRoutePoint (length infra.now.detectors) (length infra.now.buffer_stops) route.now.entry }
+    requires entry { IsPointOf infra.now route.now.entry }
     ensures place { result ≡ entry_of infra.now graph.now route.now }
     ensures on { IsPlace infra.now graph.now (entry_of infra.now graph.now route.now) }
 {

@@ -4,7 +4,8 @@ ghost use Rattle.std.specs.Prelude.{◌≡◌, ◌∷◌, ◌+◌, ◌-◌, ◌*
 ghost use Rattle.std.specs.List.{All, filter_map, sum_by};
 ghost use Rattle.infra_types.specs.Infras.{IsInfra, IsRoute, IsRoutePoint};
 ghost use Rattle.track_graph.specs.Layouts.{IsLayoutOf};
-ghost use Rattle.route_walk.specs.Legs.{ArePassed, IsBehind, arrival_side, leg_at, length_m, number_at, number_of, point_number, side_before, side_before_stop, side_of, stretch_of, zone_to};
+ghost use Rattle.route_walk.specs.Entries.{IsPointOf};
+ghost use Rattle.route_walk.specs.Legs.{AreBehind, ArePassed, arrival_side, leg_at, length_m, number_at, number_of, point_count, point_number, side_before, side_before_stop, side_of, stretch_of, zone_to};
 ghost use Rattle.route_walk.specs.Places.{IsKnown, IsPlace};
 ghost use Rattle.route_walk.specs.Sound.{AreSound};
 
@@ -78,9 +79,10 @@ fn side_of(direction: Direction) -> u32
 /// The number of a point among twice so many detectors, and the buffer stops behind them.
 pub(crate) fn point_number(infra: &Infra, direction: Direction, point: RoutePoint) -> u32
     requires infra { IsInfra infra.now }
-    requires point { IsRoutePoint (length infra.now.detectors) (length infra.now.buffer_stops) point }
+    requires point { IsPointOf infra.now point }
     ensures number { result ≡ point_number (length infra.now.detectors) direction point }
-    ensures bound { point_number (length infra.now.detectors) direction point < 2 * (length infra.now.detectors + length infra.now.buffer_stops) }
+    ensures bound { point_number (length infra.now.detectors) direction point
+        < point_count infra.now }
 {
     let detectors = infra.detectors.len() as u32;
     match point {
@@ -94,7 +96,8 @@ fn number_of(infra: &Infra, exit: RoutePoint, direction: Direction, point: Point
     requires exit { IsRoutePoint (length infra.now.detectors) (length infra.now.buffer_stops) exit }
     requires known { IsKnown (length infra.now.detectors) (Some point) }
     ensures number { result ≡ number_of (length infra.now.detectors) exit direction point }
-    ensures bound { number_of (length infra.now.detectors) exit direction point < 2 * (length infra.now.detectors + length infra.now.buffer_stops) }
+    ensures bound { number_of (length infra.now.detectors) exit direction point
+        < point_count infra.now }
 {
     match point {
         Point::Detector(number) => point_number(infra, direction, RoutePoint::Detector(number)),
@@ -160,7 +163,7 @@ fn number_at(infra: &Infra, exit: RoutePoint, place: &Place) -> Option<u32>
     requires exit { IsRoutePoint (length infra.now.detectors) (length infra.now.buffer_stops) exit }
     requires known { IsKnown (length infra.now.detectors) place.now.point }
     ensures number { result ≡ number_at (length infra.now.detectors) exit place.now }
-    ensures bound { IfSome result (λ number. number < 2 * (length infra.now.detectors + length infra.now.buffer_stops)) }
+    ensures bound { IfSome result (λ number. number < point_count infra.now) }
 {
     match place.point {
         Some(point) => Some(number_of(infra, exit, place.spot.direction, point)),
@@ -179,14 +182,18 @@ pub(crate) fn legs_of(
 ) -> Result<Legs, NoMemory>
     requires infra { IsInfra infra.now }
     requires layout { IsLayoutOf infra.now graph.now }
-    requires route { IsRoute (length infra.now.switches) (length infra.now.detectors) (length infra.now.buffer_stops) route.now }
+    requires route { IsRoute (length infra.now.switches) (length infra.now.detectors)
+        (length infra.now.buffer_stops) route.now }
     requires places { All (IsPlace infra.now graph.now) places.now }
     requires few { length places.now ≤ 2 ^ 18 }
     requires short { All (λ place. length_m place ≤ 1000000) places.now }
-    requires behind { (k : ℕ) (d : _) → k < length places.now → IsBehind (slice_index_or (entry.now ∷ places.now) k d) (slice_index_or places.now k d) }
-    ensures passed { IfOk result (λ legs. ArePassed (length infra.now.detectors) route.now places.now legs.passed.items) }
-    ensures zones { IfOk result (λ legs. legs.zones.items ≡ filter_map (leg_at infra.now graph.now) places.now) }
-    ensures sound { IfOk result (λ legs. AreSound graph.now.count (2 * (length infra.now.detectors + length infra.now.buffer_stops)) legs.passed.items legs.zones.items) }
+    requires behind { AreBehind entry.now places.now }
+    ensures passed { IfOk result (λ legs.
+        ArePassed (length infra.now.detectors) route.now places.now legs.passed.items) }
+    ensures zones { IfOk result (λ legs.
+        legs.zones.items ≡ filter_map (leg_at infra.now graph.now) places.now) }
+    ensures sound { IfOk result (λ legs.
+        AreSound graph.now.count (point_count infra.now) legs.passed.items legs.zones.items) }
 {
     let mut passed = Vec::new(alloc);
     let mut zones = Vec::new(alloc);

@@ -5,6 +5,7 @@
 mod counts;
 mod courses;
 mod entries;
+mod laws;
 mod legs;
 mod passages;
 mod places;
@@ -13,5 +14,6 @@ mod routes;
 mod walks;
 mod ways;
 
+pub use laws::one_walk;
 pub use routes::walk;
 pub use walks::{Passed, Stretch, Walk, WalkFault};

@@ -24,7 +24,8 @@ pub(crate) fn pass(
     exit: Point,
 ) -> Result<Passage, NoMemory>
     ensures passage { IfOk result (Is passed.old.keys point exit) }
-    ensures passed { IfOk result (λ passage. passage ≡ Passage.Twice ⊎ (passed.new.keys ≡ passed.old.keys ++ option_to_list (detector_of point))) }
+    ensures passed { IfOk result (λ passage. passage ≡ Passage.Twice
+        ⊎ (passed.new.keys ≡ passed.old.keys ++ option_to_list (detector_of point))) }
 {
     let Some(point) = point else {
         return Ok(Passage::On);

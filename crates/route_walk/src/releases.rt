@@ -69,7 +69,8 @@ fn metres_among(
     passed: &[Passed],
 ) -> Result<Vec<u64>, NoMemory>
     requires { 2 * detectors < 2 ^ 32 }
-    ensures { IfOk result (λ metres. metres.items ≡ releases_at detectors releases.now.keys passed.now) }
+    ensures { IfOk result (λ metres.
+        metres.items ≡ releases_at detectors releases.now.keys passed.now) }
 {
     let mut metres = Vec::new(alloc);
     'points: for one in passed {

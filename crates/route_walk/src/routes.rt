@@ -4,7 +4,7 @@ ghost use Rattle.std.specs.Prelude.{◌≡◌, ◌∷◌, ◌+◌, ◌*◌, ◌<
 ghost use Rattle.std.specs.List.{All};
 ghost use Rattle.infra_types.specs.Infras.{IsInfra, IsRoute};
 ghost use Rattle.track_graph.specs.Layouts.{IsLayoutOf};
-ghost use Rattle.route_walk.specs.Legs.{IsBehind, length_m};
+ghost use Rattle.route_walk.specs.Legs.{AreBehind, length_m, point_count};
 ghost use Rattle.route_walk.specs.Places.{IsPlace};
 ghost use Rattle.route_walk.specs.Sound.{IsSound};
 ghost use Rattle.route_walk.specs.Walks.{IsWalkOf, TellsOf, WalkTells, limit_of};
@@ -34,7 +34,7 @@ pub fn walk(alloc: Global, graph: &Graph, infra: &Infra, route: u32) -> Result<W
     requires layout { IsLayoutOf infra.now graph.now }
     requires route { route < length infra.now.routes }
     ensures walk { IfOk result (IsWalkOf infra.now graph.now route) }
-    ensures sound { IfOk result (IsSound graph.now.count (2 * (length infra.now.detectors + length infra.now.buffer_stops))) }
+    ensures sound { IfOk result (IsSound graph.now.count (point_count infra.now)) }
     ensures fault { IfErr result (WalkTells infra.now graph.now route) }
 {
     let own = &infra.routes.as_slice()[route as usize];
@@ -59,13 +59,13 @@ pub fn walk(alloc: Global, graph: &Graph, infra: &Infra, route: u32) -> Result<W
     Ok(walk)
 }
 
-/// No fewer than the detectors and the ends of tracks.
+/// One more than the detectors and the ends of tracks.
 fn limit_of(infra: &Infra) -> u64
     requires { IsInfra infra.now }
     ensures limit { result ≡ limit_of infra.now }
     ensures bound { limit_of infra.now ≤ 2 ^ 18 }
 {
-    infra.detectors.len() as u64 + 2 * infra.tracks.len() as u64
+    infra.detectors.len() as u64 + 2 * infra.tracks.len() as u64 + 1
 }
 
 /// What a walk tells that comes by these places.
@@ -79,13 +79,14 @@ fn walk_along(
 ) -> Result<Walk, NoMemory>
     requires infra { IsInfra infra.now }
     requires layout { IsLayoutOf infra.now graph.now }
-    requires route { IsRoute (length infra.now.switches) (length infra.now.detectors) (length infra.now.buffer_stops) route.now }
+    requires route { IsRoute (length infra.now.switches) (length infra.now.detectors)
+        (length infra.now.buffer_stops) route.now }
     requires places { All (IsPlace infra.now graph.now) places.now }
     requires few { length places.now ≤ 2 ^ 18 }
     requires short { All (λ place. length_m place ≤ 1000000) places.now }
-    requires behind { (k : ℕ) (d : _) → k < length places.now → IsBehind (slice_index_or (entry.now ∷ places.now) k d) (slice_index_or places.now k d) }
+    requires behind { AreBehind entry.now places.now }
     ensures tells { IfOk result (TellsOf infra.now graph.now route.now places.now) }
-    ensures sound { IfOk result (IsSound graph.now.count (2 * (length infra.now.detectors + length infra.now.buffer_stops))) }
+    ensures sound { IfOk result (IsSound graph.now.count (point_count infra.now)) }
 {
     let legs = legs_of(alloc, graph, infra, route, entry, places)?;
     let stretches = stretches_of(alloc, places)?;

@@ -1,4 +1,4 @@
-use Rattle.std.proofs.Common.{◌≡◌, ◌≢◌, ◌<◌, ◌-◌, get_or, sym, subst, ap, ◌∙◌, take, arith}
+use Rattle.std.proofs.Common.{◌≡◌, ◌-◌, get_or, sym, ap, ◌∙◌, take, arith}
 use Rattle.std.proofs.lemmas.List.{get_or_default}
 use Rattle.copy_since.specs.Rooms.{count_of}
 use Rattle.copy_since.proofs.Counted.{count_first}

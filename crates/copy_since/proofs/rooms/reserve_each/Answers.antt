@@ -1,6 +1,5 @@
 use Rattle.std.proofs.Common.{◌≡◌, ◌<◌, ◌≤◌, ◌+◌, ◌-◌, ℕ, get_or, take, length, inl, inr, sym, subst, ap, ◌∙◌, arith, rules}
 use Rattle.std.proofs.lemmas.Bool.{cases_eq}
-use Rattle.std.proofs.lemmas.List.{get_or_default}
 use Rattle.occupation_book.specs.Held.{zone_at}
 use Rattle.copy_since.specs.Rooms.{count_of}
 use Rattle.copy_since.proofs.Counted.{count_more_other, count_more_same}

@@ -1,4 +1,4 @@
-use Rattle.std.proofs.Common.{◌≡◌, ◌<◌, ◌≤◌, ℕ, All, length, Ok, Err, subst, sym, rules}
+use Rattle.std.proofs.Common.{◌<◌, ◌≤◌, ℕ, All, length, Ok, Err, subst, sym}
 use Rattle.std.specs.Prelude.{OnOk, Result}
 use Rattle.occupation_book.specs.Held.{zone_at}
 use Rattle.copy_since.specs.Rooms.{HasRoomFor, count_of}

@@ -1,4 +1,4 @@
-use Rattle.std.proofs.Common.{◌≡◌, ◌<◌, ℕ, length, take, All, AllPairs, subst, sym, ap, ◌∙◌, arith}
+use Rattle.std.proofs.Common.{◌<◌, length, take, All, AllPairs, subst, sym, ◌∙◌, arith}
 use Rattle.std.proofs.lemmas.List.{take_all}
 use Rattle.rail_types.specs.Occupation.{Clash, HeldClaim}
 use Rattle.rail_types.specs.declared.entries.Owner.TheVariants.{Entry as of_entry}

@@ -1,4 +1,4 @@
-use Rattle.std.proofs.Common.{◌≡◌, ◌<◌, ◌≤◌, ◌+◌, ◌-◌, ◌++◌, [], length, take, drop, append-nil, if◌then◌else◌, is_some, true, false, not, refl, ap, subst, sym, ◌∙◌, rules, arith}
+use Rattle.std.proofs.Common.{◌≡◌, ◌<◌, ◌-◌, ◌++◌, [], length, take, drop, append-nil, is_some, true, false, not, refl, ap, subst, sym, ◌∙◌}
 use Rattle.grant_log.specs.Live.{claims_of, freed_by, live_from, live_of, owned_by}
 use Rattle.grant_log.proofs.Lives.{entry_at}
 use Rattle.copy_since.specs.Since.{claims_at, claims_of_some}

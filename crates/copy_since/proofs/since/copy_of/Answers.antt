@@ -1,4 +1,4 @@
-use Rattle.std.proofs.Common.{◌≡◌, ◌<◌, ℕ, [], length, All, AllPairs, subst, sym, ap, ◌∙◌}
+use Rattle.std.proofs.Common.{◌≡◌, ◌<◌, length, All, AllPairs, subst, sym, ap, ◌∙◌}
 use Rattle.rail_types.specs.Occupation.{Clash, HeldClaim}
 use Rattle.rail_types.specs.Timetables.{base_claims}
 use Rattle.occupation_book.specs.Held.{held}

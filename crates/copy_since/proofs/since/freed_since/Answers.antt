@@ -1,5 +1,5 @@
-use Rattle.std.proofs.Common.{◌≡◌, ◌<◌, ◌≤◌, ◌+◌, ◌++◌, ◌∷◌, [], length, ap, subst, sym, ◌∙◌, rules, arith}
-use Rattle.copy_since.specs.Since.{AreFreedBelow, claims_at}
+use Rattle.std.proofs.Common.{◌≡◌, ◌≤◌, ◌+◌, length, ap, subst, sym, ◌∙◌, rules, arith}
+use Rattle.copy_since.specs.Since.{AreFreedBelow}
 use Rattle.copy_since.proofs.Bringing.{freed_yes, freed_no}
 use Rattle.copy_since.proofs.since.freed_since.Goals.{in-Some-freed_before+in_ok-claims_at+in_ok-push, in_default-freed_before}
 use Rattle.copy_since.proofs.since.freed_since.Goals as goal

@@ -1,4 +1,3 @@
-use Rattle.std.proofs.Common.{◌≡◌}
 use Rattle.copy_since.specs.Since.{AreFreedBelow}
 use Rattle.copy_since.proofs.since.freed_since.Given as goal
 

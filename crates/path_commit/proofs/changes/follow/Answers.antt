@@ -1,4 +1,4 @@
-use Rattle.std.proofs.Common.{◌≡◌, ◌<◌, length, All, AllPairs, subst, sym, ap, ◌∙◌}
+use Rattle.std.proofs.Common.{◌<◌, length, All, AllPairs, subst, sym, ◌∙◌}
 use Rattle.rail_types.specs.declared.entries.Owner.TheVariants.{Entry as of_entry}
 use Rattle.rail_types.specs.Occupation.{Clash, HeldClaim}
 use Rattle.occupation_book.specs.Held.{AreOnZonesOf, IsFree, held}

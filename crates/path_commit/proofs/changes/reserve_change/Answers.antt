@@ -1,4 +1,4 @@
-use Rattle.std.proofs.Common.{◌≡◌, ◌<◌, length, All, subst, sym, ap, ◌∙◌}
+use Rattle.std.proofs.Common.{◌<◌, length, All, subst, sym, ◌∙◌}
 use Rattle.rail_types.specs.Occupation.{HeldClaim}
 use Rattle.path_commit.proofs.Changing.{gained_zones}
 use Rattle.path_commit.proofs.changes.reserve_change.Goals as goal

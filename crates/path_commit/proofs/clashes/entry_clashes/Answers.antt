@@ -1,4 +1,4 @@
-use Rattle.std.proofs.Common.{◌≡◌, ◌∙◌, true, false, not, Option, Some, None, is_some, ap, sym, subst, rules}
+use Rattle.std.proofs.Common.{◌≡◌, ◌∙◌, true, false, is_some, ap, sym, subst}
 use Rattle.path_commit.proofs.Standing.{ClashesOwn, Unfreed, clash_own, is_none, own_clash}
 use Rattle.path_commit.proofs.clashes.entry_clashes.Goals as goal
 

@@ -1,4 +1,4 @@
-use Rattle.std.proofs.Common.{◌≡◌, ◌∙◌, ◌+◌, ◌≤◌, ℕ, length, ap, sym, subst, arith}
+use Rattle.std.proofs.Common.{◌+◌, sym, subst, arith}
 use Rattle.grant_log.specs.Live.{live_claims}
 use Rattle.path_commit.proofs.Standing.{LastBelow, clash_within, last_here, last_none, last_not, last_of_all}
 use Rattle.path_commit.proofs.clashes.last_clash.Goals.{then-branch, else-branch}

@@ -1,4 +1,3 @@
-use Rattle.std.proofs.Common.{◌≡◌}
 use Rattle.grant_log.specs.Live.{live_claims}
 use Rattle.path_commit.proofs.Standing.{LastBelow}
 use Rattle.path_commit.proofs.clashes.last_clash.Given as goal

@@ -1,7 +1,6 @@
-use Rattle.std.proofs.Common.{◌≡◌, ◌∙◌, sym, subst, ap, Some, None}
-use Rattle.grant_log.specs.Live.{claims_of, live_claims}
+use Rattle.std.proofs.Common.{subst}
+use Rattle.grant_log.specs.Live.{live_claims}
 use Rattle.grant_log.specs.Verdict.{verdict_on}
-use Rattle.grant_log.specs.Meanings.{Says}
 use Rattle.path_commit.specs.Answers.{IsTaken}
 use Rattle.path_commit.specs.Clashes.{EntryClashesFrom, IsGreatest, IsLastClash, NoneClashesFrom}
 use Rattle.path_commit.proofs.Standing.{is_last, is_no_last, taken_keeps}

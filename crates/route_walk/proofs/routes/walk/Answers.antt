@@ -18,7 +18,7 @@ returns-in-NoWay-clause-fault c = (
     route = c.index-as_slice-route.result;
     is = slice_get_read c.args.infra.now.routes (length c.args.infra.now.routes) c.args.route c.index-as_slice-route.result refl c.requires.route (rw c.as_slice.ensures at c.index-as_slice-route.is);
     places = c.in_ok-course.course.places.items;
-    no_way = ends_are c.args.infra.now c.args.graph.now c.index-as_slice-route.result _ _ _ _ _ _ c.in_ok-course.course.places.items c.as_slice-ways.ensures c.entry_of-entry.ensures.place c.exit_of-exit.ensures c.limit_of.ensures.limit c.in-NoWay.is c.in_ok-course.ensures.ends;
+    no_way = ends_are c.args.infra.now c.args.graph.now c.index-as_slice-route.result _ _ _ _ _ c.in_ok-course.course.places.items c.as_slice-ways.ensures c.entry_of-entry.ensures.place c.exit_of-exit.ensures c.in-NoWay.is c.in_ok-course.ensures.ends;
     metres = c.metres_of-at.ensures ∙ ap (λ (ps : List Place). sum_by length_m ps) c.as_slice-places.ensures.value;
   },
 )
@@ -30,7 +30,7 @@ returns-in-Loop-clause-fault c = (
     route = c.index-as_slice-route.result;
     is = slice_get_read c.args.infra.now.routes (length c.args.infra.now.routes) c.args.route c.index-as_slice-route.result refl c.requires.route (rw c.as_slice.ensures at c.index-as_slice-route.is);
     places = c.in_ok-course.course.places.items;
-    round = ends_are c.args.infra.now c.args.graph.now c.index-as_slice-route.result _ _ _ _ _ _ c.in_ok-course.course.places.items c.as_slice-ways.ensures c.entry_of-entry.ensures.place c.exit_of-exit.ensures c.limit_of.ensures.limit c.in-Loop.is c.in_ok-course.ensures.ends;
+    round = ends_are c.args.infra.now c.args.graph.now c.index-as_slice-route.result _ _ _ _ _ c.in_ok-course.course.places.items c.as_slice-ways.ensures c.entry_of-entry.ensures.place c.exit_of-exit.ensures c.in-Loop.is c.in_ok-course.ensures.ends;
   },
 )
 
@@ -41,7 +41,7 @@ returns-in-Some-clause-fault c = (
     route = c.index-as_slice-route.result;
     is = slice_get_read c.args.infra.now.routes (length c.args.infra.now.routes) c.args.route c.index-as_slice-route.result refl c.requires.route (rw c.as_slice.ensures at c.index-as_slice-route.is);
     places = c.in_ok-course.course.places.items;
-    reaches = ends_are c.args.infra.now c.args.graph.now c.index-as_slice-route.result _ _ _ _ _ _ c.in_ok-course.course.places.items c.as_slice-ways.ensures c.entry_of-entry.ensures.place c.exit_of-exit.ensures c.limit_of.ensures.limit c.in-Exit.is c.in_ok-course.ensures.ends;
+    reaches = ends_are c.args.infra.now c.args.graph.now c.index-as_slice-route.result _ _ _ _ _ c.in_ok-course.course.places.items c.as_slice-ways.ensures c.entry_of-entry.ensures.place c.exit_of-exit.ensures c.in-Exit.is c.in_ok-course.ensures.ends;
     stray = strays_are c.args.infra.now c.args.graph.now c.index-as_slice-route.result c.entry_of-entry.result c.in_ok-course.course.places.items c.in_ok-course.course.detectors.keys _ c.entry_of-entry.ensures.place (c.in_ok-course.ensures.passed c.in-Exit.is) c.as_slice-releases.ensures ∙ (sym c.first_stray.ensures ∙ c.in-Some.is);
   },
 )
@@ -51,7 +51,7 @@ walk_along-requires-clause-short c = subst (λ (ps : List Place). All (λ (place
 
 pub walk_along-requires-clause-behind : goal.walk_along-requires-clause-behind
 walk_along-requires-clause-behind c =
-    let through = subst (λ (e : Ending). Ends (Comes c.args.infra.now c.args.graph.now c.as_slice-ways.result.now) c.entry_of-entry.result c.exit_of-exit.result c.limit_of.result e c.in_ok-course.course.places.items) c.in-Exit.is c.in_ok-course.ensures.ends in
+    let through = subst (λ (e : Ending). Ends (Comes c.args.infra.now c.args.graph.now c.as_slice-ways.result.now) c.entry_of-entry.result c.exit_of-exit.result e c.in_ok-course.course.places.items) c.in-Exit.is c.in_ok-course.ensures.ends in
     subst (λ (ps : List Place). (k : ℕ) (d : Place) → k < length ps → IsBehind (slice_index_or (c.entry_of-entry.result ∷ ps) k d) (slice_index_or ps k d)) (sym c.as_slice-places.ensures.value)
     (all_behind c.args.infra.now c.args.graph.now c.as_slice-ways.result.now c.entry_of-entry.result c.exit_of-exit.result c.in_ok-course.course.places.items through)
 
@@ -60,7 +60,7 @@ returns-clause-walk c = record {
   route = c.index-as_slice-route.result;
   is = slice_get_read c.args.infra.now.routes (length c.args.infra.now.routes) c.args.route c.index-as_slice-route.result refl c.requires.route (rw c.as_slice.ensures at c.index-as_slice-route.is);
   places = c.in_ok-course.course.places.items;
-  reaches = ends_are c.args.infra.now c.args.graph.now c.index-as_slice-route.result _ _ _ _ _ _ c.in_ok-course.course.places.items c.as_slice-ways.ensures c.entry_of-entry.ensures.place c.exit_of-exit.ensures c.limit_of.ensures.limit c.in-Exit.is c.in_ok-course.ensures.ends;
+  reaches = ends_are c.args.infra.now c.args.graph.now c.index-as_slice-route.result _ _ _ _ _ c.in_ok-course.course.places.items c.as_slice-ways.ensures c.entry_of-entry.ensures.place c.exit_of-exit.ensures c.in-Exit.is c.in_ok-course.ensures.ends;
   tells = subst (λ (ps : List Place). TellsOf c.args.infra.now c.args.graph.now c.index-as_slice-route.result ps c.in_ok-walk.walk) c.as_slice-places.ensures.value c.in_ok-walk.ensures.tells;
   own = strays_are c.args.infra.now c.args.graph.now c.index-as_slice-route.result c.entry_of-entry.result c.in_ok-course.course.places.items c.in_ok-course.course.detectors.keys _ c.entry_of-entry.ensures.place (c.in_ok-course.ensures.passed c.in-Exit.is) c.as_slice-releases.ensures ∙ (sym c.first_stray.ensures ∙ c.in_default.is);
 }

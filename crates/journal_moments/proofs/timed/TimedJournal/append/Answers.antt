@@ -1,4 +1,4 @@
-use Rattle.std.proofs.Common.{◌≡◌, ◌∙◌, ◌++◌, ◌∷◌, [], refl, ap}
+use Rattle.std.proofs.Common.{◌∙◌, ◌++◌, ◌∷◌, [], refl, ap}
 use Rattle.grant_journal.specs.declared.journals.Written.TheVariants.{Done, Fault}
 use Rattle.journal_text.specs.Histories.{counted, front_of}
 use Rattle.journal_moments.proofs.Entering.{enters}

@@ -1,6 +1,3 @@
-use Rattle.std.proofs.Common.{◌≡◌, inl, refl, sym, length, [], arith, ◌∙◌, ap}
-use Rattle.std.specs.Prelude.{slice_index}
-use Rattle.journal_text.proofs.Prefixes.{reads-whole}
 use Rattle.journal_moments.proofs.Entering.{begins}
 use Rattle.journal_moments.proofs.timed.TimedJournal.of.Goals as goal
 

@@ -1,4 +1,4 @@
-use Rattle.std.proofs.Common.{◌≡◌, ◌∙◌, ◌<◌, ◌++◌, ◌∷◌, [], refl, ap, rules}
+use Rattle.std.proofs.Common.{◌∙◌, ◌<◌, ◌++◌, ◌∷◌, [], refl, ap, rules}
 use Rattle.journal_moments.proofs.Entering.{settles-idle, settles-failed, settles-put}
 use Rattle.journal_moments.proofs.timed.TimedJournal.settle.Goals as goal
 

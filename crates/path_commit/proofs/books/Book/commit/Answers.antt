@@ -1,4 +1,4 @@
-use Rattle.std.proofs.Common.{◌≡◌, ◌∙◌, length, ap, sym, refl, subst}
+use Rattle.std.proofs.Common.{◌∙◌, ap, sym, subst}
 use Rattle.journal_moments.specs.Keeping.{Left}
 use Rattle.path_commit.specs.Answers.{IsBeforeOrAfter, IsTold}
 use Rattle.path_commit.specs.Inside.{ledger_of}

@@ -1,5 +1,4 @@
-use Rattle.std.proofs.Common.{◌≡◌, ◌+◌, ◌∷◌, ◌++◌, [], length, refl, ap, sym, subst, ◌∙◌, arith}
-use Rattle.rail_types.specs.declared.entries.Entry.{Entry}
+use Rattle.std.proofs.Common.{length, refl, ap, ◌∙◌, arith}
 use Rattle.occupation_book.specs.Held.{held}
 use Rattle.grant_log.specs.Legal.{Register}
 use Rattle.grant_journal.specs.declared.journals.Written.TheVariants.{Fault}
@@ -49,7 +48,7 @@ returns-clause-one g c =
     let ready = c.requires.ready in
     let entry = c.args.entry in
     let entered = c.append-written.ensures.enters (header_of s.network s.base) (bodies_of s.history.entries) (body_of entry) (c.as_slice.ensures ∙ ready.bytes) (omega (arith, ready.fits, ready.few)) c.requires.one.kept in
-    one_by g.D.Disk s.network s.base s.history c.push.new.self s.claims c.follow.new.book s.journal c.append-written.new.self entry c.requires.one (ap (λ (r : Register). r.timetable) c.push.ensures) (ap (λ (r : Register). r.entries) c.push.ensures) (c.live_claims_follow.ensures.follow s.history.timetable s.history.entries entry (held s.claims) (held c.follow.new.book) c.requires.one.live c.follow.ensures.follow) c.follow.ensures.zones c.append-written.ensures.made c.append-written.ensures.found c.append-written.ensures.room ready.moment_room c.requires.idle c.append-written.result c.front-at.result c.told.result c.told.ensures entered
+    one_by g.D.Disk s.network s.base s.history c.push.new.self s.claims c.follow.new.book s.journal c.append-written.new.self entry c.requires.one (ap (λ (r : Register). r.timetable) c.push.ensures) (ap (λ (r : Register). r.entries) c.push.ensures) (c.live_claims_follow.ensures.follow s.history.timetable s.history.entries entry (held s.claims) (held c.follow.new.book) c.requires.one.live c.follow.ensures.follow) c.follow.ensures.zones c.append-written.ensures.made c.append-written.ensures.found c.append-written.ensures.room ready.moment_room c.requires.idle ready.spelled c.append-written.result c.front-at.result c.told.result c.told.ensures entered
 
 pub returns-clause-commits : goal.returns-clause-commits
 returns-clause-commits g c =
@@ -57,7 +56,7 @@ returns-clause-commits g c =
     let ready = c.requires.ready in
     let entry = c.args.entry in
     let entered = c.append-written.ensures.enters (header_of s.network s.base) (bodies_of s.history.entries) (body_of entry) (c.as_slice.ensures ∙ ready.bytes) (omega (arith, ready.fits, ready.few)) c.requires.one.kept in
-    commits_by g.D.Disk s.network s.base s.history c.push.new.self s.claims c.follow.new.book s.journal c.append-written.new.self entry c.requires.one (ap (λ (r : Register). r.timetable) c.push.ensures) (ap (λ (r : Register). r.entries) c.push.ensures) (c.live_claims_follow.ensures.follow s.history.timetable s.history.entries entry (held s.claims) (held c.follow.new.book) c.requires.one.live c.follow.ensures.follow) c.follow.ensures.zones c.append-written.ensures.made c.append-written.ensures.found c.append-written.ensures.room ready.moment_room c.requires.idle c.append-written.result c.front-at.result c.told.result c.front-at.ensures.front c.told.ensures entered
+    commits_by g.D.Disk s.network s.base s.history c.push.new.self s.claims c.follow.new.book s.journal c.append-written.new.self entry c.requires.one (ap (λ (r : Register). r.timetable) c.push.ensures) (ap (λ (r : Register). r.entries) c.push.ensures) (c.live_claims_follow.ensures.follow s.history.timetable s.history.entries entry (held s.claims) (held c.follow.new.book) c.requires.one.live c.follow.ensures.follow) c.follow.ensures.zones c.append-written.ensures.made c.append-written.ensures.found c.append-written.ensures.room ready.moment_room c.requires.idle ready.spelled c.append-written.result c.front-at.result c.told.result c.front-at.ensures.front c.told.ensures entered
 
 pub returns-clause-left : goal.returns-clause-left
 returns-clause-left g c =
@@ -65,4 +64,4 @@ returns-clause-left g c =
     let ready = c.requires.ready in
     let entry = c.args.entry in
     let entered = c.append-written.ensures.enters (header_of s.network s.base) (bodies_of s.history.entries) (body_of entry) (c.as_slice.ensures ∙ ready.bytes) (omega (arith, ready.fits, ready.few)) c.requires.one.kept in
-    left_by g.D.Disk s.network s.base s.history c.push.new.self s.claims c.follow.new.book s.journal c.append-written.new.self entry c.requires.one (ap (λ (r : Register). r.timetable) c.push.ensures) (ap (λ (r : Register). r.entries) c.push.ensures) (c.live_claims_follow.ensures.follow s.history.timetable s.history.entries entry (held s.claims) (held c.follow.new.book) c.requires.one.live c.follow.ensures.follow) c.follow.ensures.zones c.append-written.ensures.made c.append-written.ensures.found c.append-written.ensures.room ready.moment_room c.requires.idle c.append-written.result c.front-at.result c.told.result c.told.ensures entered
+    left_by g.D.Disk s.network s.base s.history c.push.new.self s.claims c.follow.new.book s.journal c.append-written.new.self entry c.requires.one (ap (λ (r : Register). r.timetable) c.push.ensures) (ap (λ (r : Register). r.entries) c.push.ensures) (c.live_claims_follow.ensures.follow s.history.timetable s.history.entries entry (held s.claims) (held c.follow.new.book) c.requires.one.live c.follow.ensures.follow) c.follow.ensures.zones c.append-written.ensures.made c.append-written.ensures.found c.append-written.ensures.room ready.moment_room c.requires.idle ready.spelled c.append-written.result c.front-at.result c.told.result c.told.ensures entered

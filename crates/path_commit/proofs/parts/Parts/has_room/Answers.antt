@@ -1,5 +1,4 @@
-use Rattle.std.proofs.Common.{◌≡◌, ◌+◌, ◌≤◌, length, ap, sym, subst, ◌∙◌}
-use Rattle.std.specs.Prelude.{◌↔◌, IsTrue}
+use Rattle.std.proofs.Common.{◌≡◌, ap, ◌∙◌}
 use Rattle.rail_types.specs.declared.entries.Settings.{Settings}
 use Rattle.journal_text.specs.Headers.{header_of}
 use Rattle.journal_text.specs.Histories.{bodies_of, bytes_of}

@@ -1,4 +1,4 @@
-use Rattle.std.proofs.Common.{◌≡◌, ◌∙◌, ap, sym, refl, subst, arith}
+use Rattle.std.proofs.Common.{ap, sym, refl, subst, arith}
 use Rattle.grant_log.specs.Legal.{Register}
 use Rattle.path_commit.specs.Inside.{AreOne}
 use Rattle.path_commit.proofs.Joining.{roomy_one}
