@@ -1,16 +1,12 @@
 //! What a crash leaves of a book, opened again.
 
-ghost use Rattle.std.specs.Prelude.{◌≡◌, IfErr, IfOk, OnOk, All};
-ghost use Rattle.entry_codec.specs.Within.{HasBody};
+ghost use Rattle.std.specs.Prelude.{◌≡◌, IfErr, IfOk};
 ghost use Rattle.rail_types.specs.Timetables.{IsTimetable, timetable_of};
 ghost use Rattle.history_reading.specs.Failing.{IsUnread};
 ghost use Rattle.path_commit.specs.Runs.{AreInRange, Grows};
 ghost use Rattle.path_recover.specs.Crashes.{IsOfFiles, IsReopened, KeepsDone, WasLeft};
 
 use crate::open;
-use byte_fields::Buffer;
-use entry_codec::write;
-use grant_log::History;
 use history_reading::one_reading;
 use journal_reading::OpenFault;
 use no_memory::NoMemory;
@@ -40,14 +36,10 @@ pub fn reopen<D: Disk, E: Disk>(
 {
     one_reading();
     book.keeps();
-    let Ok(()) = have_bodies(alloc, book.history()) else {
-        return Err((left, OpenFault::Memory));
-    };
-    let opened = match open(alloc, left, net, base, network, base_digest) {
-        Ok(opened) => opened,
-        Err(refused) => return Err(refused),
-    };
-    Ok(opened)
+    match open(alloc, left, net, base, network, base_digest) {
+        Ok(opened) => Ok(opened),
+        Err(refused) => Err(refused),
+    }
 }
 
 /// Many turns on a book, whatever its disk does in them, and then a disk that is opened. If its bytes are what a crash of
@@ -79,17 +71,4 @@ pub fn run_and_reopen<D: Disk, E: Disk>(
     };
     let opened = reopen(alloc, book, left, net, base, network, base_digest);
     Ok((answers, opened))
-}
-
-// For clauses: each entry of a history has a body.
-fn have_bodies(alloc: Global, history: &History) -> Result<(), NoMemory>
-    ensures { OnOk result (All HasBody history.now.entries) }
-{
-    let mut body = Buffer::new(alloc);
-    for at in 0..history.front() {
-        if let Some(entry) = history.entry(at) {
-            write(entry, &mut body)?;
-        }
-    }
-    Ok(())
 }

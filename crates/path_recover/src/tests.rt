@@ -3,9 +3,7 @@ ghost use Rattle.entry_codec.specs.Within.{HasBody};
 ghost use Rattle.rail_types.specs.Limits.{IsSettingsWithinLimits};
 ghost use Rattle.rail_types.specs.Timetables.{IsTimetable, timetable_of};
 
-use crate::{
-    InitFault, MoveFault, OpenFault, fault_text, init, init_from, not_empty_text, open,
-};
+use crate::{InitFault, MoveFault, OpenFault, fault_text, init, init_from, not_empty_text, open};
 use entry_codec::{EntryFault, read};
 use grant_log::{History, Verdict};
 use journal_reading::is_on;
@@ -24,10 +22,12 @@ const BASE: [u8; 32] = [9; 32];
 // The greatest limit of a journal's bytes.
 const MOST: u64 = 268_435_456;
 
-const OTHER_NETWORK: &str = "network ab07070707070707070707070707070707070707070707070707070707070707 found \
+const OTHER_NETWORK: &str =
+    "network ab07070707070707070707070707070707070707070707070707070707070707 found \
     0707070707070707070707070707070707070707070707070707070707070707";
 
-const OTHER_BASE: &str = "base 0909090909090909090909090909090909090909090909090909090909090910 found \
+const OTHER_BASE: &str =
+    "base 0909090909090909090909090909090909090909090909090909090909090910 found \
     0909090909090909090909090909090909090909090909090909090909090909";
 
 // `hold 1 1 38 50` in line 1 of client A.
@@ -196,16 +196,59 @@ fn a_journal_opens_to_its_history_or_its_fault_is_told(rt: HostRuntime) -> Resul
     let rows = [
         ONCE,
         // Bytes of a record that was cut stand behind a gate that is not open.
-        Row { more: &[0, 0, 0, 35, 1, 0, 0], ..ONCE },
-        Row { len: 116, more: &[7, 0, 0, 0, 35, 1, 0], ..ONCE },
-        Row { bodies: &[&WORKS], len: 147, ..ONCE },
-        Row { at: 76, byte: 0, told: "0", ..ONCE },
-        Row { len: 0, told: "empty", ..ONCE },
-        Row { version: 1, told: "version 1", ..ONCE },
-        Row { at: 0, byte: 88, told: "not a journal at 0", ..ONCE },
-        Row { len: 10, told: "not a journal at 10", ..ONCE },
-        Row { at: 12, byte: 171, told: OTHER_NETWORK, ..ONCE },
-        Row { at: 75, byte: 16, told: OTHER_BASE, ..ONCE },
+        Row {
+            more: &[0, 0, 0, 35, 1, 0, 0],
+            ..ONCE
+        },
+        Row {
+            len: 116,
+            more: &[7, 0, 0, 0, 35, 1, 0],
+            ..ONCE
+        },
+        Row {
+            bodies: &[&WORKS],
+            len: 147,
+            ..ONCE
+        },
+        Row {
+            at: 76,
+            byte: 0,
+            told: "0",
+            ..ONCE
+        },
+        Row {
+            len: 0,
+            told: "empty",
+            ..ONCE
+        },
+        Row {
+            version: 1,
+            told: "version 1",
+            ..ONCE
+        },
+        Row {
+            at: 0,
+            byte: 88,
+            told: "not a journal at 0",
+            ..ONCE
+        },
+        Row {
+            len: 10,
+            told: "not a journal at 10",
+            ..ONCE
+        },
+        Row {
+            at: 12,
+            byte: 171,
+            told: OTHER_NETWORK,
+            ..ONCE
+        },
+        Row {
+            at: 75,
+            byte: 16,
+            told: OTHER_BASE,
+            ..ONCE
+        },
         // An open gate, and 13 bytes behind it.
         Row {
             len: 116,
@@ -213,13 +256,33 @@ fn a_journal_opens_to_its_history_or_its_fault_is_told(rt: HostRuntime) -> Resul
             told: "damaged at 116",
             ..ONCE
         },
-        Row { len: 76, told: "damaged at 76", ..ONCE },
-        Row { at: 81, byte: 9, told: "damaged at 76", ..ONCE },
-        Row { bodies: &[&HOLD, &HOLD], len: 157, told: "entry 1 illegal", ..ONCE },
+        Row {
+            len: 76,
+            told: "damaged at 76",
+            ..ONCE
+        },
+        Row {
+            at: 81,
+            byte: 9,
+            told: "damaged at 76",
+            ..ONCE
+        },
+        Row {
+            bodies: &[&HOLD, &HOLD],
+            len: 157,
+            told: "entry 1 illegal",
+            ..ONCE
+        },
     ];
     for row in &rows {
         let told = front_or_text(alloc, row)?;
-        assert_eq!(rt; told.as_slice(), row.told.as_bytes(), "len {} at {}", row.len, row.at);
+        assert_eq!(rt;
+            told.as_slice(),
+            row.told.as_bytes(),
+            "len {} at {}",
+            row.len,
+            row.at
+        );
     }
     Ok(())
 }
@@ -229,7 +292,10 @@ fn a_journal_is_begun_or_moved_on_an_empty_disk_alone(rt: HostRuntime) -> Result
     let alloc = rt.alloc();
     let mut disk = MemDisk::new(alloc, Vec::new(alloc), 100, Vec::new(alloc))?;
     assert_eq!(rt; init(&mut disk, &NETWORK, &BASE), Ok(()));
-    assert_eq!(rt; init(&mut disk, &NETWORK, &BASE), Err(InitFault::NotEmpty { len: 77 }));
+    assert_eq!(rt;
+        init(&mut disk, &NETWORK, &BASE),
+        Err(InitFault::NotEmpty { len: 77 })
+    );
     let text = not_empty_text(alloc, 77)?;
     assert_eq!(rt; text.as_slice(), b"not empty 77".as_slice());
     let begun = opened(alloc, disk, MOST)?;
@@ -322,7 +388,11 @@ fn an_entry_is_settled_by_a_later_turn(rt: HostRuntime) -> Result<(), Fail> {
     // The limit of the journal's bytes, the syncs that fail, the first of which is the opening's, and what lines are told.
     let rows: [(u64, &[u64], &[(&[u8], Told)]); 5] = [
         (116, &[], &[(&HOLD, Told::Full)]),
-        (117, &[], &[(&HOLD, Told::Done(0)), (&NEXT_HOLD, Told::Full)]),
+        (
+            117,
+            &[],
+            &[(&HOLD, Told::Done(0)), (&NEXT_HOLD, Told::Full)],
+        ),
         (
             MOST,
             &[2],
@@ -359,7 +429,10 @@ fn an_entry_is_settled_by_a_later_turn(rt: HostRuntime) -> Result<(), Fail> {
 
 // The body of a request for train F1 from W to E, departing at 6, with the path that is granted first.
 fn asked(alloc: Global, number: u8, line: u8) -> Result<Vec<u8>, NoMemory> {
-    let mut body = Vec::from_slice(alloc, &[2, 0, 0, 0, 0, 0, 0, 0, number, 0, 0, 0, line, 1, 65])?;
+    let mut body = Vec::from_slice(
+        alloc,
+        &[2, 0, 0, 0, 0, 0, 0, 0, number, 0, 0, 0, line, 1, 65],
+    )?;
     // F1 has 400 m, 20,000 mm/s, 200 and 250 mm/s for each second, and no allowance.
     body.extend_from_slice(&[2, 70, 49, 0, 0, 1, 144, 0, 0, 78, 32])?;
     body.extend_from_slice(&[0, 0, 0, 200, 0, 0, 0, 250, 0, 0, 0, 0])?;
@@ -378,7 +451,10 @@ fn asked(alloc: Global, number: u8, line: u8) -> Result<Vec<u8>, NoMemory> {
 
 // The body of a request to free entry 0.
 fn freeing(alloc: Global, number: u8, line: u8) -> Result<Vec<u8>, NoMemory> {
-    let mut body = Vec::from_slice(alloc, &[4, 0, 0, 0, 0, 0, 0, 0, number, 0, 0, 0, line, 1, 65])?;
+    let mut body = Vec::from_slice(
+        alloc,
+        &[4, 0, 0, 0, 0, 0, 0, 0, number, 0, 0, 0, line, 1, 65],
+    )?;
     body.extend_from_slice(&[0; 8])?;
     Ok(body)
 }

@@ -4,6 +4,7 @@ use Rattle.rail_types.specs.declared.entries.Entry.{Entry}
 use Rattle.rail_types.specs.Timetables.{Timetable, timetable_of}
 use Rattle.history_reading.specs.Failing.{IsUnread}
 use Rattle.history_reading.specs.Files.{IsFound, TellsHistory}
+use Rattle.history_reading.proofs.Unrefused.{spelled-has}
 use Rattle.path_recover.proofs.Reopened.{if-more, if-told}
 use Rattle.path_recover.proofs.opening.open.Goals as goal
 
@@ -35,3 +36,6 @@ returns-in-Ok-of-clause-tells g c =
     if-more (λ file. IsFound timetable 2 network base file found.history.entries found.gate) (λ file. TellsHistory (timetable_of c.args.net.now c.args.base) 2 network base file c.in-Ok-of.book.entries) (g.D.Disk.contents c.args.disk)
     (λ file is. subst (λ (t : Timetable). TellsHistory t 2 network base file c.in-Ok-of.book.entries) same (subst (λ (l : List Entry). TellsHistory timetable 2 network base file l) (sym entries) (c.one_reading.ensures.found timetable 2 network base file found.history.entries found.gate is)))
     c.in-Ok-read.ensures.found
+
+pub of-requires-clause-spelled : goal.of-requires-clause-spelled
+of-requires-clause-spelled g c = spelled-has 2 c.in-Ok-read.found.history.entries c.in-Ok-read.ensures.spelled
