@@ -60,7 +60,7 @@ not_empty (x ∷ xs) ys y e = absurd (cc)
 left-same : (header left right : List ℕ) → header ++ left ≡ header ++ right → left ≡ right
 left-same header left right e = sym (drop_at header left (length header) refl) ∙ ap (drop (length header)) e ∙ drop_at header right (length header) refl
 
-spelled-has : (version : ℕ) (entries : List Entry) → All (IsSpelledIn version) entries → All HasBody entries
+pub spelled-has : (version : ℕ) (entries : List Entry) → All (IsSpelledIn version) entries → All HasBody entries
 spelled-has version entries all = search (all, rules)
 
 module _ (apart : (a b : Entry) (x y : List ℕ) → HasBody a → HasBody b → body_of a ++ x ≡ body_of b ++ y → (a ≡ b) × (x ≡ y)) where
@@ -82,11 +82,11 @@ module _ (apart : (a b : Entry) (x y : List ℕ) → HasBody a → HasBody b →
       elim (walk front full rest more gate (All-tail HasBody a front has) (All-tail HasBody b full other) shut parts.1) [
         | inl same ↦ inl ((λ i. parts.0 i ∷ same.0 i), same.1)
         | inr follows ↦ inr (record {
-            entry = follows.entry;
-            later = follows.later;
-            split = (λ i. sym parts.0 i ∷ follows.split i);
-            left = follows.left;
-          })
+          entry = follows.entry;
+          later = follows.later;
+          split = (λ i. sym parts.0 i ∷ follows.split i);
+          left = follows.left;
+        })
       ]
 
   module _ (timetable : Timetable) (version : ℕ) (network base file : List ℕ) where

@@ -1,7 +1,6 @@
 -- What is opened of an image of a book's disk is a prefix of its history.
-use Rattle.std.proofs.Common.{◌≡◌, Bool, true, false, ℕ, suc, ◌+◌, ◌-◌, ◌<◌, ◌≤◌, ◌^◌, List, [], ◌∷◌, length, take, get_or, Option, None, Some, Result, Ok, Err, inl, inr, refl, sym, ap, ◌∙◌, subst, arith, rules}
+use Rattle.std.proofs.Common.{◌≡◌, Bool, true, false, ℕ, suc, ◌+◌, ◌-◌, ◌<◌, ◌≤◌, ◌^◌, List, [], ◌∷◌, length, take, get_or, Option, None, Some, Result, Ok, Err, refl, sym, ap, ◌∙◌, subst, arith, rules}
 use Rattle.std.specs.Prelude.{All, IfOk, IfSome, slice_get, nat_lt, if◌then◌else◌}
-use Rattle.std.proofs.lemmas.Bool.{cases_lt}
 use Rattle.std.proofs.lemmas.Bool.Decides.{nat_tests}
 use Rattle.std.proofs.lemmas.List.{length-take-le, take-map}
 use Rattle.std.proofs.lemmas.List.Elements.{All-take}
@@ -67,12 +66,12 @@ bodies-count [] = refl
 bodies-count (entry ∷ entries) = ap suc (bodies-count entries)
 
 module _ (once : (timetable : Timetable) (version : ℕ) (network base file : List ℕ) (a b : List Entry) → TellsHistory timetable version network base file a → TellsHistory timetable version network base file b → a ≡ b)
-    {D : Type 0} (disk : Ghosts D) (book : Ledger D) (kept : IsKept disk book) (has : All HasBody book.entries)
+    {D : Type 0} (disk : Ghosts D) (book : Ledger D) (kept : IsKept disk book)
     (timetable : Timetable) (network base : List ℕ) (files : IsOfFiles timetable network base book) where
   -- a file that reads as a prefix of the book's history tells one, by the files of the book
   tells-it : (least : ℕ) (image : List ℕ) (prefix : IsPrefixOf book least image) → TellsHistory timetable 2 network base image (take prefix.count book.entries)
   tells-it least image prefix =
-      subst (λ (n : List ℕ). TellsHistory timetable 2 n base image (take prefix.count book.entries)) files.network_digest (subst (λ (b : List ℕ). TellsHistory timetable 2 book.network_digest b image (take prefix.count book.entries)) files.base_digest (subst (λ (t : Timetable). TellsHistory t 2 book.network_digest book.base_digest image (take prefix.count book.entries)) files.timetable_is (tells-prefix book.timetable book.network_digest book.base_digest image book.entries least kept.legal has kept.short prefix)))
+      subst (λ (n : List ℕ). TellsHistory timetable 2 n base image (take prefix.count book.entries)) files.network_digest (subst (λ (b : List ℕ). TellsHistory timetable 2 book.network_digest b image (take prefix.count book.entries)) files.base_digest (subst (λ (t : Timetable). TellsHistory t 2 book.network_digest book.base_digest image (take prefix.count book.entries)) files.timetable_is (tells-prefix book.timetable book.network_digest book.base_digest image book.entries least kept.legal kept.spelled kept.short prefix)))
 
   opens-prefix : (least : ℕ) (image : List ℕ) (contents : Option (List ℕ)) (opened : List Entry) → contents ≡ Some image → IfSome contents (λ file. TellsHistory timetable 2 network base file opened) → IsPrefixOf book least image → IsPrefix book.entries least opened
   opens-prefix least image contents opened told tells prefix =
@@ -115,12 +114,3 @@ keeps-done disk book contents sent answers (Ok opened) answered reopened = λ k 
     let moment = has-moment book at told.0 in
     (moment.0, moment.1, λ left. prefix-has book.entries opened.entries at one.entry (reopened.settled at moment.0 moment.1 left) told.1)
 keeps-done disk book contents sent answers (Err refused) answered reopened = tt
-
--- the entries before one more place
-pub body-more : (entries : List Entry) (at : ℕ) → ((k : ℕ) (entry : Entry) → k < at → slice_get entries k ≡ Some entry → HasBody entry) → ((entry : Entry) → slice_get entries at ≡ Some entry → HasBody entry) → (k : ℕ) (entry : Entry) → k < at + 1 → slice_get entries k ≡ Some entry → HasBody entry
-body-more entries at before here k entry less is = elim (cases_lt k at) [
-  | inl early ↦ before k entry early is
-  | inr late ↦
-      let same : k ≡ at = omega arith in
-      here entry (ap (slice_get entries) (sym same) ∙ is)
-]

@@ -41,11 +41,10 @@ pub fn reopen<D: Disk, E: Disk>(
 {
     one_reading();
     book.keeps();
-    let opened = match open(alloc, left, net, base, network, base_digest) {
-        Ok(opened) => opened,
-        Err(refused) => return Err(refused),
-    };
-    Ok(opened)
+    match open(alloc, left, net, base, network, base_digest) {
+        Ok(opened) => Ok(opened),
+        Err(refused) => Err(refused),
+    }
 }
 
 /// Many turns on a book, whatever its disk does in them, and then a disk that is opened. If its bytes are what a crash of

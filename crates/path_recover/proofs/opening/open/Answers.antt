@@ -1,12 +1,10 @@
 use Rattle.std.proofs.Common.{◌≡◌, ℕ, List, ap, subst, sym, ◌∙◌}
 use Rattle.std.specs.Prelude.{IfSome}
-use Rattle.std.proofs.lemmas.List.Elements.{All-weaker}
-use Rattle.entry_codec.specs.Within.{HasBody}
-use Rattle.journal_reading.specs.Walks.{IsSpelledIn}
 use Rattle.rail_types.specs.declared.entries.Entry.{Entry}
 use Rattle.rail_types.specs.Timetables.{Timetable, timetable_of}
 use Rattle.history_reading.specs.Failing.{IsUnread}
 use Rattle.history_reading.specs.Files.{IsFound, TellsHistory}
+use Rattle.history_reading.proofs.Unrefused.{spelled-has}
 use Rattle.path_recover.proofs.Reopened.{if-more, if-told}
 use Rattle.path_recover.proofs.opening.open.Goals as goal
 
@@ -40,5 +38,4 @@ returns-in-Ok-of-clause-tells g c =
     c.in-Ok-read.ensures.found
 
 pub of-requires-clause-spelled : goal.of-requires-clause-spelled
-of-requires-clause-spelled g c =
-    All-weaker (IsSpelledIn 2) HasBody (λ entry is. is.0) c.in-Ok-read.found.history.entries c.in-Ok-read.ensures.spelled
+of-requires-clause-spelled g c = spelled-has 2 c.in-Ok-read.found.history.entries c.in-Ok-read.ensures.spelled
