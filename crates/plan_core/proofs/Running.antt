@@ -210,6 +210,12 @@ event_pair world Open enabled = refl
 pub turn_pair : (world : Plan) (event : Event) (client : ℕ) → IsTurnOf client event → IsEnabled world event → TakesTurn world.timetable client (pair_of world) (pair_of (after world event))
 turn_pair world event client turn enabled = inl (event, turn, event_pair world event enabled)
 
+pub settled_turn : (world : Plan) (event : Event) (client : ℕ) → IsTurnOf client event → IsEnabled world (Settle true) → IsEnabled (after world (Settle true)) event → TakesTurn world.timetable client (pair_of world) (pair_of (after (after world (Settle true)) event))
+settled_turn world event client turn settles enabled = inr (inl (pair_of (after world (Settle true)), event_pair world (Settle true) settles, (event, turn, event_pair (after world (Settle true)) event enabled)))
+
+pub failed_turn : (world : Plan) (client : ℕ) → IsEnabled world (Settle false) → TakesTurn world.timetable client (pair_of world) (pair_of world)
+failed_turn world client fails = inr (inr (event_pair world (Settle false) fails))
+
 -- marks of lost entries
 module _ (old : Plan) (event : Event) (new : Plan) where
   abbrev Marked : List Note → ℕ → Note → Type 0

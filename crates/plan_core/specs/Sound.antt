@@ -23,7 +23,8 @@ pub record IsSound (world : Plan) : Type 0 where
   pub searched : All (λ party. IfSome party.searched (λ front. front ≤ party.front)) world.clients
   pub notes : (client at : ℕ) → client < length world.clients →
       Names world client at ↔ IsEntryOf world client at
-  pub ascending : All (λ party. AllPairs (λ one later. one < later) (positions party.log)) world.clients
+  pub ascending : All (λ party. AllPairs (λ one later. one < later) (positions party.log))
+      world.clients
   pub owned : (at : ℕ) → at < length world.entries → (client : ℕ) × Names world client at
 
 -- how far the points behind a note may go back: by one where its entry was lost

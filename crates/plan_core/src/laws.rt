@@ -1,10 +1,11 @@
 //! Laws of worlds over every list of events, each on a function that does nothing.
 
-ghost use Rattle.std.specs.Prelude.{◌≡◌, ◌⊎◌, ◌≤◌, ℕ, List, take, All};
+ghost use Rattle.std.specs.Prelude.{◌≡◌, ◌⊎◌, ◌≤◌, ℕ, false, true, List, take, All};
 ghost use Rattle.rail_types.specs.Timetables.{IsTimetable, Timetable};
 ghost use Rattle.grant_log.specs.Legal.{NoneClash};
 ghost use Rattle.grant_log.specs.Live.{live_claims};
 ghost use Rattle.plan_core.specs.declared.events.Event.{Event as event_type};
+ghost use Rattle.plan_core.specs.declared.events.Event.TheVariants.{Settle};
 ghost use Rattle.plan_core.specs.Events.{after, IsEnabled};
 ghost use Rattle.plan_core.specs.Pairs.{IsEventOfPair, IsTurnOf, pair_of, TakesTurn};
 ghost use Rattle.plan_core.specs.Runs.{BacksOnlyByLoss, HasLostLast, IsCrash, MarksOnlyTheLost, Runs, Takes};
@@ -51,12 +52,18 @@ pub fn points_go_back_by_loss_alone()
         BacksOnlyByLoss old event new }
 {}
 
-/// Each event that may come takes the pair of history and settled count as it says, whoever the client is; and an event
-/// of a client is a turn of it.
+/// Each event that may come takes the pair of history and settled count as it says, whoever the client is. An event of a
+/// client is a turn of it; so is that event behind a settling; and so is a settling that is not done, alone.
 pub fn events_take_pairs()
     ensures event { (world : Plan) (event : event_type) → IsEnabled world event →
         IsEventOfPair world.timetable event (pair_of world) (pair_of (after world event)) }
     ensures turn { (world : Plan) (event : event_type) (client : ℕ) → IsTurnOf client event →
         IsEnabled world event →
         TakesTurn world.timetable client (pair_of world) (pair_of (after world event)) }
+    ensures settled { (world : Plan) (event : event_type) (client : ℕ) → IsTurnOf client event →
+        IsEnabled world (Settle true) → IsEnabled (after world (Settle true)) event →
+        TakesTurn world.timetable client (pair_of world)
+        (pair_of (after (after world (Settle true)) event)) }
+    ensures failed { (world : Plan) (client : ℕ) → IsEnabled world (Settle false) →
+        TakesTurn world.timetable client (pair_of world) (pair_of world) }
 {}

@@ -90,39 +90,23 @@ fn first_world(alloc: Global) -> Result<Option<World>, NoMemory> {
     Ok(Some(World::new(alloc, net, base, 2)?))
 }
 
-// What an entry does: holds a claim of a zone, grants the train's path that departs at a tick, asked for or not, or
-// frees the entry at a position.
-#[derive(Clone, Copy)]
-enum Act {
-    Hold(u32, i64, i64),
-    Ask(i64),
-    Pin(i64),
-    Free(u64),
-}
-
-// An entry of an owner, by its name's one letter and its number.
-#[derive(Clone, Copy)]
-struct Order {
-    owner: u8,
-    number: u64,
-    act: Act,
-}
-
-// An event, with its client.
+// An event, with its client, and the one letter of its entry's owner and its number. An entry holds a claim of a zone,
+// grants the train's path that departs at a tick, asked for or not, or frees the entry at a position.
 #[derive(Clone, Copy)]
 enum Move {
     Turn(u32),
     Seek(u32),
-    Commit(u32, Order),
-    Free(u32, Order),
-    Fault(u32, Order, Stage),
+    Hold(u32, u8, u64, u32, i64, i64),
+    Ask(u32, u8, u64, i64),
+    Pin(u32, u8, u64, i64),
+    Free(u32, u8, u64, u64),
+    FreeByCommit(u32, u8, u64, u64),
+    HoldByFree(u32, u8, u64, u32, i64, i64),
+    FaultyHold(u32, u8, u64, u32, i64, i64, Stage),
+    FaultyFree(u32, u8, u64, u64, Stage),
     Settle(bool),
     Crash(bool),
     Open,
-}
-
-const fn an_order(owner: u8, number: u64, act: Act) -> Order {
-    Order { owner, number, act }
 }
 
 fn train(alloc: Global) -> Result<Train, NoMemory> {
@@ -174,56 +158,123 @@ fn asked(alloc: Global, depart: i64) -> Result<Wanted, NoMemory> {
     }))
 }
 
-fn deed_of(alloc: Global, act: &Act) -> Result<Deed, NoMemory> {
-    match act {
-        Act::Hold(zone, from, to) => {
-            let span = Span {
-                from: *from,
-                to: *to,
-            };
-            let mut claims = List::new(alloc);
-            claims.push(Claim { zone: *zone, span })?;
-            Ok(Deed::Hold(claims, Name::from_bytes(alloc, b"")?))
-        }
-        Act::Ask(depart) => Ok(Deed::Grant(asked(alloc, *depart)?, path(alloc, *depart)?)),
-        Act::Pin(depart) => Ok(Deed::Grant(Wanted::Pinned, path(alloc, *depart)?)),
-        Act::Free(at) => Ok(Deed::Free(*at)),
-    }
-}
-
-fn entry_of(alloc: Global, order: &Order) -> Result<Entry, NoMemory> {
-    let deed = deed_of(alloc, &order.act)?;
+fn entry_of(alloc: Global, owner: u8, number: u64, deed: Deed) -> Result<Entry, NoMemory> {
     Ok(Entry {
-        owner: Name::from_bytes(alloc, &[order.owner])?,
-        number: order.number,
+        owner: Name::from_bytes(alloc, &[owner])?,
+        number,
         line: 1,
         deed,
     })
 }
 
+fn hold(
+    alloc: Global,
+    owner: u8,
+    number: u64,
+    zone: u32,
+    from: i64,
+    to: i64,
+) -> Result<Entry, NoMemory> {
+    let mut claims = List::new(alloc);
+    let span = Span { from, to };
+    claims.push(Claim { zone, span })?;
+    let reason = Name::from_bytes(alloc, b"")?;
+    entry_of(alloc, owner, number, Deed::Hold(claims, reason))
+}
+
+fn grant(
+    alloc: Global,
+    owner: u8,
+    number: u64,
+    wanted: Wanted,
+    depart: i64,
+) -> Result<Entry, NoMemory> {
+    let path = path(alloc, depart)?;
+    entry_of(alloc, owner, number, Deed::Grant(wanted, path))
+}
+
 fn event_of(alloc: Global, event: &Move) -> Result<Event, NoMemory> {
-    Ok(match event {
-        Move::Turn(client) => Event::Turn { client: *client },
-        Move::Seek(client) => Event::Seek { client: *client },
-        Move::Commit(client, order) => Event::Commit {
-            client: *client,
-            entry: entry_of(alloc, order)?,
-        },
-        Move::Free(client, order) => Event::Free {
-            client: *client,
-            entry: entry_of(alloc, order)?,
-        },
-        Move::Fault(client, order, stage) => Event::Fault {
-            client: *client,
-            entry: entry_of(alloc, order)?,
-            stage: *stage,
-        },
-        Move::Settle(done) => Event::Settle { done: *done },
-        Move::Crash(keeps_last) => Event::Crash {
+    match event {
+        Move::Turn(client) => Ok(Event::Turn { client: *client }),
+        Move::Seek(client) => Ok(Event::Seek { client: *client }),
+        Move::Settle(done) => Ok(Event::Settle { done: *done }),
+        Move::Crash(keeps_last) => Ok(Event::Crash {
             keeps_last: *keeps_last,
-        },
-        Move::Open => Event::Open,
-    })
+        }),
+        Move::Open => Ok(Event::Open),
+        _ => entry_event_of(alloc, event),
+    }
+}
+
+fn entry_event_of(alloc: Global, event: &Move) -> Result<Event, NoMemory> {
+    match event {
+        Move::Hold(client, owner, number, zone, from, to) => {
+            let entry = hold(alloc, *owner, *number, *zone, *from, *to)?;
+            Ok(Event::Commit {
+                client: *client,
+                entry,
+            })
+        }
+        Move::Ask(client, owner, number, depart) => {
+            let wanted = asked(alloc, *depart)?;
+            let entry = grant(alloc, *owner, *number, wanted, *depart)?;
+            Ok(Event::Commit {
+                client: *client,
+                entry,
+            })
+        }
+        Move::Pin(client, owner, number, depart) => {
+            let entry = grant(alloc, *owner, *number, Wanted::Pinned, *depart)?;
+            Ok(Event::Commit {
+                client: *client,
+                entry,
+            })
+        }
+        Move::FreeByCommit(client, owner, number, at) => {
+            let entry = entry_of(alloc, *owner, *number, Deed::Free(*at))?;
+            Ok(Event::Commit {
+                client: *client,
+                entry,
+            })
+        }
+        _ => freeing_event_of(alloc, event),
+    }
+}
+
+fn freeing_event_of(alloc: Global, event: &Move) -> Result<Event, NoMemory> {
+    match event {
+        Move::Free(client, owner, number, at) => {
+            let entry = entry_of(alloc, *owner, *number, Deed::Free(*at))?;
+            Ok(Event::Free {
+                client: *client,
+                entry,
+            })
+        }
+        Move::HoldByFree(client, owner, number, zone, from, to) => {
+            let entry = hold(alloc, *owner, *number, *zone, *from, *to)?;
+            Ok(Event::Free {
+                client: *client,
+                entry,
+            })
+        }
+        Move::FaultyHold(client, owner, number, zone, from, to, stage) => {
+            let entry = hold(alloc, *owner, *number, *zone, *from, *to)?;
+            Ok(Event::Fault {
+                client: *client,
+                entry,
+                stage: *stage,
+            })
+        }
+        Move::FaultyFree(client, owner, number, at, stage) => {
+            let entry = entry_of(alloc, *owner, *number, Deed::Free(*at))?;
+            Ok(Event::Fault {
+                client: *client,
+                entry,
+                stage: *stage,
+            })
+        }
+        _ => Ok(Event::Open),
+    }
 }
 
 // The first event by its position that is answered otherwise than the table says, or leaves another number of entries
@@ -280,36 +331,18 @@ fn an_ask_is_granted_where_it_was_searched_anew(rt: HostRuntime) -> Result<(), F
     let Some(mut world) = first_world(alloc)? else {
         panic!(rt; "the line of three has no flaw");
     };
-    let early = an_order(b'A', 1, Act::Ask(6));
-    let late = an_order(b'A', 1, Act::Ask(39));
     let table = [
-        (
-            Move::Commit(B, an_order(b'B', 1, Act::Hold(1, 38, 71))),
-            true,
-            1,
-            1,
-        ),
-        (Move::Commit(A, early), false, 1, 1),
+        (Move::Hold(B, b'B', 1, 1, 38, 71), true, 1, 1),
+        (Move::Ask(A, b'A', 1, 6), false, 1, 1),
         (Move::Turn(A), true, 1, 1),
         (Move::Seek(A), true, 1, 1),
-        (Move::Free(B, an_order(b'B', 2, Act::Free(0))), true, 2, 2),
-        (
-            Move::Commit(B, an_order(b'B', 3, Act::Hold(1, 5, 38))),
-            true,
-            3,
-            3,
-        ),
-        (Move::Commit(A, early), false, 3, 3),
+        (Move::Free(B, b'B', 2, 0), true, 2, 2),
+        (Move::Hold(B, b'B', 3, 1, 5, 38), true, 3, 3),
+        (Move::Ask(A, b'A', 1, 6), false, 3, 3),
         (Move::Turn(A), true, 3, 3),
         (Move::Seek(A), true, 3, 3),
-        (Move::Commit(A, late), true, 4, 4),
-        (Move::Commit(A, late), false, 4, 4),
-        (
-            Move::Commit(A, an_order(b'A', 2, Act::Ask(39))),
-            false,
-            4,
-            4,
-        ),
+        (Move::Ask(A, b'A', 1, 39), true, 4, 4),
+        (Move::Ask(A, b'A', 1, 39), false, 4, 4),
     ];
     assert_eq!(rt; first_other(alloc, &mut world, &table)?, None);
     let notes = [(1, None, false), (3, None, false), (4, Some(3), false)];
@@ -331,44 +364,22 @@ fn an_ask_whose_searches_all_come_to_nothing_leaves_the_history(
     let Some(mut world) = first_world(alloc)? else {
         panic!(rt; "the line of three has no flaw");
     };
-    let early = an_order(b'A', 1, Act::Ask(6));
-    let late = an_order(b'A', 1, Act::Ask(39));
     let table = [
-        (
-            Move::Commit(B, an_order(b'B', 1, Act::Hold(1, 38, 71))),
-            true,
-            1,
-            1,
-        ),
+        (Move::Hold(B, b'B', 1, 1, 38, 71), true, 1, 1),
         (Move::Turn(A), true, 1, 1),
         (Move::Seek(A), true, 1, 1),
-        (Move::Free(B, an_order(b'B', 2, Act::Free(0))), true, 2, 2),
-        (
-            Move::Commit(B, an_order(b'B', 3, Act::Hold(1, 5, 38))),
-            true,
-            3,
-            3,
-        ),
+        (Move::Free(B, b'B', 2, 0), true, 2, 2),
+        (Move::Hold(B, b'B', 3, 1, 5, 38), true, 3, 3),
         (Move::Turn(A), true, 3, 3),
         (Move::Seek(A), true, 3, 3),
-        (Move::Free(B, an_order(b'B', 4, Act::Free(2))), true, 4, 4),
-        (
-            Move::Commit(B, an_order(b'B', 5, Act::Hold(1, 38, 71))),
-            true,
-            5,
-            5,
-        ),
-        (Move::Commit(A, late), false, 5, 5),
+        (Move::Free(B, b'B', 4, 2), true, 4, 4),
+        (Move::Hold(B, b'B', 5, 1, 38, 71), true, 5, 5),
+        (Move::Ask(A, b'A', 1, 39), false, 5, 5),
         (Move::Turn(A), true, 5, 5),
         (Move::Seek(A), true, 5, 5),
-        (Move::Free(B, an_order(b'B', 6, Act::Free(4))), true, 6, 6),
-        (
-            Move::Commit(B, an_order(b'B', 7, Act::Hold(1, 5, 38))),
-            true,
-            7,
-            7,
-        ),
-        (Move::Commit(A, early), false, 7, 7),
+        (Move::Free(B, b'B', 6, 4), true, 6, 6),
+        (Move::Hold(B, b'B', 7, 1, 5, 38), true, 7, 7),
+        (Move::Ask(A, b'A', 1, 6), false, 7, 7),
         (Move::Turn(A), true, 7, 7),
     ];
     assert_eq!(rt; first_other(alloc, &mut world, &table)?, None);
@@ -383,22 +394,26 @@ fn an_ask_whose_searches_all_come_to_nothing_leaves_the_history(
 }
 
 #[test]
-fn a_crash_loses_no_entry_but_one_that_is_not_settled(rt: HostRuntime) -> Result<(), Fail> {
+fn a_crash_loses_an_entry_that_is_not_settled(rt: HostRuntime) -> Result<(), Fail> {
     let alloc = rt.alloc();
     let Some(mut world) = first_world(alloc)? else {
         panic!(rt; "the line of three has no flaw");
     };
-    let works = an_order(b'B', 1, Act::Hold(1, 38, 71));
     let table = [
-        (Move::Fault(B, works, Stage::Record), true, 0, 0),
-        (Move::Fault(B, works, Stage::Gate), true, 1, 0),
-        (Move::Turn(A), false, 1, 0),
         (
-            Move::Commit(A, an_order(b'A', 1, Act::Hold(0, 5, 9))),
-            false,
+            Move::FaultyHold(B, b'B', 1, 1, 38, 71, Stage::Record),
+            true,
+            0,
+            0,
+        ),
+        (
+            Move::FaultyHold(B, b'B', 1, 1, 38, 71, Stage::Gate),
+            true,
             1,
             0,
         ),
+        (Move::Turn(A), false, 1, 0),
+        (Move::Hold(A, b'A', 1, 0, 5, 9), false, 1, 0),
         (Move::Seek(A), true, 1, 0),
         (Move::Settle(false), true, 1, 0),
         (Move::Open, false, 1, 0),
@@ -409,101 +424,65 @@ fn a_crash_loses_no_entry_but_one_that_is_not_settled(rt: HostRuntime) -> Result
         (Move::Settle(true), false, 0, 0),
         (Move::Open, true, 0, 0),
         (Move::Turn(B), true, 0, 0),
+        // The lost entry gave its client no name, so that another may have it.
+        (Move::Hold(A, b'B', 1, 1, 38, 71), true, 1, 1),
+        (Move::Hold(B, b'B', 2, 0, 5, 9), false, 1, 1),
     ];
     assert_eq!(rt; first_other(alloc, &mut world, &table)?, None);
-    assert!(rt; is_client(&world, A, 0, None, &[]));
+    assert!(rt; is_client(&world, A, 1, None, &[(1, Some(0), false)]));
     let notes = [(0, None, false), (1, Some(0), true), (0, None, false)];
     assert!(rt; is_client(&world, B, 0, None, &notes));
-    // The lost entry gave its client no name, so that another may have it.
+    Ok(())
+}
+
+#[test]
+fn no_crash_loses_what_is_settled(rt: HostRuntime) -> Result<(), Fail> {
+    let alloc = rt.alloc();
+    let Some(mut world) = first_world(alloc)? else {
+        panic!(rt; "the line of three has no flaw");
+    };
     let table = [
-        (Move::Commit(A, works), true, 1, 1),
+        (Move::Hold(A, b'A', 1, 0, 5, 9), true, 1, 1),
+        (Move::Crash(false), true, 1, 1),
+        (Move::Open, true, 1, 1),
+        (Move::FaultyFree(A, b'A', 2, 0, Stage::Gate), true, 2, 1),
+        (Move::Settle(true), true, 2, 2),
+        (Move::Settle(true), false, 2, 2),
         (
-            Move::Commit(B, an_order(b'B', 2, Act::Hold(0, 5, 9))),
-            false,
-            1,
-            1,
-        ),
-        (
-            Move::Commit(B, an_order(b'C', 1, Act::Hold(0, 5, 9))),
-            true,
-            2,
-            2,
-        ),
-        (
-            Move::Fault(A, an_order(b'B', 2, Act::Free(0)), Stage::Gate),
+            Move::FaultyHold(B, b'B', 2, 2, 5, 9, Stage::Gate),
             true,
             3,
             2,
         ),
-        (Move::Settle(true), true, 3, 3),
-        (Move::Settle(true), false, 3, 3),
-        (
-            Move::Fault(B, an_order(b'C', 2, Act::Hold(2, 5, 9)), Stage::Gate),
-            true,
-            4,
-            3,
-        ),
-        (Move::Crash(true), true, 4, 3),
-        (Move::Open, true, 4, 4),
-        (
-            Move::Commit(B, an_order(b'C', 2, Act::Hold(2, 5, 9))),
-            false,
-            4,
-            4,
-        ),
-        (Move::Turn(B), true, 4, 4),
-        (Move::Turn(2), false, 4, 4),
-        (
-            Move::Commit(B, an_order(b'C', 3, Act::Free(1))),
-            false,
-            4,
-            4,
-        ),
-        (
-            Move::Free(B, an_order(b'C', 3, Act::Hold(2, 20, 30))),
-            false,
-            4,
-            4,
-        ),
-        (Move::Free(B, an_order(b'C', 3, Act::Free(0))), false, 4, 4),
-        (
-            Move::Commit(B, an_order(b'C', 3, Act::Hold(3, 5, 9))),
-            false,
-            4,
-            4,
-        ),
-        (
-            Move::Commit(B, an_order(b'C', 3, Act::Hold(0, 9, 9))),
-            false,
-            4,
-            4,
-        ),
-        (Move::Commit(B, an_order(b'C', 3, Act::Pin(6))), false, 4, 4),
-        (Move::Free(B, an_order(b'C', 3, Act::Free(1))), true, 5, 5),
-        (Move::Commit(B, an_order(b'C', 4, Act::Pin(6))), true, 6, 6),
-        (Move::Crash(false), true, 6, 6),
-        (Move::Open, true, 6, 6),
+        (Move::Crash(true), true, 3, 2),
+        (Move::Open, true, 3, 3),
+        (Move::Hold(B, b'B', 2, 2, 5, 9), false, 3, 3),
+        (Move::Turn(2), false, 3, 3),
+        (Move::FreeByCommit(B, b'B', 3, 2), false, 3, 3),
+        (Move::HoldByFree(B, b'B', 3, 2, 20, 30), false, 3, 3),
+        (Move::Free(B, b'B', 3, 0), false, 3, 3),
+        (Move::Hold(B, b'B', 3, 3, 5, 9), false, 3, 3),
+        (Move::Hold(B, b'B', 3, 0, 9, 9), false, 3, 3),
+        (Move::Pin(B, b'B', 3, 6), true, 4, 4),
     ];
     assert_eq!(rt; first_other(alloc, &mut world, &table)?, None);
     assert!(rt;
         is_client(
             &world,
             A,
-            3,
+            2,
             None,
-            &[(1, Some(0), false), (3, Some(2), false)]
+            &[(1, Some(0), false), (2, Some(1), false)]
         )
     );
-    let notes = [
-        (0, None, false),
-        (1, Some(0), true),
-        (0, None, false),
-        (2, Some(1), false),
-        (4, Some(3), false),
-        (4, None, false),
-        (5, Some(4), false),
-        (6, Some(5), false),
-    ];
-    assert!(rt; is_client(&world, B, 6, None, &notes));
+    assert!(rt;
+        is_client(
+            &world,
+            B,
+            4,
+            None,
+            &[(3, Some(2), false), (4, Some(3), false)]
+        )
+    );
     Ok(())
 }
