@@ -3,7 +3,6 @@ use Rattle.std.specs.Prelude.{◌≡◌, ℕ, ◌≤◌, List, length, Option}
 use Rattle.std.specs.List.{position_from}
 use Rattle.std.specs.Map.{lookup}
 use Rattle.std.specs.Str.{bytes_eq}
-use Rattle.named_network.specs.Named.{IsNamed}
 use Rattle.named_network.specs.declared.Named.{Named}
 use Rattle.rail_types.specs.declared.limits.TheConstants.{MAX_OBJECTS}
 use Rattle.rail_types.specs.declared.trains.Train.{Train}
@@ -25,8 +24,8 @@ pub record HavePlaces {K : Type 0} (see : K → List ℕ) (at : ℕ) (names : Li
   pub each : (name : List ℕ)
       → lookup (λ key. bytes_eq name (see key)) entries ≡ place_from at name names
 
--- a network with names, and its operational points by theirs
-pub record IsKnown {K : Type 0} (see : K → List ℕ) (railway : Named) (entries : List (K × ℕ)) : Type 0 where
-  pub named : IsNamed railway
+-- the entries have the operational points of a network that is not too large
+pub record IsIndexed {K : Type 0} (see : K → List ℕ) (railway : Named)
+    (entries : List (K × ℕ)) : Type 0 where
   pub few : length railway.network.blocks ≤ MAX_OBJECTS
   pub places : HavePlaces see 0 railway.stops entries

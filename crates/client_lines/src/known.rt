@@ -1,15 +1,15 @@
 //! What lines may name, found by its names.
 
-ghost use Rattle.std.specs.Prelude.{◌≡◌, ◌<◌, length, option_map, IfOk, IfSome};
+ghost use Rattle.std.specs.Prelude.{◌≡◌, ◌≤◌, length, option_map, IfOk};
 ghost use Rattle.id_lists.specs.Ids.{number_of};
-ghost use Rattle.named_network.specs.Named.{IsNamed};
+ghost use Rattle.rail_types.specs.declared.limits.TheConstants.{MAX_OBJECTS};
 ghost use Rattle.train_file.specs.Trains.{train_named};
 
 use crate::places::{place_in, places_of};
 use indexmap::IndexMap;
 use named_network::Named;
 use no_memory::NoMemory;
-use rail_types::{Train, networks_without_flaws};
+use rail_types::Train;
 use std::alloc::Global;
 use std::marker::Model;
 use train_file::Trains;
@@ -24,24 +24,23 @@ pub struct Known {
 }
 
 impl Model for Known {
-    ghost use Rattle.named_network.specs.Named.{IsNamed};
-    ghost use Rattle.client_lines.specs.Names.{HavePlaces, IsKnown, Names};
+    ghost use Rattle.client_lines.specs.Names.{IsIndexed, Names};
 
     ghost Value = { Names };
 
     ghost view = { λ a. record { railway = a.railway; trains = a.trains } };
 
-    ghost invariant = { λ a. IsKnown (λ key. key.items) a.railway a.places.entries };
+    ghost invariant = { λ a. IsIndexed (λ key. key.items) a.railway a.places.entries };
 }
 
 impl Known {
     /// The network and the trains, with an index of the network's operational points.
     pub fn new(alloc: Global, railway: Named, trains: Trains) -> Result<Known, NoMemory>
-        requires named { IsNamed railway }
+        requires stops { length railway.stops ≤ MAX_OBJECTS }
+        requires blocks { length railway.network.blocks ≤ MAX_OBJECTS }
         ensures railway { IfOk result (λ known. known.railway ≡ railway) }
         ensures trains { IfOk result (λ known. known.trains ≡ trains) }
     {
-        networks_without_flaws();
         let places = places_of(alloc, railway.stops.as_slice())?;
         Ok(Known {
             railway,
@@ -52,8 +51,7 @@ impl Known {
 
     /// The network.
     pub fn railway(&self) -> &Named
-        ensures network { result.now ≡ self.now.railway }
-        ensures named { IsNamed result.now }
+        ensures { result.now ≡ self.now.railway }
     {
         &self.railway
     }

@@ -16,5 +16,5 @@ loop-at-preserved c =
     let all : drop at names ≡ c.in_ok-key.key.items ∷ drop (at + 1) names = drop-cons names at one within ∙ rw add-one (ap (λ (name : List ℕ). name ∷ drop (suc at) names) (sym bytes)) in
     record {
       within = omega (arith, c.loop-at.invariant.within);
-      placed = rw all (one_before (λ key. key.items) (λ x y. bytes_eq x.items y.items) (λ x y. refl) c.in_ok-key.key at (drop (at + 1) names) c.loop-at.places.entries c.insert.new.self.entries before c.in_ok-insert.ensures.updates.3 c.in_ok-insert.ensures.updates.1);
+      placed = rw all (one_before (λ key. key.items) (λ x y. bytes_eq x.items y.items) (λ x y. refl {a = bytes_eq x.items y.items}) c.in_ok-key.key at (drop (at + 1) names) c.loop-at.places.entries c.insert.new.self.entries before c.in_ok-insert.ensures.updates.3 c.in_ok-insert.ensures.updates.1);
     }
