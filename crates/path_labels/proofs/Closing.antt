@@ -49,8 +49,8 @@ module _ (net : Network) (settings : Settings) (request : Request) (listed : Lis
     pub enters_there : IsPlace net request place → (tick enter : ℤ) → GoesOn net request (claims_held book) place tick enter → Enters (place_at plan number) tick enter
     enters_there among tick enter on = subst (λ p. Enters p tick enter) (sym is.planned) (
       (λ stands. let stop = stands_at_a_stop net request place among stands in
-      subst (λ s. (tick +ℤ dwell_at request place.made s) ≤ℤ enter) (sym stands)
-      (subst (λ o. (tick +ℤ dwell_of o) ≤ℤ enter) (sym stop.1) (on.dwells stands stop.0 stop.1))),
+          subst (λ s. (tick +ℤ dwell_at request place.made s) ≤ℤ enter) (sym stands)
+          (subst (λ o. (tick +ℤ dwell_of o) ≤ℤ enter) (sym stop.1) (on.dwells stands stop.0 stop.1))),
       λ rolls. on.rolls (still place.standing rolls),
     )
       where
@@ -91,8 +91,7 @@ module _ (net : Network) (settings : Settings) (request : Request) (listed : Lis
   -- held at a planned place, held at the place
   pub held_in : (members : List PlannedMember) (n : ℕ) (place : Place) (tick : ℤ) → slice_get listed.members n ≡ Some place → IsHeldThere members (n + 1) tick → IsHeld (members_in listed.members members) place tick
   held_in members n place tick at there =
-      let i = there.0 in let one = there.1 in let within = there.2 in let same = there.3 in let is = there.4 in
-      (
+      let i = there.0 in let one = there.1 in let within = there.2 in let same = there.3 in let is = there.4 in (
         i,
         member_in listed.members one,
         subst (λ m. i < m) (sym (length-map members (member_in listed.members))) within,
@@ -116,8 +115,7 @@ module _ (net : Network) (settings : Settings) (request : Request) (listed : Lis
       let told_is : member_in listed.members one ≡ told = sym (get_or-map (member_in listed.members) members i d told within) ∙ same in
       let low = (behind i d within).0 in let high = (behind i d within).1 in
       let inside : one.place - 1 < length listed.members = omega (arith, low, high) in
-      let there : get_or listed.members (one.place - 1) start_place ≡ place = ap (λ m. m.place) told_is ∙ is.0 in
-      (
+      let there : get_or listed.members (one.place - 1) start_place ≡ place = ap (λ m. m.place) told_is ∙ is.0 in (
         one.place - 1,
         record {
           at = slice_get-get_or listed.members (one.place - 1) start_place inside ∙ ap Some there;
@@ -153,7 +151,7 @@ module _ (net : Network) (settings : Settings) (request : Request) (listed : Lis
       held_then no_end =
           let to = goes_to net settings request listed plan all number place is k its.within no_end in
           let behind : FitsAmong (held book) (kept_behind net settings request place the (move_of listed number k).next) enter =
-              subst (λ next. FitsAmong (held book) (kept_behind net settings request place the next) enter) (sym to.1.next) (All-nil (λ piece. IsFree (held book) (moved enter piece))) in
+          subst (λ next. FitsAmong (held book) (kept_behind net settings request place the next) enter) (sym to.1.next) (All-nil (λ piece. IsFree (held book) (moved enter piece))) in
           held_in members to.0 (place_after net request.train place the) (leaves_at net settings request place the enter) to.1.leads
           (subst (λ target. Admits trip (IsHeldThere members) target (leaves_at net settings request place the enter)) to.1.target (told behind))
 
@@ -162,7 +160,7 @@ module _ (net : Network) (settings : Settings) (request : Request) (listed : Lis
           let next = ends_by net settings request listed plan all number place is k its.within end in
           let target : (move_at plan number k).target ≡ End = ap (λ (one : PlannedMove). one.target) (move_is net settings request listed plan all number place is k its.within) ∙ ap target_in next in
           let outside = subst (λ target. Admits trip (IsHeldThere members) target (leaves_at net settings request place the enter)) target
-              (told (subst (λ next. FitsAmong (held book) (kept_behind net settings request place the next) enter) (sym next) (behind_fits number place is k enter _ its.within leaves fits))) in
+          (told (subst (λ next. FitsAmong (held book) (kept_behind net settings request place the next) enter) (sym next) (behind_fits number place is k enter _ its.within leaves fits))) in
           outside (subst (λ (w : Window). Holds w (leaves_at net settings request place the enter)) (sym arrive) inside)
 
       admitted_as : IsAdmitted net settings request (claims_held book) (members_in listed.members members) place step (leaves_at net settings request place step enter)

@@ -88,7 +88,7 @@ module _ (net : Network) (settings : Settings) (request : Request) (listed : Lis
         let target : (move_at plan number k).target ≡ End = ap (λ (one : PlannedMove). one.target) (move_is net settings request listed plan all number place is k its.within) ∙ ap target_in next in
         let zones_fit = subst (λ s. Fits (kept (standing_zones net request.train (place_after net request.train place s)) run.leave (run.leave +ℤ pos settings.release)) (claims_held book)) (sym its.same) waits in
         let behind = subst (λ next. FitsAmong (held book) (kept_behind net settings request place (move_of listed number k).step next) run.enter) (sym next)
-            (behind_fits net settings request listed plan all book number place is k run.enter run.leave its.within leaves zones_fit) in
+        (behind_fits net settings request listed plan all book number place is k run.enter run.leave its.within leaves zones_fit) in
         record {
           enters = refl;
           move = its.move;
@@ -111,21 +111,23 @@ module _ (net : Network) (settings : Settings) (request : Request) (listed : Lis
         let listed_there : slice_get listed.members goes.0 ≡ Some there = subst (λ s. slice_get listed.members goes.0 ≡ Some (place_after net request.train place s)) its.same goes.1.leads in
         let is_there = at_listed net settings request listed plan all goes.0 there listed_there in
         let behind : FitsAmong (held book) (kept_behind net settings request place (move_of listed number k).step (move_of listed number k).next) run.enter =
-            subst (λ next. FitsAmong (held book) (kept_behind net settings request place (move_of listed number k).step next) run.enter) (sym goes.1.next) (All-nil (λ piece. IsFree (held book) (moved run.enter piece))) in
+        subst (λ next. FitsAmong (held book) (kept_behind net settings request place (move_of listed number k).step next) run.enter) (sym goes.1.next) (All-nil (λ piece. IsFree (held book) (moved run.enter piece))) in
         let more = rest to is_there in
         let step = more.0 in let steps = more.1.0 in let planned_rest = more.1.1 in
         let enters : Enters (place_at plan to) run.leave step.enter = subst (Enters (place_at plan to) run.leave) (sym planned_rest.enters) (enters_there net settings request listed plan all book to there is_there among run.leave next.enter on) in
-        let waits : WaitFits book (place_at plan to) run.leave step.enter = subst (WaitFits book (place_at plan to) run.leave) (sym planned_rest.enters) (wait_fits net settings request listed plan all book to there is_there run.leave next.enter on) in
-        (step ∷ steps, record {
-          enters = refl;
-          move = its.move;
-          fits = fits_with behind;
-          rest = subst (λ t. IsRest plan (trip_of request) t (leave_of plan number planned) (step ∷ steps)) (sym goes.1.target)
-              (planned_rest.move, subst (λ leave. Enters (place_at plan to) leave step.enter) (sym leaves) enters, planned_rest.rest);
-          rest_fits = subst (λ t. RestFits plan book t (leave_of plan number planned) (step ∷ steps)) (sym goes.1.target)
-              (subst (λ leave. WaitFits book (place_at plan to) leave step.enter) (sym leaves) waits, planned_rest.fits, planned_rest.rest_fits);
-          ends = subst (λ t. OfLast (λ last. last.leave ≡ last_of plan t (leave_of plan number planned) (step ∷ steps)) (next ∷ runs)) (sym goes.1.target) planned_rest.ends;
-        })
+        let waits : WaitFits book (place_at plan to) run.leave step.enter = subst (WaitFits book (place_at plan to) run.leave) (sym planned_rest.enters) (wait_fits net settings request listed plan all book to there is_there run.leave next.enter on) in (
+          step ∷ steps,
+          record {
+            enters = refl;
+            move = its.move;
+            fits = fits_with behind;
+            rest = subst (λ t. IsRest plan (trip_of request) t (leave_of plan number planned) (step ∷ steps)) (sym goes.1.target)
+                (planned_rest.move, subst (λ leave. Enters (place_at plan to) leave step.enter) (sym leaves) enters, planned_rest.rest);
+            rest_fits = subst (λ t. RestFits plan book t (leave_of plan number planned) (step ∷ steps)) (sym goes.1.target)
+                (subst (λ leave. WaitFits book (place_at plan to) leave step.enter) (sym leaves) waits, planned_rest.fits, planned_rest.rest_fits);
+            ends = subst (λ t. OfLast (λ last. last.leave ≡ last_of plan t (leave_of plan number planned) (step ∷ steps)) (next ∷ runs)) (sym goes.1.target) planned_rest.ends;
+          },
+        )
 
   plan_from : (runs : List Run) (run : Run) (number : ℕ) (place : Place) → IsAt net settings request listed plan all number place → AreMoves net request place (run ∷ runs) → ArePlaces net request place (run ∷ runs) → TakeTheirTime net settings request place (run ∷ runs)
       → AreFree net settings request.train (claims_held book) place (run ∷ runs) → OfLast (λ run. IsInside request.arrive run.leave) (run ∷ runs) → (step : PlannedStep) × ((steps : List PlannedStep) × ArePlanned number run runs step steps)
@@ -134,9 +136,11 @@ module _ (net : Network) (settings : Settings) (request : Request) (listed : Lis
       (record { number = its.0; enter = run.enter }, ([], last_planned number place is run move time free.pieces its.0 its.1 end free.waits arrives))
   plan_from (next ∷ runs) run number place is (move, no_end, moves) (among, places) (time, goes_after, times) (free, frees) arrives =
       let its = numbered net settings request listed plan all number place is (step_of run) run.enter move time.begins (subst (λ tick. tick ≤ℤ pos settings.horizon) time.timed time.ends) in
-      let on = goes_on net request book place run next free.waits run.stops refl goes_after in
-      (record { number = its.0; enter = run.enter }, next_planned number place is run move time free.pieces its.0 its.1 no_end among next runs on
-      (λ to is_there. plan_from runs next to (place_after net request.train place (step_of run)) is_there moves places times frees arrives))
+      let on = goes_on net request book place run next free.waits run.stops refl goes_after in (
+        record { number = its.0; enter = run.enter },
+        next_planned number place is run move time free.pieces its.0 its.1 no_end among next runs on
+            (λ to is_there. plan_from runs next to (place_after net request.train place (step_of run)) is_there moves places times frees arrives),
+      )
 
   plan_all : (runs : List Run) → AreMoves net request start_place runs → ArePlaces net request start_place runs → TakeTheirTime net settings request start_place runs → AreFree net settings request.train (claims_held book) start_place runs
       → OfFirst (λ run. IsInside request.depart run.enter) runs → OfLast (λ run. IsInside request.arrive run.leave) runs
@@ -155,9 +159,11 @@ granted_planned moves_law fits_law net settings request listed plan book path al
     let made = both.0 in
     let long_train = subst (λ (train : Train). 1 ≤ train.length_m) (sym made.train) long in
     let frees = (fits_law net settings path (Asked request) (claims_held book) all.flawless long_train can.keeps ticks).stairway.0 can.fits in
-    let is = plan_all net settings request listed plan from book path.runs made.moves both.1 made.times (subst (λ train. AreFree net settings train (claims_held book) start_place path.runs) made.train frees) made.departs made.arrives in
-    (is.0, record {
-      path_is = is.1.0;
-      fits = is.1.1;
-      leaves = sym (last_is (λ run. run.leave ≡ arrival plan is.0) (record { block = 0; enter = pos 0; leave = pos 0; stops = false }) path.runs is.1.2);
-    })
+    let is = plan_all net settings request listed plan from book path.runs made.moves both.1 made.times (subst (λ train. AreFree net settings train (claims_held book) start_place path.runs) made.train frees) made.departs made.arrives in (
+      is.0,
+      record {
+        path_is = is.1.0;
+        fits = is.1.1;
+        leaves = sym (last_is (λ run. run.leave ≡ arrival plan is.0) (record { block = 0; enter = pos 0; leave = pos 0; stops = false }) path.runs is.1.2);
+      },
+    )

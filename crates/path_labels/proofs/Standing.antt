@@ -116,13 +116,15 @@ module _ (net : Network) (settings : Settings) (request : Request) (listed : Lis
         let same : (move_of listed number k).step ≡ step = ap (λ (m : Move). m.step) one in
         let ticks = run_ticks (block_at net step.block) request.train settings (entry_of net request.train place) step.exit in
         let run : (move_at plan number k).run ≡ pos ticks = ap (λ one. one.run) (move_is k within)
-            ∙ ap (λ s. ticks_of_step net settings request place s) same
-            ∙ ap pos (few_ticks enter ticks settings.horizon begins ends) in
-        (k, record {
-          within = within;
-          same = same;
-          move = (subst (λ n. k < n) (sym count_is) within, begins, subst (λ most. leave_of plan number (record { number = k; enter = enter }) ≤ℤ most) (sym all.planned.horizon) (subst (λ n. (enter +ℤ n) ≤ℤ pos settings.horizon) (sym run) ends));
-        })
+        ∙ ap (λ s. ticks_of_step net settings request place s) same
+        ∙ ap pos (few_ticks enter ticks settings.horizon begins ends) in (
+          k,
+          record {
+            within = within;
+            same = same;
+            move = (subst (λ n. k < n) (sym count_is) within, begins, subst (λ most. leave_of plan number (record { number = k; enter = enter }) ≤ℤ most) (sym all.planned.horizon) (subst (λ n. (enter +ℤ n) ≤ℤ pos settings.horizon) (sym run) ends));
+          },
+        )
 
   -- where a planned move leads
   module _ (number : ℕ) (place : Place) (is : IsAt number place) (k : ℕ) (within : k < length (moves_of listed number)) where

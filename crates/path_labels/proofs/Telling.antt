@@ -135,18 +135,22 @@ module _ (granted : PlannedPathsAreGranted) (planned : GrantedPathsArePlanned) (
         let made = granted net settings request listed plan book steps all ticks found.path found.fits in
         let leave : arrival plan steps ≡ last_leave path = sym made.leaves ∙ ap last_leave (sym same) in
         let behind = members_behind net settings request listed plan from_limits members found.within in
-        let other = planned_before windows net settings request listed plan (last_leave path) from_limits in
-        (found_told steps path same least, record {
-          members = subst (All (IsMemberOf net settings (before request (last_leave path)))) (sym told) (told_members net settings (before request (last_leave path)) listed plan other members found.within);
-          closed = subst (IsClosed net settings (before request (last_leave path)) (claims_held book)) (sym told)
-              (subst (λ tick. IsClosed net settings (before request tick) (claims_held book) (members_in listed.members members)) leave
-              ((closed net settings request listed plan book members from_limits behind).earlier (arrival plan steps) found.closed));
-        })
+        let other = planned_before windows net settings request listed plan (last_leave path) from_limits in (
+          found_told steps path same least,
+          record {
+            members = subst (All (IsMemberOf net settings (before request (last_leave path)))) (sym told) (told_members net settings (before request (last_leave path)) listed plan other members found.within);
+            closed = subst (IsClosed net settings (before request (last_leave path)) (claims_held book)) (sym told)
+                (subst (λ tick. IsClosed net settings (before request tick) (claims_held book) (members_in listed.members members)) leave
+                ((closed net settings request listed plan book members from_limits behind).earlier (arrival plan steps) found.closed));
+          },
+        )
 
     pub none_answer : IsNone plan (trip_of request) book members → IsAnswer net settings (claims_held book) request (NoPath proof)
     none_answer none =
-        let behind = members_behind net settings request listed plan from_limits members none.within in
-        (impossible none.none, record {
-          members = subst (All (IsMemberOf net settings request)) (sym told) (told_members net settings request listed plan from_limits members none.within);
-          closed = subst (IsClosed net settings request (claims_held book)) (sym told) ((closed net settings request listed plan book members from_limits behind).all none.closed);
-        })
+        let behind = members_behind net settings request listed plan from_limits members none.within in (
+          impossible none.none,
+          record {
+            members = subst (All (IsMemberOf net settings request)) (sym told) (told_members net settings request listed plan from_limits members none.within);
+            closed = subst (IsClosed net settings request (claims_held book)) (sym told) ((closed net settings request listed plan book members from_limits behind).all none.closed);
+          },
+        )

@@ -9,11 +9,7 @@ use rail_types::List;
 use std::alloc::Global;
 use tail_states::{Closed, Member, Places};
 
-fn member_of(
-    alloc: Global,
-    places: &Places,
-    member: &PlannedMember,
-) -> Result<Member, NoMemory>
+fn member_of(alloc: Global, places: &Places, member: &PlannedMember) -> Result<Member, NoMemory>
     requires { IsBehindTheStart places.now.members member.now }
     ensures { IfOk result (λ told. told ≡ member_in places.now.members member.now) }
 {
