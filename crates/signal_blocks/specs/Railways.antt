@@ -9,7 +9,8 @@ use Rattle.signal_blocks.specs.Lines.{speed_ranges, stop_parts}
 use Rattle.signal_blocks.specs.Posts.{AreSights}
 
 -- The walks of the first so many routes.
-pub record AreWalksOf (infra : Infra) (layout : Layout) (count : ℕ) (walks : List Walk) : Type 0 where
+pub record AreWalksOf (infra : Infra) (layout : Layout) (count : ℕ)
+    (walks : List Walk) : Type 0 where
   pub long : length walks ≡ count
   pub each : (route : ℕ) (d : Walk) → route < count
       → IsWalkOf infra layout route (slice_index_or walks route d)

@@ -167,7 +167,8 @@ fn keep_all(table: &mut [Option<Post>], posts: &[Post])
 /// Keeps a signal at its point where it is nearer than the one that is kept there.
 fn keep_nearest(table: &mut [Option<Post>], post: &Post)
     requires { post.now.point < length table.old }
-    ensures { table.new ≡ slice_set table.old post.now.point (Some (nearer (nearest_at table.old post.now.point) post.now)) }
+    ensures { table.new ≡ slice_set table.old post.now.point
+        (Some (nearer (nearest_at table.old post.now.point) post.now)) }
 {
     let kept = table[post.point as usize];
     table[post.point as usize] = Some(nearer(kept, post));

@@ -1,5 +1,5 @@
 -- Fields of an object: what each reads as, or its first fault.
-use Rattle.std.specs.Prelude.{◌≡◌, ℕ, ℤ, pos, negsuc, List, [], ◌∷◌, length, if◌then◌else◌, ◌&&◌, nat_eq, nat_le, is_some, Option, Result, Ok, Err}
+use Rattle.std.specs.Prelude.{◌≡◌, ℕ, ◌≤◌, ℤ, IsUtf8, pos, negsuc, List, [], ◌∷◌, length, if◌then◌else◌, ◌&&◌, nat_eq, nat_le, is_some, Option, Result, Ok, Err}
 use Rattle.serde_json.specs.Data.{Data, Items, no_items, item}
 use Rattle.serde_json.specs.Find.{get, as_array, as_object, as_str}
 use Rattle.decimal_quote.specs.declared.values.NotWhole.{NotWhole}
@@ -26,6 +26,12 @@ object_at place d = if is_some (as_object d) then Ok tt else Err (Kind (spot_of 
 abbrev pub found_at : FilePlace → List ℕ → Data → Result Data TrainFault
 found_at place field d = or_fault (Missing (spot_of place field)) (get field d)
 
+-- a name of 1 to 255 bytes
+pub record IsName (name : List ℕ) : Type 0 where
+  pub least : 1 ≤ length name
+  pub most : length name ≤ MAX_TRAIN_NAME_BYTES
+  pub text : IsUtf8 name
+
 -- a name has 1 to 255 bytes
 abbrev pub limited_name : List ℕ → Result (List ℕ) TrainFault
 limited_name name =
@@ -48,7 +54,8 @@ number_read spot found (Err not_whole.Fraction) = Err (Kind spot)
 
 -- a number from 0 to the most
 abbrev pub within : What → ℕ → ℤ → Result ℕ TrainFault
-within what most (pos number) = if nat_le number most then Ok number else Err (Limit what (pos number))
+within what most (pos number) =
+    if nat_le number most then Ok number else Err (Limit what (pos number))
 within what most (negsuc number) = Err (Limit what (negsuc number))
 
 abbrev pub number_at : FilePlace → List ℕ → What → ℕ → Data → Result ℕ TrainFault

@@ -1,11 +1,12 @@
 -- What the bytes of a file of trains read as: the trains in their order, or the first fault.
-use Rattle.std.specs.Prelude.{◌≡◌, ℕ, ◌+◌, pos, List, [], ◌∷◌, ◌++◌, length, map, codes, find, if◌then◌else◌, nat_le, is_some, Option, Result, Ok, Err}
-use Rattle.std.specs.List.{list_any}
+use Rattle.std.specs.Prelude.{◌≡◌, ◌≢◌, ℕ, ◌≤◌, ◌+◌, pos, List, [], ◌∷◌, ◌++◌, length, map, codes, find, if◌then◌else◌, nat_le, is_some, Option, Result, Ok, Err}
+use Rattle.std.specs.List.{All, AllPairs, list_any}
 use Rattle.std.specs.Str.{bytes_eq}
 use Rattle.serde_json.specs.Data.{Data}
 use Rattle.serde_json.specs.Find.{as_object}
 use Rattle.rail_types.specs.declared.trains.Train.{Train}
-use Rattle.rail_types.specs.declared.limits.TheConstants.{MAX_TIMETABLE_FILE_BYTES, MAX_TRAIN_LENGTH_M, MAX_SPEED_MM_S, MAX_ACCEL_MM_S2, MAX_ALLOWANCE_PERCENT}
+use Rattle.rail_types.specs.Limits.{IsTrainWithinLimits}
+use Rattle.rail_types.specs.declared.limits.TheConstants.{MAX_TIMETABLE_FILE_BYTES, MAX_TRAINS, MAX_TRAIN_LENGTH_M, MAX_SPEED_MM_S, MAX_ACCEL_MM_S2, MAX_ALLOWANCE_PERCENT}
 use Rattle.json_fields.specs.Places.{FilePlace, whole_file, element, spot_of}
 use Rattle.json_fields.specs.Reading.{◌>>=◌, or_fault}
 use Rattle.json_fields.specs.Texts.{data_of}
@@ -13,6 +14,12 @@ use Rattle.train_file.specs.declared.faults.TrainFault.{TrainFault}
 use Rattle.train_file.specs.declared.faults.TrainFault.TheVariants.{NotJson, Kind, Twice, Limit, Memory}
 use Rattle.train_file.specs.declared.faults.What.TheVariants as what
 use Rattle.train_file.specs.Fields.{object_at, name_at, number_at, some_number_at, list_at}
+
+-- No more trains than their limit, each within its own limits, no two with one name.
+pub record AreTrains (trains : List Train) : Type 0 where
+  pub few : length trains ≤ MAX_TRAINS
+  pub each : All IsTrainWithinLimits trains
+  pub distinct : AllPairs (λ one other. one.name ≢ other.name) trains
 
 -- the train of a name
 abbrev pub train_named : List ℕ → List Train → Option Train
@@ -69,6 +76,7 @@ trains_at bytes quoted =
     else Err (Limit what.File (pos (MAX_TIMETABLE_FILE_BYTES + 1)))
 
 -- what was read stands behind the others, unless memory was wanted
-abbrev pub GivesNext : List Train → List Train → Result (Unit {0}) TrainFault → Result Train TrainFault → Type 0
+abbrev pub GivesNext : List Train → List Train → Result (Unit {0}) TrainFault
+    → Result Train TrainFault → Type 0
 GivesNext old new (Ok _) read = (train : Train) × (read ≡ Ok train) × (new ≡ old ++ train ∷ [])
 GivesNext old new (Err e) read = (e ≡ Memory → ⊥) → read ≡ Err e

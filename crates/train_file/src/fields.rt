@@ -4,7 +4,7 @@ ghost use Rattle.std.specs.Prelude.{◌≡◌, ◌<◌, ◌≤◌, length, map, 
 ghost use Rattle.serde_json.specs.View.{view};
 ghost use Rattle.json_fields.specs.Places.{spot_of};
 ghost use Rattle.rail_types.specs.declared.limits.TheConstants.{MAX_TRAINS};
-ghost use Rattle.train_file.specs.Fields.{Gives, object_at, found_at, name_at, limited_name, number_read, within, number_at, some_number, some_number_at, list_at, elements_of, few};
+ghost use Rattle.train_file.specs.Fields.{Gives, IsName, object_at, found_at, name_at, limited_name, number_read, within, number_at, some_number, some_number_at, list_at, elements_of, few};
 
 use crate::faults::{TrainFault, What};
 use decimal_quote::NotWhole;
@@ -32,7 +32,8 @@ fn found<'a>(
     value: &'a Value,
     field: &str,
 ) -> Result<&'a Value, TrainFault>
-    ensures { Gives (λ found. view found.now) result (found_at place.now field.now (view value.now)) }
+    ensures { Gives (λ found. view found.now) result
+        (found_at place.now field.now (view value.now)) }
 {
     let Some(found) = value.get(field) else {
         return Err(TrainFault::Missing {
@@ -49,7 +50,8 @@ pub(crate) fn name<'a>(
     value: &'a Value,
     field: &str,
 ) -> Result<&'a str, TrainFault>
-    ensures { Gives (λ name. name.now) result (name_at place.now field.now (view value.now)) }
+    ensures name { Gives (λ name. name.now) result (name_at place.now field.now (view value.now)) }
+    ensures limited { IfOk result (λ name. IsName name.now) }
 {
     let found = found(alloc, place, value, field)?;
     let Some(text) = found.as_str() else {
@@ -63,7 +65,8 @@ pub(crate) fn name<'a>(
 
 /// Refuses a name that is too short or too long.
 fn limited(name: &str) -> Result<&str, TrainFault>
-    ensures { Gives (λ name. name.now) result (limited_name name.now) }
+    ensures name { Gives (λ name. name.now) result (limited_name name.now) }
+    ensures limited { IfOk result (λ name. IsName name.now) }
 {
     if name.is_empty() || name.len() > MAX_TRAIN_NAME_BYTES {
         return Err(TrainFault::Limit {
@@ -83,7 +86,9 @@ pub(crate) fn number(
     what: What,
     most: u32,
 ) -> Result<u32, TrainFault>
-    ensures { Gives (λ number. number) result (number_at place.now field.now what most (view value.now)) }
+    ensures number { Gives (λ number. number) result
+        (number_at place.now field.now what most (view value.now)) }
+    ensures most { IfOk result (λ number. number ≤ most) }
 {
     let found = found(alloc, place, value, field)?;
     let number = read(alloc, place, found, field, whole_in(found))?;
@@ -100,7 +105,10 @@ pub(crate) fn number_above_zero(
     what: What,
     most: u32,
 ) -> Result<u32, TrainFault>
-    ensures { Gives (λ number. number) result (some_number_at place.now field.now what most (view value.now)) }
+    ensures number { Gives (λ number. number) result
+        (some_number_at place.now field.now what most (view value.now)) }
+    ensures least { IfOk result (λ number. 1 ≤ number) }
+    ensures most { IfOk result (λ number. number ≤ most) }
 {
     let number = number(alloc, place, value, field, what, most)?;
     if number == 0 {
@@ -119,7 +127,8 @@ fn read(
     field: &str,
     read: Result<i64, NotWhole>,
 ) -> Result<i64, TrainFault>
-    ensures { Gives (λ number. number) result (number_read (spot_of place.now field.now) (view found.now) read) }
+    ensures { Gives (λ number. number) result
+        (number_read (spot_of place.now field.now) (view found.now) read) }
 {
     match read {
         Ok(number) => Ok(number),
@@ -138,7 +147,8 @@ fn read(
 
 /// Refuses a number outside its limits.
 fn limit(number: &i64, what: What, most: u32) -> Result<u32, TrainFault>
-    ensures { Gives (λ number. number) result (within what most number.now) }
+    ensures number { Gives (λ number. number) result (within what most number.now) }
+    ensures most { IfOk result (λ number. number ≤ most) }
 {
     if *number < 0 || *number > i64::from(most) {
         return Err(TrainFault::Limit {
@@ -156,7 +166,8 @@ pub(crate) fn list<'a>(
     value: &'a Value,
     field: &str,
 ) -> Result<&'a [Value], TrainFault>
-    ensures list { Gives (λ items. map view items.now) result (list_at place.now field.now (view value.now)) }
+    ensures list { Gives (λ items. map view items.now) result
+        (list_at place.now field.now (view value.now)) }
     ensures few { IfOk result (λ items. length items.now ≤ MAX_TRAINS) }
 {
     let found = found(alloc, place, value, field)?;
@@ -171,7 +182,8 @@ fn elements<'a>(
     found: &'a Value,
     field: &str,
 ) -> Result<&'a [Value], TrainFault>
-    ensures list { Gives (λ items. map view items.now) result (elements_of (spot_of place.now field.now) (view found.now)) }
+    ensures list { Gives (λ items. map view items.now) result
+        (elements_of (spot_of place.now field.now) (view found.now)) }
     ensures few { IfOk result (λ items. length items.now ≤ MAX_TRAINS) }
 {
     let Some(items) = found.as_array() else {

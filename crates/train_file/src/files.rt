@@ -1,13 +1,13 @@
 //! From the bytes of a file to its trains.
 
-ghost use Rattle.std.specs.Prelude.{◌≡◌, ℕ, List as list_of};
+ghost use Rattle.std.specs.Prelude.{◌≡◌, ℕ, List as list_of, IfOk};
 ghost use Rattle.serde_json.specs.View.{view};
 ghost use Rattle.decimal_quote.specs.Quoted.{IsQuoted};
 ghost use Rattle.json_fields.specs.Reading.{or_fault};
 ghost use Rattle.json_fields.specs.Texts.{data_of};
 ghost use Rattle.train_file.specs.declared.faults.TrainFault.TheVariants.{NotJson};
 ghost use Rattle.train_file.specs.Fields.{Gives};
-ghost use Rattle.train_file.specs.Trains.{object_of, trains_at};
+ghost use Rattle.train_file.specs.Trains.{AreTrains, object_of, trains_at};
 
 use crate::faults::{TrainFault, What};
 use crate::fields::list;
@@ -21,8 +21,9 @@ use std::alloc::Global;
 /// `brake` and `allowance`. Answers the first fault: the file's size, its form, then train by train and field by field
 /// in this order; and want of memory.
 pub fn read_trains(alloc: Global, bytes: &[u8]) -> Result<Trains, TrainFault>
-    ensures { (quoted : list_of ℕ) → IsQuoted bytes.now quoted →
+    ensures read { (quoted : list_of ℕ) → IsQuoted bytes.now quoted →
         Gives (λ trains. trains) result (trains_at bytes.now quoted) }
+    ensures sound { IfOk result AreTrains }
 {
     if bytes.len() as u64 > MAX_TIMETABLE_FILE_BYTES {
         return Err(TrainFault::Limit {
@@ -47,7 +48,8 @@ fn parsed(alloc: Global, bytes: &[u8]) -> Result<Value, TrainFault>
 }
 
 fn read_object(alloc: Global, file: &Value) -> Result<Trains, TrainFault>
-    ensures { Gives (λ trains. trains) result (object_of (view file.now)) }
+    ensures read { Gives (λ trains. trains) result (object_of (view file.now)) }
+    ensures sound { IfOk result AreTrains }
 {
     let place = Place::of_file();
     if !file.is_object() {

@@ -6,8 +6,8 @@ ghost use Rattle.std.specs.Str.{bytes_eq};
 ghost use Rattle.serde_json.specs.View.{view};
 ghost use Rattle.rail_types.specs.declared.limits.TheConstants.{MAX_TRAINS};
 ghost use Rattle.json_fields.specs.Places.{element};
-ghost use Rattle.train_file.specs.Fields.{Gives};
-ghost use Rattle.train_file.specs.Trains.{GivesNext, name_of, new_name, read_each, train_in, train_named};
+ghost use Rattle.train_file.specs.Fields.{Gives, IsName};
+ghost use Rattle.train_file.specs.Trains.{AreTrains, GivesNext, name_of, new_name, read_each, train_in, train_named};
 
 use crate::faults::{TrainFault, What};
 use crate::fields::{name, number, number_above_zero, object};
@@ -100,9 +100,11 @@ fn train_at(trains: &[Train], number: usize) -> Option<&Train>
 }
 
 /// The trains of a list.
+#[tactic(auto, using(crate::proofs::Sound::no_trains))]
 pub(crate) fn read_list(alloc: Global, list: &[Value]) -> Result<Trains, TrainFault>
     requires { length list.now ≤ MAX_TRAINS }
-    ensures { Gives (λ trains. trains) result (read_each [] (map view list.now)) }
+    ensures read { Gives (λ trains. trains) result (read_each [] (map view list.now)) }
+    ensures sound { IfOk result AreTrains }
 {
     let mut trains = Trains::new(alloc);
     'objects: for value in list {
@@ -114,8 +116,11 @@ pub(crate) fn read_list(alloc: Global, list: &[Value]) -> Result<Trains, TrainFa
 /// The train behind those that were read.
 fn read_next(alloc: Global, value: &Value, trains: &mut Trains) -> Result<(), TrainFault>
     requires room { length trains.old < MAX_TRAINS }
-    ensures { GivesNext trains.old trains.new result
-        (train_in (element (codes "trains") (length trains.old)) (map name_of trains.old) (view value.now)) }
+    requires sound { AreTrains trains.old }
+    ensures read { GivesNext trains.old trains.new result
+        (train_in (element (codes "trains") (length trains.old)) (map name_of trains.old)
+        (view value.now)) }
+    ensures sound { OnOk result (AreTrains trains.new) }
 {
     let place = Place::of_element("trains", trains.len() as u32);
     push_train(alloc, &place, value, trains)?;
@@ -129,7 +134,10 @@ fn push_train(
     trains: &mut Trains,
 ) -> Result<(), TrainFault>
     requires room { length trains.old < MAX_TRAINS }
-    ensures { GivesNext trains.old trains.new result (train_in place.now (map name_of trains.old) (view value.now)) }
+    requires sound { AreTrains trains.old }
+    ensures read { GivesNext trains.old trains.new result
+        (train_in place.now (map name_of trains.old) (view value.now)) }
+    ensures sound { OnOk result (AreTrains trains.new) }
 {
     object(alloc, place, value)?;
     let text = name(alloc, place, value, "name")?;
@@ -168,7 +176,9 @@ fn push_train(
 /// The name, which no train before has.
 fn unused(alloc: Global, text: &str, before: &Trains) -> Result<Name, TrainFault>
     ensures name { Gives (λ name. name) result (new_name (map name_of before.now) text.now) }
-    ensures fresh { IfOk result (λ name. list_any (bytes_eq name) (map name_of before.now) ≡ false) }
+    ensures same { IfOk result (λ name. name ≡ text.now) }
+    ensures fresh { IfOk result (λ name.
+        list_any (bytes_eq name) (map name_of before.now) ≡ false) }
 {
     let name = Name::from_bytes(alloc, text.as_bytes())?;
     if before.has(text.as_bytes()) {
