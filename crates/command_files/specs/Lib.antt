@@ -1,0 +1,4 @@
+pub mod Kinds
+pub mod Steps
+pub mod Files
+pub mod Outs
