@@ -10,6 +10,3 @@ pub use journal_reading::{InitFault, OpenFault, init};
 pub use laws::{reopen, run_and_reopen};
 pub use opening::open;
 pub use texts::{fault_text, not_empty_text};
-
-#[cfg(test)]
-mod tests;
