@@ -148,7 +148,8 @@ fn count_of(sought: &Sought) -> u64
     }
 }
 
-/// How many members `seek` tells: windows of ticks at which the train can reach the end of a block, place by place.
+/// How many members an answer of `seek` has: windows of ticks at which the train can reach the end of a block, place by
+/// place.
 pub fn label_count(
     alloc: Global,
     net: &Network,
