@@ -1,4 +1,4 @@
-//! Lines and their first wrong fields, by the tables of the requirements and by hand.
+//! Lines and their first wrong fields.
 
 use crate::{Ask, Known, Line, LineFault, MAX_LINE_BYTES, read_line};
 use named_network::Named;

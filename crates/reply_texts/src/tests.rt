@@ -1,4 +1,4 @@
-//! Replies and their lines, by the rows of the requirements and by hand.
+//! Replies and their lines. Expected values by hand.
 
 use crate::{Reply, reply_room, reply_text};
 use byte_fields::Buffer;
