@@ -1,2 +1,3 @@
+pub mod Stairs
 pub mod Networks
 pub mod Words

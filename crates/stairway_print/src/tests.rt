@@ -1,9 +1,10 @@
-//! The first lines of a station's table, by hand, with one name that needs escapes.
+//! The first lines of a station's table, by hand, with one name that needs escapes; and lines of a stairway.
 
 use crate::network_table;
+use crate::stairs::{push_claims, push_line};
 use named_network::{BlockName, Named, TrackPiece, ZoneName};
 use no_memory::NoMemory;
-use rail_types::{Block, Cell, List, Name, Network};
+use rail_types::{Block, Cell, Claim, List, Name, Network, Span};
 use std::alloc::Global;
 use std::rt::HostRuntime;
 
@@ -88,6 +89,32 @@ fn zones_and_blocks_have_their_lines(rt: HostRuntime) {
         is_text(
             table.as_slice(),
             b"zones 6 blocks 1 stops 2\nzone 0 pieces 1 TA 0 1900\nzone 1 pieces 2 TA 1900 2000 T%20B%25 0 100\nblock 0 route rt.DA->DB2 part 0 length 1000 speed 8333 sight 400 cells 2 1 200 2 1000 serves 1 Mid\n",
+        )
+    );
+}
+
+// A line of a stairway, of one claim.
+fn push_stair(to: &mut Vec<u8>, run: u64, zone: u32, from: i64, end: i64) -> Result<(), NoMemory> {
+    let span = Span { from, to: end };
+    push_claims(to, run, &[Claim { zone, span }])
+}
+
+fn stairs(alloc: Global) -> Result<Vec<u8>, NoMemory> {
+    let mut text = Vec::new(alloc);
+    push_line(&mut text, b"zone", b"from", b"to", b"run")?;
+    push_stair(&mut text, 0, 0, 5, 24)?;
+    push_stair(&mut text, 1, 1, -1, 38)?;
+    push_stair(&mut text, 12_345_678, 65_535, 1_234_567_890, 1_234_567_891)?;
+    Ok(text)
+}
+
+#[test]
+fn fields_stand_at_the_right_and_wider_ones_push_on(rt: HostRuntime) {
+    let table = stairs(rt.alloc()).expect(&rt, "table");
+    assert!(rt;
+        is_text(
+            table.as_slice(),
+            b"  zone     from       to  run\n     0        5       24    0\n     1       -1       38    1\n 655351234567890123456789112345678\n",
         )
     );
 }
