@@ -55,12 +55,16 @@ fn hold(book: &mut Occupations, zone: u32, train: u32, at: i64) -> Result<(), No
             to: at.saturating_add(RUN).saturating_add(BEHIND),
         },
     };
-    if zone >= book.zones() || !has_ticks(&claim) {
+    put(book, &claim, train)
+}
+
+fn put(book: &mut Occupations, claim: &Claim, train: u32) -> Result<(), NoMemory> {
+    if !has_ticks(claim) || claim.zone >= book.zones() {
         return Ok(());
     }
-    book.reserve(zone, 1)?;
-    if book.free(&claim) {
-        book.insert(claim, Owner::Base(train));
+    book.reserve(claim.zone, 1)?;
+    if book.free(claim) {
+        book.insert(*claim, Owner::Base(train));
     }
     Ok(())
 }
