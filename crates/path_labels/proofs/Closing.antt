@@ -1,12 +1,11 @@
 -- Members that are closed for the plan of a request are closed for the request.
-use Rattle.std.proofs.Common.{◌≡◌, ◌∙◌, sym, ap, refl, subst, ℕ, zero, suc, ◌+◌, ◌-◌, ◌<◌, ◌≤◌, ℤ, pos, ◌+ℤ◌, ◌-ℤ◌, ◌<ℤ◌, ◌≤ℤ◌, Bool, true, false, List, [], ◌∷◌, ◌++◌, map, length, get_or, All, Option, Some, None, arith}
-use Rattle.std.specs.Prelude.{Any, IsTrue, slice_get}
+use Rattle.std.proofs.Common.{◌≡◌, ◌∙◌, sym, ap, refl, subst, ℕ, ◌+◌, ◌-◌, ◌<◌, ℤ, pos, ◌+ℤ◌, ◌≤ℤ◌, Bool, true, false, List, length, get_or, All, Some, arith}
+use Rattle.std.specs.Prelude.{IsTrue, slice_get}
 use Rattle.std.proofs.lemmas.Int.{ints}
 use Rattle.std.proofs.lemmas.List.{get_or-map, get_or_default, length-map}
 use Rattle.std.proofs.lemmas.List.Elements.{All-nil, All-append}
 use Rattle.std.proofs.lemmas.Option.{slice_get_within, slice_get-get_or, get_or_from_slice_get}
 use Rattle.rail_types.specs.declared.tracks.Network.{Network}
-use Rattle.rail_types.specs.declared.trains.Stop.{Stop}
 use Rattle.rail_types.specs.declared.trains.Request.{Request}
 use Rattle.rail_types.specs.declared.entries.Settings.{Settings}
 use Rattle.rail_types.specs.Occupation.{Fits}
@@ -17,13 +16,11 @@ use Rattle.stair_pieces.specs.declared.places.Step.{Step}
 use Rattle.stair_pieces.specs.Places.{start_place, place_after, standing_zones}
 use Rattle.stair_pieces.specs.Pieces.{pieces_of, kept}
 use Rattle.stair_pieces.specs.Moves.{IsEnd, IsPlace}
-use Rattle.tail_states.specs.declared.moves.Next.{Next}
-use Rattle.tail_states.specs.declared.moves.Next.TheVariants.{End as Ends, At}
+use Rattle.tail_states.specs.declared.moves.Next.TheVariants.{End as Ends}
 use Rattle.tail_states.specs.Alike.{WindowsChangeNoPlaces}
 use Rattle.tail_states.specs.Closing.{GoesOn, IsAdmitted, IsClosed, IsFreeMove, IsHeld, leaves_at}
 use Rattle.tail_states.specs.Listed.{Listed}
-use Rattle.label_search.specs.declared.plans.Target.{Target}
-use Rattle.label_search.specs.declared.plans.Target.TheVariants.{Place as To, End}
+use Rattle.label_search.specs.declared.plans.Target.TheVariants.{End}
 use Rattle.label_search.specs.declared.plans.Plan.{Plan}
 use Rattle.label_search.specs.declared.plans.Move.{Move as PlannedMove}
 use Rattle.rail_types.specs.declared.paths.Window.{Window}
@@ -32,13 +29,13 @@ use Rattle.label_search.specs.declared.plans.Trip.{Trip}
 use Rattle.label_search.specs.declared.plans.Step.{Step as PlannedStep}
 use Rattle.label_search.specs.declared.plans.Member.{Member as PlannedMember}
 use Rattle.label_search.specs.Free.{Book}
-use Rattle.label_search.specs.Paths.{Enters, IsMove as IsPlannedMove, MoveFits, WaitFits, leave_of, move_at, place_at, target_of}
+use Rattle.label_search.specs.Paths.{Enters, MoveFits, WaitFits, leave_of, move_at, place_at, target_of}
 use Rattle.label_search.specs.Closed.{Admits, before as trip_before, IsClosed as IsClosedPlan, IsFreeMove as IsFreePlannedMove, IsHeld as IsHeldThere}
-use Rattle.request_plans.specs.Plans.{dwell_at, dwell_of, kept_behind, move_in, place_in, target_of as target_in, ticks_of_step}
+use Rattle.request_plans.specs.Plans.{dwell_at, dwell_of, kept_behind, target_of as target_in, ticks_of_step}
 use Rattle.path_labels.specs.Answers.{before, claims_held}
 use Rattle.path_labels.specs.Joining.{AreClosedAlike, IsPlannedFrom, IsBehindTheStart, member_in, members_in, move_of, moves_of, trip_of}
 use Rattle.path_labels.proofs.Fitting.{AreFreeOver, later_fits, moved_of_over, over_at, over_of_kept}
-use Rattle.path_labels.proofs.Standing.{GoesTo, IsAt, IsMoveAs, at_listed, at_start, ends_by, goes_to, leaves_alike, move_is, numbered, stands_at_a_stop}
+use Rattle.path_labels.proofs.Standing.{IsAt, IsMoveAs, at_listed, at_start, ends_by, goes_to, leaves_alike, move_is, numbered, stands_at_a_stop}
 
 module _ (net : Network) (settings : Settings) (request : Request) (listed : Listed) (plan : Plan) (all : IsPlannedFrom net settings request listed plan) (book : Book) where
   abbrev At' : ℕ → Place → Type 0

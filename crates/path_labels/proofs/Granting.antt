@@ -1,11 +1,9 @@
 -- Planned paths that fit are paths that can be granted.
-use Rattle.std.proofs.Common.{◌≡◌, ◌∙◌, sym, ap, refl, subst, ℕ, zero, suc, ◌+◌, ◌-◌, ◌<◌, ◌≤◌, ℤ, pos, ◌+ℤ◌, ◌<ℤ◌, ◌≤ℤ◌, Bool, true, false, List, [], ◌∷◌, ◌++◌, length, length-append, get_or, All, Option, Some, None, arith}
+use Rattle.std.proofs.Common.{◌≡◌, ◌∙◌, sym, ap, refl, subst, ℕ, suc, ◌+◌, ◌-◌, ◌<◌, ℤ, pos, ◌+ℤ◌, ◌≤ℤ◌, Bool, true, false, List, [], ◌∷◌, ◌++◌, length, length-append, get_or, All, arith}
 use Rattle.std.specs.Prelude.{IsTrue, slice_get}
 use Rattle.std.proofs.lemmas.Int.{ints}
 use Rattle.std.proofs.lemmas.List.{get_or_append_left, get_or-append_right}
 use Rattle.rail_types.specs.declared.tracks.Network.{Network}
-use Rattle.rail_types.specs.declared.trains.Train.{Train}
-use Rattle.rail_types.specs.declared.trains.Stop.{Stop}
 use Rattle.rail_types.specs.declared.trains.Request.{Request}
 use Rattle.rail_types.specs.declared.entries.Settings.{Settings}
 use Rattle.rail_types.specs.declared.entries.Wanted.TheVariants.{Asked}
@@ -19,9 +17,9 @@ use Rattle.blocking_time.specs.Runs.{exit_of}
 use Rattle.stair_pieces.specs.declared.places.Place.{Place}
 use Rattle.stair_pieces.specs.declared.places.Step.{Step}
 use Rattle.stair_pieces.specs.Places.{start_place, step_of, place_after, standing_zones, stands_after, made_after}
-use Rattle.stair_pieces.specs.Pieces.{pieces_of, kept, later_by, wait_end}
-use Rattle.stair_pieces.specs.Fitting.{AreFree, FitsRunByRun, IsFree as IsFreeRun}
-use Rattle.stair_pieces.specs.Moves.{AreMoves, GoesOnAfter, IsEnd, IsInside, IsMove, MovesAreAPath, OfFirst, OfLast, TakesItsTime, TakeTheirTime}
+use Rattle.stair_pieces.specs.Pieces.{pieces_of, kept, later_by}
+use Rattle.stair_pieces.specs.Fitting.{AreFree, FitsRunByRun}
+use Rattle.stair_pieces.specs.Moves.{AreMoves, GoesOnAfter, IsEnd, IsInside, IsMove, MovesAreAPath, OfLast, TakesItsTime, TakeTheirTime}
 use Rattle.tail_states.specs.declared.moves.Next.TheVariants.{End as Ends}
 use Rattle.tail_states.specs.Closing.{leaves_at}
 use Rattle.tail_states.specs.Listed.{Listed}
@@ -30,14 +28,12 @@ use Rattle.label_search.specs.declared.plans.Target.TheVariants.{Place as To, En
 use Rattle.label_search.specs.declared.plans.Plan.{Plan}
 use Rattle.label_search.specs.declared.plans.Move.{Move as PlannedMove}
 use Rattle.label_search.specs.declared.plans.Place.{Place as PlannedPlace}
-use Rattle.label_search.specs.declared.plans.Trip.{Trip}
 use Rattle.label_search.specs.declared.plans.Step.{Step as PlannedStep}
 use Rattle.label_search.specs.Free.{Book}
-use Rattle.label_search.specs.Paths.{Enters, IsMove as IsPlannedMove, IsPath, IsRest, MoveFits, PathFits, RestFits, WaitFits, arrival, last_leave as last_of, leave_of, move_at, place_at, target_of}
-use Rattle.request_plans.specs.Plans.{dwell_at, dwell_of, kept_behind, move_in, place_in, target_of as target_in, ticks_of_step}
-use Rattle.request_plans.specs.Searched.{IsPlannedWithinLimits}
-use Rattle.path_labels.specs.Answers.{claims_held, last_leave}
-use Rattle.path_labels.specs.Joining.{HoldsTicks, IsPlannedFrom, MakesAGrant, PlannedPathsAreGranted, move_of, moves_of, path_in, run_of, runs_from, trip_of}
+use Rattle.label_search.specs.Paths.{Enters, IsMove as IsPlannedMove, IsRest, MoveFits, RestFits, WaitFits, arrival, last_leave as last_of, leave_of, place_at, target_of}
+use Rattle.request_plans.specs.Plans.{dwell_at, dwell_of, kept_behind, move_in, place_in, ticks_of_step}
+use Rattle.path_labels.specs.Answers.{claims_held}
+use Rattle.path_labels.specs.Joining.{HoldsTicks, IsPlannedFrom, PlannedPathsAreGranted, move_of, moves_of, path_in, run_of, runs_from, trip_of}
 use Rattle.path_labels.proofs.Fitting.{AreFreeOver, fits_later, kept_of_over, over_all, over_of_moved}
 use Rattle.path_labels.proofs.Standing.{IsAt, LeadsOn, at_start, count_is, ends_there, is_end, leads_on, leaves_alike, listed_at, move_is}
 

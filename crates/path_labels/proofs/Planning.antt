@@ -1,42 +1,35 @@
 -- Paths that can be granted are planned.
-use Rattle.std.proofs.Common.{◌≡◌, ◌∙◌, sym, ap, refl, subst, ℕ, ◌+◌, ◌-◌, ◌<◌, ◌≤◌, ℤ, pos, ◌+ℤ◌, ◌<ℤ◌, ◌≤ℤ◌, Bool, true, false, List, [], ◌∷◌, length, All, Some, arith}
+use Rattle.std.proofs.Common.{◌≡◌, ◌∙◌, sym, ap, refl, subst, ℕ, ◌+◌, ◌-◌, ◌≤◌, pos, ◌+ℤ◌, ◌≤ℤ◌, Bool, true, false, List, [], ◌∷◌, Some, arith}
 use Rattle.std.specs.Prelude.{slice_get}
-use Rattle.std.proofs.lemmas.Int.{ints}
 use Rattle.std.proofs.lemmas.List.Elements.{All-nil}
-use Rattle.std.proofs.lemmas.Option.{slice_get_within, get_or_from_slice_get}
 use Rattle.rail_types.specs.declared.tracks.Network.{Network}
 use Rattle.rail_types.specs.declared.trains.Train.{Train}
 use Rattle.rail_types.specs.declared.trains.Request.{Request}
 use Rattle.rail_types.specs.declared.entries.Settings.{Settings}
 use Rattle.rail_types.specs.declared.entries.Wanted.TheVariants.{Asked}
-use Rattle.rail_types.specs.declared.paths.Path.{Path}
 use Rattle.rail_types.specs.declared.paths.Run.{Run}
 use Rattle.rail_types.specs.Occupation.{Fits}
 use Rattle.occupation_book.specs.Held.{IsFree, held}
 use Rattle.free_windows.specs.Free.{Fits as FitsAmong, Holds, moved}
-use Rattle.blocking_time.specs.Possible.{CanBeGranted}
-use Rattle.blocking_time.specs.Runs.{block_at, exit_of}
+use Rattle.blocking_time.specs.Runs.{exit_of}
 use Rattle.stair_pieces.specs.declared.places.Place.{Place}
 use Rattle.stair_pieces.specs.Places.{start_place, step_of, place_after, made_after, standing_zones}
 use Rattle.stair_pieces.specs.Pieces.{kept, later_by, pieces_of}
 use Rattle.stair_pieces.specs.Fitting.{AreFree, FitsRunByRun}
-use Rattle.stair_pieces.specs.Moves.{AreMoves, ArePlaces, GoesOnAfter, IsEnd, IsInside, IsMove, IsPlace, MakesStop, MayLeave, OfFirst, OfLast, PathsAreMoves, TakesItsTime, TakeTheirTime}
-use Rattle.tail_states.specs.declared.moves.Next.TheVariants.{End as Ends, At}
+use Rattle.stair_pieces.specs.Moves.{AreMoves, ArePlaces, GoesOnAfter, IsEnd, IsInside, IsMove, IsPlace, OfFirst, OfLast, PathsAreMoves, TakesItsTime, TakeTheirTime}
 use Rattle.tail_states.specs.Closing.{GoesOn, leaves_at}
 use Rattle.tail_states.specs.Listed.{Listed}
-use Rattle.label_search.specs.declared.plans.Target.{Target}
-use Rattle.label_search.specs.declared.plans.Target.TheVariants.{Place as To, End}
+use Rattle.label_search.specs.declared.plans.Target.TheVariants.{End}
 use Rattle.label_search.specs.declared.plans.Plan.{Plan}
 use Rattle.label_search.specs.declared.plans.Move.{Move as PlannedMove}
 use Rattle.label_search.specs.declared.plans.Step.{Step as PlannedStep}
 use Rattle.label_search.specs.Free.{Book}
 use Rattle.label_search.specs.Paths.{Enters, IsMove as IsPlannedMove, IsPath, IsRest, MoveFits, PathFits, RestFits, WaitFits, arrival, last_leave as last_of, leave_of, move_at, place_at, target_of}
 use Rattle.request_plans.specs.Plans.{kept_behind, target_of as target_in}
-use Rattle.request_plans.specs.Searched.{IsPlannedWithinLimits}
-use Rattle.path_labels.specs.Answers.{claims_held, last_leave}
-use Rattle.path_labels.specs.Joining.{GrantedPathsArePlanned, HoldsTicks, IsPlannedAs, IsPlannedFrom, move_of, moves_of, trip_of}
+use Rattle.path_labels.specs.Answers.{claims_held}
+use Rattle.path_labels.specs.Joining.{GrantedPathsArePlanned, IsPlannedFrom, move_of, trip_of}
 use Rattle.path_labels.proofs.Fitting.{later_fits}
-use Rattle.path_labels.proofs.Standing.{GoesTo, IsAt, IsMoveAs, at_listed, at_start, ends_by, goes_to, leaves_alike, move_is, numbered}
+use Rattle.path_labels.proofs.Standing.{IsAt, IsMoveAs, at_listed, at_start, ends_by, goes_to, leaves_alike, move_is, numbered}
 use Rattle.path_labels.proofs.Closing.{behind_fits, enters_there, planned_fits, wait_fits}
 use Rattle.path_labels.proofs.Granting.{last_is}
 

@@ -1,10 +1,9 @@
 -- The planned places and moves are those of the request.
-use Rattle.std.proofs.Common.{◌≡◌, ◌∙◌, inl, inr, sym, ap, refl, subst, ℕ, zero, suc, ◌+◌, ◌-◌, ◌<◌, ◌≤◌, min, ℤ, pos, ◌+ℤ◌, ◌≤ℤ◌, Bool, true, false, List, [], ◌∷◌, ◌++◌, map, length, get_or, All, Contains, Option, Some, None, arith}
+use Rattle.std.proofs.Common.{◌≡◌, ◌∙◌, inl, inr, sym, ap, refl, subst, ℕ, suc, ◌+◌, ◌-◌, ◌<◌, min, ℤ, pos, ◌+ℤ◌, ◌≤ℤ◌, true, false, [], length, get_or, Some, arith}
 use Rattle.std.specs.Prelude.{slice_get}
 use Rattle.std.proofs.lemmas.Int.{ints}
 use Rattle.std.proofs.lemmas.List.{get_or-map, get_or_default, length-map}
-use Rattle.std.proofs.lemmas.List.Elements.{All-append}
-use Rattle.std.proofs.lemmas.Option.{slice_get_within, slice_get-get_or, get_or_from_slice_get}
+use Rattle.std.proofs.lemmas.Option.{slice_get_within, slice_get-get_or}
 use Rattle.rail_types.specs.declared.tracks.Network.{Network}
 use Rattle.rail_types.specs.declared.trains.Stop.{Stop}
 use Rattle.rail_types.specs.declared.trains.Request.{Request}
@@ -16,18 +15,16 @@ use Rattle.blocking_time.specs.Runs.{block_at}
 use Rattle.stair_pieces.specs.declared.places.Place.{Place}
 use Rattle.stair_pieces.specs.declared.places.Step.{Step}
 use Rattle.stair_pieces.specs.Places.{start_place, entry_of, place_after, stands_after, made_after}
-use Rattle.stair_pieces.specs.Pieces.{pieces_of}
-use Rattle.stair_pieces.specs.Moves.{IsMove, IsEnd, IsPlace, MayLeave, MakesStop, begun, gone_on}
+use Rattle.stair_pieces.specs.Moves.{IsMove, IsEnd, IsPlace, MayLeave, begun, gone_on}
 use Rattle.tail_states.specs.declared.moves.Move.{Move}
 use Rattle.tail_states.specs.declared.moves.Next.{Next}
 use Rattle.tail_states.specs.declared.moves.Next.TheVariants.{End as Ends, At}
 use Rattle.tail_states.specs.Closing.{leaves_at}
 use Rattle.tail_states.specs.Listed.{Listed, LeadsTo, IsListedMove, AreMovesFrom}
-use Rattle.label_search.specs.declared.plans.Target.{Target}
 use Rattle.label_search.specs.declared.plans.Target.TheVariants.{Place as To, End}
 use Rattle.label_search.specs.declared.plans.Plan.{Plan}
 use Rattle.label_search.specs.declared.plans.Step.{Step as PlannedStep}
-use Rattle.label_search.specs.Paths.{place_at, move_at, target_of, leave_of, IsMove as IsPlannedMove}
+use Rattle.label_search.specs.Paths.{place_at, move_at, leave_of, IsMove as IsPlannedMove}
 use Rattle.request_plans.specs.Plans.{move_in, place_in, ticks_of_step, target_of as target_in}
 use Rattle.path_labels.specs.Joining.{IsPlannedFrom, move_of, moves_of}
 

@@ -1,5 +1,5 @@
 -- The runs of a planned path, step by step.
-use Rattle.std.proofs.Common.{◌≡◌, ◌∙◌, inl, inr, sym, ap, refl, subst, ℕ, ◌+◌, ◌<◌, ◌≤◌, ℤ, pos, false, List, [], ◌∷◌, ◌++◌, length, get_or, drop, arith}
+use Rattle.std.proofs.Common.{◌≡◌, ◌∙◌, inl, inr, sym, ap, refl, subst, ℕ, ◌+◌, ◌<◌, ◌≤◌, pos, false, List, [], ◌∷◌, ◌++◌, length, get_or, drop, arith}
 use Rattle.std.proofs.Math.ListN.{get_or-eq_default}
 use Rattle.std.proofs.lemmas.Bool.{cases_lt}
 use Rattle.std.proofs.lemmas.List.{append-nil, append_assoc, drop_all, drop_more}
@@ -10,8 +10,8 @@ use Rattle.label_search.specs.declared.plans.Target.TheVariants.{Place as To, En
 use Rattle.label_search.specs.declared.plans.Plan.{Plan}
 use Rattle.label_search.specs.declared.plans.Place.{Place as PlannedPlace}
 use Rattle.label_search.specs.declared.plans.Step.{Step}
-use Rattle.label_search.specs.Paths.{IsMove as IsPlannedMove, leave_of, place_at, target_of}
-use Rattle.path_labels.specs.Joining.{AreSteps, move_of, run_of, runs_from}
+use Rattle.label_search.specs.Paths.{IsMove as IsPlannedMove, place_at, target_of}
+use Rattle.path_labels.specs.Joining.{AreSteps, run_of, runs_from}
 
 -- so many steps are told, and those behind them go on from a target
 pub record AreTold (listed : Listed) (plan : Plan) (steps : List Step) (index : ℕ) (target : Target) (runs : List Run) : Type 0 where

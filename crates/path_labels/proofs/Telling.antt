@@ -1,10 +1,7 @@
 -- What is told of a plan that was searched.
-use Rattle.std.proofs.Common.{◌≡◌, ◌∙◌, inl, inr, sym, ap, refl, subst, ℕ, zero, suc, ◌+◌, ◌-◌, ◌<◌, ◌≤◌, ℤ, pos, ◌+ℤ◌, ◌≤ℤ◌, true, false, List, [], ◌∷◌, ◌++◌, length, get_or, map, All, Some, arith}
-use Rattle.std.specs.Prelude.{slice_get}
+use Rattle.std.proofs.Common.{◌≡◌, ◌∙◌, inl, inr, sym, ap, subst, ℕ, zero, suc, ◌+◌, ◌-◌, ◌<◌, ℤ, ◌≤ℤ◌, List, [], ◌∷◌, length, get_or, All, Some, arith}
 use Rattle.std.proofs.lemmas.Bool.{cases_lt}
-use Rattle.std.proofs.lemmas.Int.{ints}
 use Rattle.std.proofs.Math.ListN.{get_or-eq_default}
-use Rattle.std.proofs.lemmas.List.{get_or_default}
 use Rattle.std.proofs.lemmas.List.Elements.{All-nil, All-append, All-map}
 use Rattle.std.proofs.lemmas.Option.{slice_get_within, slice_get-get_or}
 use Rattle.rail_types.specs.declared.tracks.Network.{Network}
@@ -15,17 +12,13 @@ use Rattle.rail_types.specs.declared.paths.Path.{Path}
 use Rattle.rail_types.specs.Occupation.{HasTicks, HeldClaim}
 use Rattle.occupation_book.specs.Zones.{Zone}
 use Rattle.occupation_book.specs.Held.{IsBook, held, zone_at}
-use Rattle.running_time.specs.declared.edges.Edge.TheVariants.{Still as Halted}
 use Rattle.blocking_time.specs.Possible.{IsPossible}
 use Rattle.stair_pieces.specs.declared.places.Place.{Place}
 use Rattle.stair_pieces.specs.Places.{start_place}
-use Rattle.stair_pieces.specs.Moves.{IsPlace}
 use Rattle.tail_states.specs.declared.certificates.Closed.{Closed}
-use Rattle.tail_states.specs.declared.moves.Next.{Next}
-use Rattle.tail_states.specs.declared.moves.Next.TheVariants.{End as Ends, At}
 use Rattle.tail_states.specs.Alike.{WindowsChangeNoPlaces}
 use Rattle.tail_states.specs.Closing.{IsClosed}
-use Rattle.tail_states.specs.Listed.{Listed, LeadsTo}
+use Rattle.tail_states.specs.Listed.{Listed}
 use Rattle.label_search.specs.declared.plans.Target.{Target}
 use Rattle.label_search.specs.declared.plans.Target.TheVariants.{Place as To, End}
 use Rattle.label_search.specs.declared.plans.Plan.{Plan}
@@ -35,14 +28,14 @@ use Rattle.label_search.specs.declared.plans.Member.{Member as PlannedMember}
 use Rattle.label_search.specs.Free.{Book}
 use Rattle.label_search.specs.Closed.{IsLedTo, IsMemberOf as IsPlannedMember}
 use Rattle.label_search.specs.Found.{IsLeast}
-use Rattle.label_search.specs.Paths.{IsPath, IsRest, PathFits, Possible, arrival, leave_of, move_at, place_at, target_of}
+use Rattle.label_search.specs.Paths.{IsPath, IsRest, Possible, arrival, leave_of, place_at, target_of}
 use Rattle.label_search.specs.Sought.{IsFound, IsNone}
 use Rattle.request_plans.specs.Searched.{IsPlannedWithinLimits}
-use Rattle.path_labels.specs.Answers.{IsAnswer, IsCertificate, IsEarliest, IsFinding, IsMemberOf, before, claims_held, last_leave}
+use Rattle.path_labels.specs.Answers.{IsAnswer, IsEarliest, IsFinding, IsMemberOf, before, claims_held, last_leave}
 use Rattle.path_labels.specs.declared.answers.Sought.TheVariants.{Found, NoPath}
 use Rattle.path_labels.specs.Joining.{ArePlannedMoves, AreSteps, ClosedPlansAreClosed, GrantedPathsArePlanned, HoldsTicks, IsBehindTheStart, IsPlannedFrom, PlannedPathsAreGranted, member_in, members_in, moves_of, path_in, trip_of}
 use Rattle.path_labels.proofs.Closing.{planned_before}
-use Rattle.path_labels.proofs.Standing.{IsAt, LeadsOn, at_listed, at_start, count_is, leads_on}
+use Rattle.path_labels.proofs.Standing.{IsAt, at_listed, at_start, count_is, leads_on}
 
 -- the claims of a book have ticks
 held_all : (P : HeldClaim → Type 0) (book : List Zone) → ((number : ℕ) → number < length book → All P (zone_at book number).claims) → All P (held book)

@@ -1,5 +1,5 @@
 -- Inside: what joins the plan of a request to the request.
-use Rattle.std.specs.Prelude.{◌≡◌, ◌≢◌, ℕ, zero, suc, ◌-◌, ◌+◌, ◌<◌, ◌≤◌, ℤ, List, [], ◌∷◌, length, map, All}
+use Rattle.std.specs.Prelude.{◌≡◌, ℕ, zero, suc, ◌-◌, ◌+◌, ◌<◌, ◌≤◌, ℤ, List, [], ◌∷◌, length, map, All}
 use Rattle.std.specs.List.{slice_index_or}
 use Rattle.rail_types.specs.declared.tracks.Network.{Network}
 use Rattle.rail_types.specs.declared.trains.Request.{Request}
@@ -16,7 +16,6 @@ use Rattle.tail_states.specs.declared.moves.Move.{Move}
 use Rattle.tail_states.specs.declared.moves.Next.TheVariants.{End as Ends}
 use Rattle.tail_states.specs.Closing.{IsClosed}
 use Rattle.tail_states.specs.Listed.{AreTheMoves, AreThePlaces, Listed}
-use Rattle.occupation_book.specs.Held.{held}
 use Rattle.label_search.specs.declared.plans.Target.{Target}
 use Rattle.label_search.specs.declared.plans.Target.TheVariants.{Place as To, End}
 use Rattle.label_search.specs.declared.plans.Plan.{Plan}

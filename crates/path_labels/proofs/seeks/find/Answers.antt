@@ -1,7 +1,6 @@
-use Rattle.std.proofs.Common.{◌≡◌, subst}
+use Rattle.std.proofs.Common.{subst}
 use Rattle.label_search.specs.Found.{IsFinding, IsLeast}
 use Rattle.label_search.specs.Paths.{Possible}
-use Rattle.label_search.specs.declared.finds.Finding.TheVariants.{Found, NoPath}
 use Rattle.path_labels.proofs.Telling.{found_told, impossible, path_steps}
 use Rattle.path_labels.proofs.seeks.find.Goals as goal
 

@@ -1,7 +1,5 @@
-use Rattle.std.proofs.Common.{◌∙◌, subst}
+use Rattle.std.proofs.Common.{subst}
 use Rattle.label_search.specs.Sought.{IsFound, IsNone, IsSought}
-use Rattle.label_search.specs.declared.seeks.Sought.TheVariants.{Found, NoPath}
-use Rattle.path_labels.specs.Joining.{trip_of}
 use Rattle.path_labels.proofs.Telling.{found_answer, from_limits, members_behind, none_answer, path_steps}
 use Rattle.path_labels.proofs.seeks.seek.Goals as goal
 
