@@ -1,5 +1,5 @@
 -- Entries that are sent to a book, and a copy of its live claims, once the book has gone on.
-use Rattle.std.proofs.Common.{◌≡◌, ◌≤◌, ◌++◌, ◌∷◌, [], List, length, take, refl, sym, ap, ◌∙◌, subst, arith, length-append}
+use Rattle.std.proofs.Common.{◌≡◌, ◌++◌, ◌∷◌, [], List, length, take, refl, sym, ap, ◌∙◌, subst}
 use Rattle.std.proofs.lemmas.List.{take_at}
 use Rattle.std.proofs.lemmas.List.Elements.{All-push}
 use Rattle.rail_types.specs.declared.entries.Entry.{Entry}
@@ -20,11 +20,8 @@ one_more timetable net sent old new same fits is known =
     subst (AreInRange timetable) (sym is) (All-push (λ (one : Sent). IsInRange timetable one.entry) old sent known (record { within = fits.0; on_net = subst (λ (n : Network). IsDeedOn n sent.entry.deed) (sym same) fits.1 }))
 
 module _ {D : Type 0} (old new : Ledger D) (grows : Grows old new) where
-  pub same_timetable : new.timetable ≡ old.timetable
+  same_timetable : new.timetable ≡ old.timetable
   same_timetable = ap (λ (f : Footing). timetable_of f.net f.base) grows.footing
-
-  pub no_fewer : length old.entries ≤ length new.entries
-  no_fewer = omega (arith, ap length grows.entries, length-append old.entries grows.more)
 
   first_entries : take (length old.entries) new.entries ≡ old.entries
   first_entries = ap (take (length old.entries)) grows.entries ∙ take_at old.entries grows.more (length old.entries) refl
