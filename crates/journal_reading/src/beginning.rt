@@ -23,6 +23,10 @@ pub fn init<D: Disk>(disk: &mut D, network: &[u8; 32], base: &[u8; 32]) -> Resul
         ReadsAs (header_of network.now base.now) [] image) }
     ensures contents { OnOk result (IfSome (D.contents disk.new)
         (λ file. ReadsAs (header_of network.now base.now) [] file)) }
+    ensures exact { OnOk result ((image : List ℕ) → D.images disk.new image →
+        image ≡ header_of network.now base.now ++ 0 ∷ []) }
+    ensures exact_now { OnOk result (IfSome (D.contents disk.new)
+        (λ file. file ≡ header_of network.now base.now ++ 0 ∷ [])) }
     ensures size { OnOk result (IfSome (D.contents disk.new) (λ file. length file ≡ 77)) }
     ensures empty { OnOk result (WasEmpty D.Disk disk.old) }
     ensures refused { IfErr result (λ fault. IfSome (D.contents disk.old) (IsNotEmpty fault)) }
