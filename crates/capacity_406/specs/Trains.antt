@@ -1,6 +1,7 @@
 -- Trains that stand in a timetable, and their claims.
 use Rattle.std.specs.Prelude.{◌≡◌, ◌≢◌, ℕ, ◌<◌, ◌≤◌, ◌⊎◌, ℤ, ◌<ℤ◌, ◌≤ℤ◌, List, [], length, slice_index_or, All, Contains}
 use Rattle.rail_types.specs.declared.paths.Claim.{Claim}
+use Rattle.rail_types.specs.declared.entries.Owner.{Owner}
 use Rattle.rail_types.specs.declared.entries.Owner.TheVariants.{Base}
 use Rattle.rail_types.specs.Occupation.{Clash, HasTicks}
 use Rattle.rail_types.specs.Limits.{IsNear}
@@ -10,6 +11,11 @@ use Rattle.capacity_406.specs.declared.trains.Occupied.{Occupied}
 abbrev pub claims_of : List Occupied → ℕ → List Claim
 claims_of trains train =
     (slice_index_or trains train (record { owner = Base 0; claims = [] })).claims
+
+-- the owner of the train of that number
+abbrev pub owner_of : List Occupied → ℕ → Owner
+owner_of trains train =
+    (slice_index_or trains train (record { owner = Base 0; claims = [] })).owner
 
 -- the train has that claim
 abbrev pub Has : List Occupied → ℕ → Claim → Type 0
@@ -41,3 +47,8 @@ pub record AreBeside (trains : List Occupied) : Type 0 where
   pub sound : (train : ℕ) (claim : Claim) → Has trains train claim → IsSound claim
   pub apart :
       (i j : ℕ) (a b : Claim) → i ≢ j → Has trains i a → Has trains j b → ¬ Clash a b
+
+-- no two claims of one train clash
+abbrev pub AreOwnApart : List Occupied → Type 0
+AreOwnApart trains =
+    (train : ℕ) (a b : Claim) → Has trains train a → Has trains train b → a ≢ b → ¬ Clash a b

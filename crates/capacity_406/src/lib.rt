@@ -9,13 +9,13 @@ mod compressions;
 mod firsts;
 mod laws;
 mod places;
+mod reports;
 mod trains;
 
 pub use compressions::compress;
-pub use laws::{
-    capacities_are_told, compressions_compare, selected_trains_stand_beside_each_other,
-};
-pub use trains::{CapacityFault, Compressed, Link, Occupied};
+pub use laws::{compressions_compare, selected_trains_stand_beside_each_other};
+pub use reports::capacity_of;
+pub use trains::{CapacityFault, Compressed, Link, Occupied, Stretch};
 
 /// Most trains of one compression.
 pub const MAX_TRAINS: u32 = 4_096;
