@@ -10,10 +10,6 @@ use Rattle.capacity_406.specs.Compression.{shift_of}
 use Rattle.capacity_406.specs.Inside.{IsNearShift, first_of}
 use Rattle.capacity_406.specs.Report.{told_at}
 
--- each shift is near
-abbrev pub AreNearShifts : List ℤ → Type 0
-AreNearShifts shifts = (train : ℕ) → IsNearShift (shift_of shifts train)
-
 -- a span, moved by so many ticks
 abbrev pub moved_by : ℤ → Span → Span
 moved_by shift span = record { from = span.from +ℤ shift; to = span.to +ℤ shift }

@@ -12,7 +12,7 @@ ghost use Rattle.capacity_406.specs.Compression.{IsLeastCompression};
 ghost use Rattle.capacity_406.specs.Chain.{IsChain};
 ghost use Rattle.capacity_406.specs.Report.{IsCapacityText, capacity_text, chain_text, first_line, head_line, later_line, link_lines, new_line, numbered, owner_at as owner_of_link, owner_text, rate_of, ticked, time_text, train_line, window_text, zones_text};
 ghost use Rattle.capacity_406.specs.Inside.{IsNearShift};
-ghost use Rattle.capacity_406.specs.Telling.{AreNearShifts, AreToldBy, IsTimeOf, ends_at, moved_by, span_of, told_by};
+ghost use Rattle.capacity_406.specs.Telling.{AreToldBy, IsTimeOf, ends_at, moved_by, span_of, told_by};
 
 use crate::compress;
 use crate::firsts::{first_claim, firsts_of};
@@ -64,7 +64,7 @@ fn text_of(
     requires own { AreOwnApart trains.now }
     requires few { length trains.now < 2 ^ 32 }
     requires least { IsLeastCompression trains.now compressed.now.shifts }
-    requires early { All (λ shift. shift ≤ℤ pos 0) compressed.now.shifts }
+    requires near { All IsNearShift compressed.now.shifts }
     requires chain { IsChain trains.now compressed.now.shifts compressed.now.chain }
     ensures { IfOk result (λ text. IsCapacityText stretch.now trains.now text.items) }
 {
@@ -92,7 +92,7 @@ fn told_of(
     requires counted { length firsts.now ≡ length trains.now }
     requires shifted { length shifts.now ≡ length trains.now }
     requires near { All (λ first. IsNearSpan first.span) firsts.now }
-    requires shifts { AreNearShifts shifts.now }
+    requires shifts { All IsNearShift shifts.now }
     ensures { IfOk result (λ told. AreToldBy trains.now firsts.now shifts.now told.items) }
 {
     let mut told = Vec::new(alloc);
@@ -119,7 +119,7 @@ fn occupied_time(firsts: &[Claim], shifts: &[i64]) -> u64
     requires few { length firsts.now < 2 ^ 32 }
     requires shifted { length shifts.now ≡ length firsts.now }
     requires near { All (λ first. IsNearSpan first.span) firsts.now }
-    requires shifts { AreNearShifts shifts.now }
+    requires shifts { All IsNearShift shifts.now }
     requires late { (train : ℕ) (earliest : claim_type) → train < length firsts.now →
         IsFirstClaim firsts.now earliest →
         earliest.span.from <ℤ ends_at firsts.now shifts.now train }
@@ -149,7 +149,7 @@ fn last_to_end(firsts: &[Claim], shifts: &[i64]) -> u32
     requires some { (0 < length firsts.now) × (length firsts.now < 2 ^ 32) }
     requires shifted { length shifts.now ≡ length firsts.now }
     requires near { All (λ first. IsNearSpan first.span) firsts.now }
-    requires shifts { AreNearShifts shifts.now }
+    requires shifts { All IsNearShift shifts.now }
     ensures bound { result < length firsts.now }
     ensures last { (train : ℕ) → train < length firsts.now →
         ends_at firsts.now shifts.now train ≤ℤ ends_at firsts.now shifts.now result }
@@ -169,7 +169,7 @@ fn span_at(firsts: &[Claim], shifts: &[i64], train: u32) -> Span
     requires train { train < length firsts.now }
     requires shifted { length shifts.now ≡ length firsts.now }
     requires near { All (λ first. IsNearSpan first.span) firsts.now }
-    requires shifts { AreNearShifts shifts.now }
+    requires shifts { All IsNearShift shifts.now }
     ensures { result ≡ span_of firsts.now shifts.now train }
 {
     moved(&firsts[train as usize].span, &shifts[train as usize])

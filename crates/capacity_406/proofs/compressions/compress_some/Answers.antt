@@ -5,9 +5,9 @@ use Rattle.capacity_406.specs.declared.trains.Occupied.{Occupied}
 use Rattle.capacity_406.specs.declared.places.Place.{Place}
 use Rattle.rail_types.specs.Limits.{IsNear}
 use Rattle.capacity_406.specs.Compression.{IsLastStart, IsLeastCompression}
-use Rattle.capacity_406.specs.Inside.{AreFirsts, AreTaken, begin_at, shifts_of}
+use Rattle.capacity_406.specs.Inside.{AreFirsts, AreTaken, IsNearShift, begin_at, shifts_of}
 use Rattle.capacity_406.proofs.Settling.{firsts_near}
-use Rattle.capacity_406.proofs.Leasts.{all_early, last_start, least_compression}
+use Rattle.capacity_406.proofs.Leasts.{all_early, all_near, last_start, least_compression}
 use Rattle.capacity_406.proofs.compressions.compress_some.Goals as goal
 
 pub last_train-last-requires-clause-near : goal.last_train-last-requires-clause-near
@@ -31,3 +31,8 @@ returns-clause-early c =
     let taken = subst (AreTaken c.args.trains.now) (sym c.deref.ensures.value) c.in_ok-taken.ensures in
     let same : c.from_vec.result ≡ shifts_of c.in_ok-places.places.items = c.from_vec.ensures ∙ (c.in_ok-shifts.ensures ∙ ap shifts_of c.deref-6.ensures.value) in
     subst (All (λ shift. shift ≤ℤ pos 0)) (sym same) (all_early c.args.trains.now c.requires.beside c.deref.result.now taken c.in_ok-places.places.items c.in_ok-places.ensures)
+
+pub returns-clause-near : goal.returns-clause-near
+returns-clause-near c =
+    let same : c.from_vec.result ≡ shifts_of c.in_ok-places.places.items = c.from_vec.ensures ∙ (c.in_ok-shifts.ensures ∙ ap shifts_of c.deref-6.ensures.value) in
+    subst (All IsNearShift) (sym same) (all_near c.args.trains.now c.deref.result.now c.in_ok-places.places.items c.in_ok-places.ensures)
