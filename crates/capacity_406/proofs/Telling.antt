@@ -13,7 +13,7 @@ use Rattle.capacity_406.specs.Chain.{IsChain, LeadOn}
 use Rattle.capacity_406.specs.Compression.{IsCompression, after, shift_of}
 use Rattle.capacity_406.specs.Inside.{AreFirsts, first_of}
 use Rattle.capacity_406.specs.Report.{AreTold, IsOccupiedTime, told_at}
-use Rattle.capacity_406.specs.Telling.{AreToldBy, IsTimeOf, ends_at}
+use Rattle.capacity_406.specs.Telling.{AreToldBy, IsTimeBetween, IsTimeOf, ends_at}
 use Rattle.capacity_406.specs.Trains.{AreBeside, AreOwnApart, BeginsFirst, Has, IsFirstClaim, claims_of, owner_of}
 use Rattle.capacity_406.proofs.Earliest.{earliest_starts, first_begin_at_once}
 use Rattle.capacity_406.proofs.Raising.{has_below}
@@ -110,3 +110,11 @@ module _ (trains : List Occupied) (shifts : List ℤ) where
   pub chain_trains : (links : List Link) → IsChain trains shifts links → All (λ link. link.train < length trains) links
   chain_trains [] none = All-nil (λ link. link.train < length trains)
   chain_trains (first ∷ rest) ((claim, names, is, starts), leads) = All-cons (λ link. link.train < length trains) first rest (has_below trains first.train claim names.has) (leads_trains first.train rest leads)
+
+pub time_of_none : (firsts : List Claim) (shifts : List ℤ) → length firsts ≡ 0 → IsTimeOf firsts shifts 0
+time_of_none [] shifts none = refl
+time_of_none (first ∷ rest) shifts none = absurd (omega arith)
+
+pub time_of_any : (firsts : List Claim) (shifts : List ℤ) (occupied : ℕ) → IsTimeBetween firsts shifts occupied → IsTimeOf firsts shifts occupied
+time_of_any [] shifts occupied time = absurd (let below = time.below in omega arith)
+time_of_any (first ∷ rest) shifts occupied time = time

@@ -13,6 +13,7 @@ mod reports;
 mod trains;
 
 pub use compressions::compress;
+pub use firsts::first_claim;
 pub use laws::{compressions_compare, selected_trains_stand_beside_each_other};
 pub use reports::capacity_of;
 pub use trains::{CapacityFault, Compressed, Link, Occupied, Stretch};

@@ -12,7 +12,7 @@ ghost use Rattle.capacity_406.specs.Compression.{IsLeastCompression};
 ghost use Rattle.capacity_406.specs.Chain.{IsChain};
 ghost use Rattle.capacity_406.specs.Report.{IsCapacityText, capacity_text, chain_text, first_line, head_line, later_line, link_lines, new_line, numbered, owner_at as owner_of_link, owner_text, rate_of, ticked, time_text, train_line, window_text, zones_text};
 ghost use Rattle.capacity_406.specs.Inside.{IsNearShift};
-ghost use Rattle.capacity_406.specs.Telling.{AreToldBy, IsTimeOf, ends_at, moved_by, span_of, told_by};
+ghost use Rattle.capacity_406.specs.Telling.{AreToldBy, IsTimeBetween, IsTimeOf, ends_at, moved_by, span_of, told_by};
 
 use crate::compress;
 use crate::firsts::{first_claim, firsts_of};
@@ -115,6 +115,7 @@ fn told_of_train(train: &Occupied, first: &Claim, shift: &i64) -> Told
 }
 
 // The time from the least first begin to the greatest end of a first claim after the shifts; 0 without trains.
+#[tactic(auto, using(crate::proofs::Telling::time_of_none, crate::proofs::Telling::time_of_any))]
 fn occupied_time(firsts: &[Claim], shifts: &[i64]) -> u64
     requires few { length firsts.now < 2 ^ 32 }
     requires shifted { length shifts.now ≡ length firsts.now }
@@ -129,6 +130,21 @@ fn occupied_time(firsts: &[Claim], shifts: &[i64]) -> u64
     if firsts.is_empty() {
         return 0;
     }
+    time_of_some(firsts, shifts)
+}
+
+fn time_of_some(firsts: &[Claim], shifts: &[i64]) -> u64
+    requires some { 0 < length firsts.now }
+    requires few { length firsts.now < 2 ^ 32 }
+    requires shifted { length shifts.now ≡ length firsts.now }
+    requires near { All (λ first. IsNearSpan first.span) firsts.now }
+    requires shifts { All IsNearShift shifts.now }
+    requires late { (train : ℕ) (earliest : claim_type) → train < length firsts.now →
+        IsFirstClaim firsts.now earliest →
+        earliest.span.from <ℤ ends_at firsts.now shifts.now train }
+    ensures time { IsTimeBetween firsts.now shifts.now result }
+    ensures short { result < 2 ^ 44 }
+{
     let earliest = first_claim(firsts);
     let last = last_to_end(firsts, shifts);
     time_between(&earliest.span, &span_at(firsts, shifts, last))
