@@ -1,6 +1,6 @@
 -- Trains that are told, and the time that they occupy.
 use Rattle.std.proofs.Common.{◌≡◌, ◌≢◌, ◌∙◌, ℕ, ◌+◌, ◌<◌, List, [], ◌∷◌, length, refl, inl, inr, arith, sym, subst, ap, All}
-use Rattle.std.specs.Prelude.{ℤ, pos, ◌-ℤ◌, ◌<ℤ◌, ◌≤ℤ◌}
+use Rattle.std.specs.Prelude.{ℤ, ◌<ℤ◌, ◌≤ℤ◌}
 use Rattle.std.proofs.lemmas.Int.{ints, by_lt_z}
 use Rattle.std.proofs.lemmas.List.{get_or_default}
 use Rattle.std.proofs.lemmas.List.Elements.{All-contains, All-cons, All-nil}
@@ -10,11 +10,11 @@ use Rattle.capacity_406.specs.declared.reports.Told.{Told}
 use Rattle.capacity_406.specs.declared.trains.Link.{Link}
 use Rattle.capacity_406.specs.declared.trains.Occupied.{Occupied}
 use Rattle.capacity_406.specs.Chain.{IsChain, LeadOn}
-use Rattle.capacity_406.specs.Compression.{IsCompression, after, shift_of}
+use Rattle.capacity_406.specs.Compression.{IsCompression, after}
 use Rattle.capacity_406.specs.Inside.{AreFirsts, first_of}
-use Rattle.capacity_406.specs.Report.{AreTold, IsOccupiedTime, told_at}
+use Rattle.capacity_406.specs.Report.{AreTold, IsOccupiedTime}
 use Rattle.capacity_406.specs.Telling.{AreToldBy, IsTimeBetween, IsTimeOf, ends_at}
-use Rattle.capacity_406.specs.Trains.{AreBeside, AreOwnApart, BeginsFirst, Has, IsFirstClaim, claims_of, owner_of}
+use Rattle.capacity_406.specs.Trains.{AreBeside, AreOwnApart, BeginsFirst, IsFirstClaim, claims_of}
 use Rattle.capacity_406.proofs.Earliest.{earliest_starts, first_begin_at_once}
 use Rattle.capacity_406.proofs.Raising.{has_below}
 use Rattle.capacity_406.proofs.Settling.{first_has}

@@ -7,7 +7,7 @@ use Rattle.capacity_406.specs.declared.reports.Told.{Told}
 use Rattle.capacity_406.specs.declared.trains.Occupied.{Occupied}
 use Rattle.capacity_406.specs.Trains.{IsFirstClaim, owner_of}
 use Rattle.capacity_406.specs.Compression.{shift_of}
-use Rattle.capacity_406.specs.Inside.{IsNearShift, first_of}
+use Rattle.capacity_406.specs.Inside.{first_of}
 use Rattle.capacity_406.specs.Report.{told_at}
 
 -- a span, moved by so many ticks
