@@ -44,33 +44,131 @@ fn link(train: u32, zone: u32, at: i64) -> Link {
     Link { train, zone, at }
 }
 
-// Two trains over three zones, the second 94 ticks behind the first: zone 1 is the narrowest.
-#[test]
-fn the_second_train_follows_where_the_first_ends(rt: HostRuntime) -> Result<(), Fail> {
-    let alloc = rt.alloc();
+// Whether trains with these claims have these shifts and this chain.
+fn shifts_are(
+    alloc: Global,
+    rows: &[&[(u32, i64, i64)]],
+    shifts: &[i64],
+    chain: &[Link],
+) -> Result<bool, CapacityFault> {
     let mut trains = Vec::new(alloc);
-    trains.push(train(alloc, 0, &[(0, 5, 24), (1, 5, 38), (2, 18, 46)])?)?;
-    trains.push(train(alloc, 1, &[(0, 99, 118), (1, 99, 132), (2, 112, 140)])?)?;
-    let told = compressed(alloc, &trains)?;
-    assert!(rt; tells(&told, &[0, -61], &[link(0, 0, 5), link(1, 1, 38)]));
+    for row in rows {
+        trains.push(train(alloc, trains.len() as u32, row)?)?;
+    }
+    Ok(tells(&compressed(alloc, &trains)?, shifts, chain))
+}
+
+// Trains that follow one another: the narrowest zone decides.
+#[test]
+fn trains_follow_where_the_narrowest_zone_lets_them(rt: HostRuntime) -> Result<(), Fail> {
+    let alloc = rt.alloc();
+    // The second train is 94 ticks behind the first: 75, 61 and 66 ticks are free on the three zones.
+    assert!(rt;
+        shifts_are(
+            alloc,
+            &[
+                &[(0, 5, 24), (1, 5, 38), (2, 18, 46)],
+                &[(0, 99, 118), (1, 99, 132), (2, 112, 140)]
+            ],
+            &[0, -61],
+            &[link(0, 0, 5), link(1, 1, 38)]
+        )?
+    );
+    // Claims that touch already.
+    assert!(rt;
+        shifts_are(
+            alloc,
+            &[&[(0, 5, 10)], &[(0, 10, 20)]],
+            &[0, 0],
+            &[link(0, 0, 5), link(1, 0, 10)]
+        )?
+    );
+    // A train between two claims of another.
+    assert!(rt;
+        shifts_are(
+            alloc,
+            &[&[(0, 0, 10), (0, 50, 60)], &[(0, 20, 30)]],
+            &[0, -10],
+            &[link(0, 0, 0), link(1, 0, 10)]
+        )?
+    );
+    // Before tick 0, and with a first claim on another zone than that which keeps the train.
+    assert!(rt;
+        shifts_are(
+            alloc,
+            &[&[(3, -50, -40)], &[(3, -30, -20), (1, -35, -31)]],
+            &[0, -10],
+            &[link(0, 3, -50), link(1, 3, -40)]
+        )?
+    );
+    // None begins before the first did, though nothing keeps the second back.
+    assert!(rt;
+        shifts_are(
+            alloc,
+            &[&[(0, 7, 9)], &[(1, 50, 60)], &[(0, 20, 30)]],
+            &[0, -43, -11],
+            &[link(0, 0, 7), link(2, 0, 9)]
+        )?
+    );
     Ok(())
 }
 
-// Each is before the other on one zone, and they touch on both: they move together.
+// Trains that are before each other on different zones, so that their bounds go round.
 #[test]
-fn trains_that_hold_each_other_move_together(rt: HostRuntime) -> Result<(), Fail> {
+fn bounds_that_go_round_are_kept(rt: HostRuntime) -> Result<(), Fail> {
     let alloc = rt.alloc();
-    let mut trains = Vec::new(alloc);
-    trains.push(train(alloc, 0, &[(0, 100, 110), (1, 120, 130)])?)?;
-    trains.push(train(alloc, 1, &[(1, 110, 120), (0, 110, 115)])?)?;
-    trains.push(train(alloc, 2, &[(0, 0, 20)])?)?;
-    let told = compressed(alloc, &trains)?;
+    // They touch on both zones, and so move together, up to the third.
     assert!(rt;
-        tells(
-            &told,
+        shifts_are(
+            alloc,
+            &[
+                &[(0, 100, 110), (1, 120, 130)],
+                &[(1, 110, 120), (0, 110, 115)],
+                &[(0, 0, 20)]
+            ],
             &[-80, -80, 0],
             &[link(2, 0, 0), link(0, 0, 20), link(1, 0, 30)]
-        )
+        )?
+    );
+    // They have 20 ticks on the one zone and 30 on the other: the first is kept by the third, the second by the first.
+    assert!(rt;
+        shifts_are(
+            alloc,
+            &[
+                &[(0, 100, 110), (1, 150, 160)],
+                &[(1, 110, 120), (0, 130, 140)],
+                &[(0, 0, 30)]
+            ],
+            &[-70, -90, 0],
+            &[link(2, 0, 0), link(0, 0, 30)]
+        )?
+    );
+    // Over three zones, with a chain that leaves the third train out.
+    assert!(rt;
+        shifts_are(
+            alloc,
+            &[
+                &[(0, 0, 10)],
+                &[(0, 20, 30), (1, 50, 60)],
+                &[(1, 30, 40), (2, 40, 50)],
+                &[(2, 60, 70), (0, 45, 50)]
+            ],
+            &[0, -10, -30, -25],
+            &[link(0, 0, 0), link(1, 0, 10), link(3, 0, 20)]
+        )?
+    );
+    // A train that is first on one zone and last on another.
+    assert!(rt;
+        shifts_are(
+            alloc,
+            &[
+                &[(0, 0, 10), (1, 10, 40), (2, 40, 50)],
+                &[(0, 60, 65), (1, 65, 70)],
+                &[(2, 20, 30), (0, 100, 110)]
+            ],
+            &[0, -25, -20],
+            &[link(0, 0, 0), link(1, 1, 40)]
+        )?
     );
     Ok(())
 }
