@@ -1,7 +1,7 @@
 -- Claims that are gathered owner by owner.
 use Rattle.std.proofs.Common.{◌≡◌, ◌≢◌, ◌⊎◌, ◌∙◌, ℕ, ◌+◌, ◌<◌, ◌≤◌, List, [], ◌∷◌, ◌++◌, length, map, take, drop, get_or, inl, inr, refl, arith, sym, subst, ap, All, AllPairs}
 use Rattle.std.specs.Prelude.{Contains, ◌↔◌}
-use Rattle.std.proofs.lemmas.List.{append-nil, append_assoc, get_or-drop, get_or-map, length-map, length-drop, length-take, take-append-drop}
+use Rattle.std.proofs.lemmas.List.{append-nil, append_assoc, get_or-drop, get_or-map, get_or-take, length-map, length-drop, length-take, take-append-drop}
 use Rattle.std.proofs.lemmas.List.Elements.{All-nil, All-append, All-contains, All-cons, Contains-append_left, Contains-append_right, Contains-append_cases, Contains-get_or, Contains-push}
 use Rattle.std.proofs.lemmas.Bool.{cases_order}
 use Rattle.std.proofs.lemmas.List.Quantifiers.{all_pairs_push}
@@ -10,7 +10,7 @@ use Rattle.rail_types.specs.declared.entries.Owner.TheVariants.{Base}
 use Rattle.rail_types.specs.declared.paths.Claim.{Claim}
 use Rattle.rail_types.specs.Occupation.{HeldClaim}
 use Rattle.capacity_406.specs.declared.trains.Stretch.{Stretch}
-use Rattle.capacity_406.specs.Selecting.{OwnerBefore}
+use Rattle.capacity_406.specs.Selecting.{BeginsWithin, OwnerBefore}
 use Rattle.capacity_406.specs.Trains.{IsFirstClaim}
 use Rattle.stretch_trains.specs.declared.groups.Standing.{Standing}
 use Rattle.stretch_trains.specs.Inside.{AreGrouped, HasAllOf, IsOf, OwnerNoLater, Runs}
@@ -159,3 +159,12 @@ none_behind rest owner count sorted some head differs k d within same =
       ]
       | inr equal ↦ differs (omega arith) d (sym equal ∙ head d)
     ]
+
+pub parted_at : (rest : List HeldClaim) (owner : Owner) (count : ℕ) → AllPairs OwnerNoLater rest → 0 < count → count ≤ length rest → All (IsOf owner) (take count rest) → (count < length rest → (d : HeldClaim) → (get_or rest count d).1 ≢ owner) → (o : Owner) × All (IsOf o) (take count rest) × All (λ held. ¬ IsOf o held) (drop count rest)
+parted_at rest owner count sorted some bound same differs = (owner, same, none_behind rest owner count sorted some (λ d. ap (λ (held : HeldClaim). held.1) (sym (get_or-take count rest 0 d some)) ∙ same 0 d (let e = length-take count rest in omega arith)) differs)
+
+pub none_runs : (stretch : Stretch) (claims : List Claim) → All (λ claim. ¬ BeginsWithin stretch claim) claims → ¬ Runs stretch claims
+none_runs stretch claims none (claim, has, begins) = All-contains (λ one. ¬ BeginsWithin stretch one) claims claim none has begins
+
+pub one_runs : (stretch : Stretch) (claims : List Claim) (claim : Claim) → Contains claims claim → BeginsWithin stretch claim → Runs stretch claims
+one_runs stretch claims claim has begins = (claim, has, begins)

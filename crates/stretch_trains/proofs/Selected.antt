@@ -53,8 +53,8 @@ one_owner (Entry a) (Entry b) same = ap Entry (let e : a ≡ b = omega arith in 
 
 flips : (x y : ℕ) → (x == y) ≡ (y == x)
 flips x y = elim (eqb_tells x y) [
-  | inl (yes, same) ↦ elim (eqb_tells y x) [ | inl (also, back) ↦ yes ∙ sym also | inr (not_so, differ) ↦ absurd (differ (sym same)) ]
-  | inr (not_so, differ) ↦ elim (eqb_tells y x) [ | inl (also, back) ↦ absurd (differ (sym back)) | inr (nor, back) ↦ not_so ∙ sym nor ]
+  | inl same ↦ elim (eqb_tells y x) [ | inl back ↦ same.0 ∙ sym back.0 | inr apart ↦ absurd (apart.1 (sym same.1)) ]
+  | inr apart ↦ elim (eqb_tells y x) [ | inl back ↦ absurd (apart.1 (sym back.1)) | inr also ↦ apart.0 ∙ sym also.0 ]
 ]
 
 numbers_apart : (xs ys : List ℕ) → IsPermutation xs ys → AllPairs (λ x y. x ≢ y) xs → AllPairs (λ x y. x ≢ y) ys

@@ -49,11 +49,12 @@ fn count_of_first(rest: &[(Claim, Owner)]) -> usize
         × All (λ one. ¬ IsOf owner one) (drop result rest.now) }
 {
     let owner = rest[0].1;
-    let mut count = 1;
-    while count < rest.len() && rest[count].1 == owner {
-        count += 1;
+    for count in 1..rest.len() {
+        if rest[count].1 != owner {
+            return count;
+        }
     }
-    count
+    rest.len()
 }
 
 // The claims of one owner.
@@ -98,6 +99,7 @@ fn push_if_runs(
 }
 
 // Whether one of the claims begins in the window.
+#[tactic(auto, using(crate::proofs::Grouping::none_runs, crate::proofs::Grouping::one_runs))]
 fn runs(claims: &[Claim], stretch: &Stretch) -> bool
     ensures { IsTrue result ↔ Runs stretch.now claims.now }
 {

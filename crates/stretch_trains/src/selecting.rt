@@ -33,7 +33,8 @@ pub fn trains_on(
     // What the book holds is near, and no two of its claims clash.
     book.zones();
     let held = book.claims(alloc)?;
-    select(alloc, history, &held, stretch)
+    let trains = select(alloc, history, &held, stretch)?;
+    Ok(trains)
 }
 
 // The trains that run on a stretch among claims that are held.
@@ -50,7 +51,8 @@ fn select(
     sort_by_owner(&mut wanted);
     let mut standing = group(alloc, &wanted, stretch)?;
     sort_as_told(&mut standing);
-    trains_of(alloc, &standing)
+    let trains = trains_of(alloc, &standing)?;
+    Ok(trains)
 }
 
 // The claims of trains on the zones of the stretch.
