@@ -1,7 +1,7 @@
 -- Claims that are gathered owner by owner.
 use Rattle.std.proofs.Common.{◌≡◌, ◌≢◌, ◌⊎◌, ◌∙◌, ℕ, ◌+◌, ◌<◌, ◌≤◌, List, [], ◌∷◌, ◌++◌, length, map, take, drop, get_or, inl, inr, refl, arith, sym, subst, ap, All, AllPairs}
-use Rattle.std.specs.Prelude.{Contains, ◌↔◌}
-use Rattle.std.proofs.lemmas.List.{append-nil, append_assoc, get_or-drop, get_or-map, get_or-take, length-map, length-drop, length-take, take-append-drop}
+use Rattle.std.specs.Prelude.{pos, Contains, ◌↔◌}
+use Rattle.std.proofs.lemmas.List.{append-nil, append_assoc, get_or-drop, get_or-map, get_or-take, get_or_default, length-map, length-drop, length-take, take-append-drop}
 use Rattle.std.proofs.lemmas.List.Elements.{All-nil, All-append, All-contains, All-cons, Contains-append_left, Contains-append_right, Contains-append_cases, Contains-get_or, Contains-push}
 use Rattle.std.proofs.lemmas.Bool.{cases_order}
 use Rattle.std.proofs.lemmas.List.Quantifiers.{all_pairs_push}
@@ -168,3 +168,9 @@ none_runs stretch claims none (claim, has, begins) = All-contains (λ one. ¬ Be
 
 pub one_runs : (stretch : Stretch) (claims : List Claim) (claim : Claim) → Contains claims claim → BeginsWithin stretch claim → Runs stretch claims
 one_runs stretch claims claim has begins = (claim, has, begins)
+
+abbrev pub nobody : HeldClaim
+nobody = (record { zone = 0; span = record { from = pos 0; to = pos 0 } }, Base 0)
+
+pub parted_from : (rest : List HeldClaim) (owner : Owner) (count : ℕ) → AllPairs OwnerNoLater rest → 0 < count → count < length rest → All (IsOf owner) (take count rest) → (get_or rest count nobody).1 ≢ owner → (o : Owner) × All (IsOf o) (take count rest) × All (λ held. ¬ IsOf o held) (drop count rest)
+parted_from rest owner count sorted some below same differs = parted_at rest owner count sorted some (omega arith) same (λ within d equal. differs (ap (λ (held : HeldClaim). held.1) (get_or_default rest count nobody d within) ∙ equal))
