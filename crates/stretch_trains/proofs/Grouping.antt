@@ -1,6 +1,6 @@
 -- Claims that are gathered owner by owner.
 use Rattle.std.proofs.Common.{◌≡◌, ◌≢◌, ◌⊎◌, ◌∙◌, ℕ, ◌+◌, ◌<◌, ◌≤◌, List, [], ◌∷◌, ◌++◌, length, map, take, drop, get_or, inl, inr, refl, arith, sym, subst, ap, All, AllPairs}
-use Rattle.std.specs.Prelude.{pos, Contains, ◌↔◌}
+use Rattle.std.specs.Prelude.{pos, Contains}
 use Rattle.std.proofs.lemmas.List.{append-nil, append_assoc, get_or-drop, get_or-map, get_or-take, get_or_default, length-map, length-drop, length-take, take-append-drop}
 use Rattle.std.proofs.lemmas.List.Elements.{All-nil, All-append, All-contains, All-cons, Contains-append_left, Contains-append_right, Contains-append_cases, Contains-get_or, Contains-push}
 use Rattle.std.proofs.lemmas.Bool.{cases_order}

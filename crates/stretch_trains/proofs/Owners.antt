@@ -1,5 +1,5 @@
 -- The order of owners.
-use Rattle.std.proofs.Common.{◌≡◌, ◌≢◌, ◌∙◌, inl, inr, arith, sym, subst}
+use Rattle.std.proofs.Common.{◌≢◌, ◌∙◌, inl, inr, arith, sym, subst}
 use Rattle.rail_types.specs.declared.entries.Owner.{Owner}
 use Rattle.rail_types.specs.declared.entries.Owner.TheVariants.{Base, Entry}
 use Rattle.rail_types.specs.Occupation.{HeldClaim}

@@ -1,6 +1,6 @@
 -- Trains that are selected from claims that are held.
-use Rattle.std.proofs.Common.{◌≡◌, ◌≢◌, ◌⊎◌, ◌∙◌, ℕ, ◌+◌, ◌*◌, ◌<◌, Bool, true, false, List, [], ◌∷◌, ◌++◌, cond, length, map, filter, take, drop, get_or, inl, inr, refl, arith, sym, subst, ap, All, AllPairs, IsPermutation}
-use Rattle.std.specs.Prelude.{ℤ, pos, ◌<ℤ◌, ◌≤ℤ◌, Contains, IsTrue, ◌==◌, ◌↔◌}
+use Rattle.std.proofs.Common.{◌≡◌, ◌≢◌, ◌∙◌, ℕ, ◌+◌, ◌*◌, ◌<◌, Bool, true, List, [], ◌∷◌, ◌++◌, cond, length, map, filter, take, drop, get_or, inl, inr, arith, sym, subst, ap, All, AllPairs, IsPermutation}
+use Rattle.std.specs.Prelude.{pos, ◌≤ℤ◌, Contains, IsTrue, ◌==◌}
 use Rattle.std.proofs.lemmas.Bool.Decides.{Decides-eqb, eqb_tells}
 use Rattle.std.proofs.lemmas.Int.{ints}
 use Rattle.std.proofs.lemmas.List.{get_or-map, length-map, take-append-drop}
@@ -17,12 +17,11 @@ use Rattle.rail_types.specs.Occupation.{HeldClaim}
 use Rattle.occupation_book.specs.Held.{AreNear}
 use Rattle.capacity_406.specs.declared.trains.Occupied.{Occupied}
 use Rattle.capacity_406.specs.declared.trains.Stretch.{Stretch}
-use Rattle.capacity_406.specs.Selecting.{AreHeldApart, AreSelected, HasItsClaims, IsOn, OwnerBefore, RunsOn, ToldBefore}
+use Rattle.capacity_406.specs.Selecting.{AreHeldApart, AreSelected, HasItsClaims, IsOn, RunsOn, ToldBefore}
 use Rattle.capacity_406.specs.Trains.{BeginsFirst, IsFirstClaim}
 use Rattle.stretch_trains.specs.declared.groups.Standing.{Standing}
-use Rattle.stretch_trains.specs.Inside.{AreGrouped, HasAllOf, Runs, StandsNoLater, is_on, is_wanted, train_of}
+use Rattle.stretch_trains.specs.Inside.{AreGrouped, HasAllOf, Runs, StandsNoLater, is_wanted, train_of}
 use Rattle.stretch_trains.specs.Trains.{is_train}
-use Rattle.stretch_trains.proofs.Owners.{owner_apart}
 
 -- what a filter keeps
 kept : (p : HeldClaim → Bool) (xs : List HeldClaim) (one : HeldClaim) → Contains xs one → p one ≡ true → Contains (filter p xs) one
@@ -53,8 +52,8 @@ one_owner (Entry a) (Entry b) same = ap Entry (let e : a ≡ b = omega arith in 
 
 flips : (x y : ℕ) → (x == y) ≡ (y == x)
 flips x y = elim (eqb_tells x y) [
-  | inl same ↦ elim (eqb_tells y x) [ | inl back ↦ same.0 ∙ sym back.0 | inr apart ↦ absurd (apart.1 (sym same.1)) ]
-  | inr apart ↦ elim (eqb_tells y x) [ | inl back ↦ absurd (apart.1 (sym back.1)) | inr also ↦ apart.0 ∙ sym also.0 ]
+  | inl same ↦ elim (eqb_tells y x) [ inl back ↦ same.0 ∙ sym back.0 | inr apart ↦ absurd (apart.1 (sym same.1)) ]
+  | inr apart ↦ elim (eqb_tells y x) [ inl back ↦ absurd (apart.1 (sym back.1)) | inr also ↦ apart.0 ∙ sym also.0 ]
 ]
 
 numbers_apart : (xs ys : List ℕ) → IsPermutation xs ys → AllPairs (λ x y. x ≢ y) xs → AllPairs (λ x y. x ≢ y) ys
@@ -69,8 +68,8 @@ number_at one = number_of one.owner
 owners_apart : (xs ys : List Standing) → IsPermutation xs ys → AllPairs (λ (one other : Standing). one.owner ≢ other.owner) xs → AllPairs (λ (one other : Standing). one.owner ≢ other.owner) ys
 owners_apart xs ys same apart i j d before within equal =
     let numbers = numbers_apart (map number_at xs) (map number_at ys) (IsPermutation-map number_at xs ys same) (λ k l e lower below. λ alike.
-        let inside : l < length xs = let n = length-map xs number_at in omega arith in
-        apart k l nobody lower inside (one_owner _ _ (sym (get_or-map number_at xs k nobody e (omega arith)) ∙ (alike ∙ get_or-map number_at xs l nobody e inside)))) in
+    let inside : l < length xs = let n = length-map xs number_at in omega arith in
+    apart k l nobody lower inside (one_owner _ _ (sym (get_or-map number_at xs k nobody e (omega arith)) ∙ (alike ∙ get_or-map number_at xs l nobody e inside)))) in
     numbers i j 0 before (let n = length-map ys number_at in omega arith) (get_or-map number_at ys i d 0 (omega arith) ∙ (ap number_of equal ∙ sym (get_or-map number_at ys j d 0 within)))
 
 not_later : (one other : Claim) → BeginsFirst one other → one.span.from ≤ℤ other.span.from

@@ -1,12 +1,11 @@
 -- Claims by owner, and trains as they are told.
-use Rattle.std.proofs.Common.{Less, Equal, ◌≡◌, ◌⊎◌, ℕ, ◌<◌, true, false, List, length, get_or, sym, subst, ap, inl, inr, refl, arith}
+use Rattle.std.proofs.Common.{Less, ◌≡◌, ◌⊎◌, ℕ, ◌<◌, false, List, get_or, sym, subst, ap, inl, inr, refl, arith}
 use Rattle.std.specs.Prelude.{ℤ, ◌<ℤ◌}
 use Rattle.std.specs.List.{AllPairs}
 use Rattle.std.specs.List.Sorted.{IsSortedBy}
 use Rattle.std.specs.Ordering.{nat_cmp, int_cmp, ordering_then, is_lt, on, then_cmp}
 use Rattle.std.proofs.lemmas.Cmp.{by_ranked, ranked, int_ranked, then_total, on_total, nat_cmp_total, int_cmp_total}
 use Rattle.std.proofs.lemmas.List.Sorted.{sorted_far, ranks_by}
-use Rattle.std.proofs.lemmas.Int.{ints}
 use Rattle.rail_types.specs.declared.entries.Owner.{Owner}
 use Rattle.rail_types.specs.declared.entries.Owner.TheVariants.{Base, Entry}
 use Rattle.rail_types.specs.Occupation.{HeldClaim}
@@ -22,10 +21,10 @@ not_less a b test = by_ranked (b < a) (b ≡ a) (a < b) (nat_cmp b a) (ranked b 
     (λ greater higher. inl higher)
 
 pub owners_sorted : (a b : Owner) → is_lt (ordering_then (nat_cmp (key_of b).0 (key_of a).0) (nat_cmp (key_of b).1 (key_of a).1)) ≡ false → OwnerBefore a b ⊎ (a ≡ b)
-owners_sorted (Base a) (Base b) test = elim (not_less a b test) [ | inl less ↦ inl less | inr same ↦ inr (ap Base same) ]
+owners_sorted (Base a) (Base b) test = elim (not_less a b test) [ inl less ↦ inl less | inr same ↦ inr (ap Base same) ]
 owners_sorted (Base a) (Entry b) test = inl tt
 owners_sorted (Entry a) (Base b) test = let t : is_lt Less ≡ false = test in absurd (cc)
-owners_sorted (Entry a) (Entry b) test = elim (not_less a b test) [ | inl less ↦ inl less | inr same ↦ inr (ap Entry same) ]
+owners_sorted (Entry a) (Entry b) test = elim (not_less a b test) [ inl less ↦ inl less | inr same ↦ inr (ap Entry same) ]
 
 pub sorted_by_owner : (taken : List HeldClaim) → IsSortedBy (λ one other. is_lt (ordering_then (nat_cmp (key_of one.1).0 (key_of other.1).0) (nat_cmp (key_of one.1).1 (key_of other.1).1))) taken → AllPairs OwnerNoLater taken
 sorted_by_owner taken sorted i j other before within = owners_sorted (get_or taken i other).1 (get_or taken j other).1 (sorted_far (λ (one : HeldClaim) (other : HeldClaim). is_lt (ordering_then (nat_cmp (key_of one.1).0 (key_of other.1).0) (nat_cmp (key_of one.1).1 (key_of other.1).1))) (ranks_by {R = then_cmp (on (λ p. p.0) nat_cmp) (on (λ p. p.1) nat_cmp)} (then_total (on_total (λ (p : ℕ × ℕ). p.0) nat_cmp_total) (on_total (λ (p : ℕ × ℕ). p.1) nat_cmp_total)) (λ (one : HeldClaim). key_of one.1)) taken sorted i j other (omega arith) within)

@@ -1,5 +1,5 @@
 -- *inside*: what the private calls of a selection hand to one another.
-use Rattle.std.specs.Prelude.{◌≡◌, ◌≢◌, ℕ, ◌⊎◌, ◌<ℤ◌, Bool, ◌&&◌, nat_le, List, All, AllPairs, Any, Contains, ◌↔◌}
+use Rattle.std.specs.Prelude.{◌≡◌, ◌≢◌, ℕ, ◌⊎◌, ◌<ℤ◌, Bool, ◌&&◌, nat_le, List, All, AllPairs, Contains, ◌↔◌}
 use Rattle.rail_types.specs.declared.entries.Entry.{Entry as entry_type}
 use Rattle.rail_types.specs.declared.entries.Owner.{Owner}
 use Rattle.rail_types.specs.declared.entries.Owner.TheVariants.{Base, Entry}

@@ -1,6 +1,4 @@
-use Rattle.std.proofs.Common.{◌≡◌, ◌≢◌, ◌∙◌, ◌<◌, rules, length, take, take_all, get_or, arith, sym, subst, ap, All}
-use Rattle.rail_types.specs.declared.entries.Owner.{Owner}
-use Rattle.rail_types.specs.Occupation.{HeldClaim}
+use Rattle.std.proofs.Common.{◌∙◌, rules, length, take_all, arith, sym, subst, All}
 use Rattle.stretch_trains.specs.Inside.{IsOf}
 use Rattle.stretch_trains.proofs.Grouping.{parted_at, parted_from}
 use Rattle.stretch_trains.proofs.groups.count_of_first.Goals as goal
