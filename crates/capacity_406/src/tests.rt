@@ -8,7 +8,7 @@ use rail_types::{Claim, FAR_TICK, List, Owner, Span};
 use std::alloc::Global;
 use std::test::Fail;
 
-fn train(alloc: Global, number: u32, claims: &[(u32, i64, i64)]) -> Result<Occupied, NoMemory> {
+fn train(alloc: Global, at: u64, claims: &[(u32, i64, i64)]) -> Result<Occupied, NoMemory> {
     let mut all = List::new(alloc);
     for (zone, from, to) in claims {
         all.push(Claim {
@@ -20,7 +20,7 @@ fn train(alloc: Global, number: u32, claims: &[(u32, i64, i64)]) -> Result<Occup
         })?;
     }
     Ok(Occupied {
-        owner: Owner::Base(number),
+        owner: Owner::Entry(at),
         claims: all,
     })
 }
@@ -53,7 +53,7 @@ fn shifts_are(
 ) -> Result<bool, CapacityFault> {
     let mut trains = Vec::new(alloc);
     for row in rows {
-        trains.push(train(alloc, trains.len() as u32, row)?)?;
+        trains.push(train(alloc, trains.len() as u64, row)?)?;
     }
     Ok(tells(&compressed(alloc, &trains)?, shifts, chain))
 }
@@ -62,7 +62,7 @@ fn shifts_are(
 #[test]
 fn trains_follow_where_the_narrowest_zone_lets_them(rt: HostRuntime) -> Result<(), Fail> {
     let alloc = rt.alloc();
-    // The second train is 94 ticks behind the first: 75, 61 and 66 ticks are free on the three zones.
+    // The second train is 94 ticks behind the first: 75, 61 and 66 ticks are free on the zones.
     assert!(rt;
         shifts_are(
             alloc,
@@ -130,7 +130,8 @@ fn bounds_that_go_round_are_kept(rt: HostRuntime) -> Result<(), Fail> {
             &[link(2, 0, 0), link(0, 0, 20), link(1, 0, 30)]
         )?
     );
-    // They have 20 ticks on the one zone and 30 on the other: the first is kept by the third, the second by the first.
+    // They have 20 ticks on the one zone and 30 on the other: the first is kept by the third, the
+    // second by the first.
     assert!(rt;
         shifts_are(
             alloc,
