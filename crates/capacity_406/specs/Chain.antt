@@ -6,8 +6,10 @@ use Rattle.capacity_406.specs.declared.trains.Link.{Link}
 use Rattle.capacity_406.specs.Trains.{Has, IsStart, IsFirstClaim, claims_of}
 use Rattle.capacity_406.specs.Compression.{after, IsLastStart}
 
--- the link names the zone of that claim of its train, and the tick at which it begins after the shifts
-pub record Names (trains : List Occupied) (shifts : List ℤ) (link : Link) (claim : Claim) : Type 0 where
+-- the link names the zone of that claim of its train, and the tick at which it begins after the
+-- shifts
+pub record Names (trains : List Occupied) (shifts : List ℤ) (link : Link) (claim : Claim)
+    : Type 0 where
   pub has : Has trains link.train claim
   pub zone : claim.zone ≡ link.zone
   pub at : (after shifts link.train claim).from ≡ link.at
@@ -19,7 +21,8 @@ IsFirstLink trains shifts link =
     IsFirstClaim (claims_of trains link.train) claim × IsStart trains link.at
 
 -- a claim of another train, which begins where one of the train before, on the same zone, ends
-pub record IsNextLink (trains : List Occupied) (shifts : List ℤ) (before : ℕ) (link : Link) : Type 0 where
+pub record IsNextLink (trains : List Occupied) (shifts : List ℤ) (before : ℕ) (link : Link)
+    : Type 0 where
   pub two : before ≢ link.train
   pub claim : Claim
   pub names : Names trains shifts link claim
@@ -34,7 +37,8 @@ LeadOn trains shifts train [] = (last : ℤ) × IsLastStart trains shifts train 
 LeadOn trains shifts train (next ∷ rest) =
     IsNextLink trains shifts train next × LeadOn trains shifts next.train rest
 
--- a chain from a train at the least first begin to one with the last start; none where there is no train
+-- a chain from a train at the least first begin to one with the last start; none where there is no
+-- train
 abbrev pub IsChain : List Occupied → List ℤ → List Link → Type 0
 IsChain trains shifts [] = trains ≡ []
 IsChain trains shifts (first ∷ rest) =

@@ -1,5 +1,6 @@
 -- Trains that stand in a timetable, and their claims.
-use Rattle.std.specs.Prelude.{◌≡◌, ◌≢◌, ℕ, ◌<◌, ◌≤◌, ◌⊎◌, ℤ, ◌<ℤ◌, ◌≤ℤ◌, List, [], length, slice_index_or, All, Contains}
+use Rattle.std.specs.Prelude.{◌≡◌, ◌≢◌, ℕ, ◌<◌, ◌≤◌, ◌⊎◌, ℤ, ◌<ℤ◌, ◌≤ℤ◌, List, [], length}
+use Rattle.std.specs.Prelude.{slice_index_or, All, Contains}
 use Rattle.rail_types.specs.declared.paths.Claim.{Claim}
 use Rattle.rail_types.specs.declared.entries.Owner.{Owner}
 use Rattle.rail_types.specs.declared.entries.Owner.TheVariants.{Base}
@@ -24,7 +25,8 @@ Has trains train claim = Contains (claims_of trains train) claim
 -- begins before the other, or at the same tick on no higher zone
 abbrev pub BeginsFirst : Claim → Claim → Type 0
 BeginsFirst one other =
-    (one.span.from <ℤ other.span.from) ⊎ ((one.span.from ≡ other.span.from) × (one.zone ≤ other.zone))
+    (one.span.from <ℤ other.span.from)
+    ⊎ ((one.span.from ≡ other.span.from) × (one.zone ≤ other.zone))
 
 -- the claim of the list that begins first, of the lowest zone at a tie
 abbrev pub IsFirstClaim : List Claim → Claim → Type 0

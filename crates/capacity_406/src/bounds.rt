@@ -1,11 +1,16 @@
 //! The least shifts.
 
-ghost use Rattle.std.specs.Prelude.{◌≡◌, ℕ, ◌+◌, ◌<◌, ◌≤◌, ◌^◌, ◌+ℤ◌, ◌≤ℤ◌, ◌<ℤ◌, ℤ, pos, neg_ℤ, length, slice_index_or, All, IfOk, Some, None, ◌-ℤ◌, vec_len, IsTrue, ◌↔◌};
+ghost use Rattle.std.specs.Prelude.{◌≡◌, ℕ, ◌+◌, ◌<◌, ◌≤◌, ◌^◌, ◌+ℤ◌, ◌≤ℤ◌, ◌<ℤ◌, ℤ, pos, neg_ℤ};
+ghost use Rattle.std.specs.Prelude.{length, slice_index_or, All, IfOk, Some, None, ◌-ℤ◌, vec_len};
+ghost use Rattle.std.specs.Prelude.{IsTrue, ◌↔◌};
 ghost use Rattle.std.specs.List.{AllPairs};
 ghost use Rattle.rail_types.specs.declared.limits.TheConstants.{FAR_TICK as far};
 ghost use Rattle.rail_types.specs.Limits.{IsNear};
 ghost use Rattle.capacity_406.specs.Trains.{AreBeside, Has, IsFirstClaim, IsSound, IsStart};
-ghost use Rattle.capacity_406.specs.Inside.{AreBounds, AreFirsts, AreLeast, AreStarted, IsCount, IsSettling, AreClear, AreShort, AreTaken, Clears, IsBehind, IsBehindIt, IsClear, IsRaised, KeepsShort, Rise, place_at, taken_by};
+ghost use Rattle.capacity_406.specs.Inside.{AreBounds, AreFirsts, AreLeast, AreStarted, IsCount};
+ghost use Rattle.capacity_406.specs.Inside.{IsSettling, AreClear, AreShort, AreTaken, Clears};
+ghost use Rattle.capacity_406.specs.Inside.{IsBehind, IsBehindIt, IsClear, IsRaised, KeepsShort};
+ghost use Rattle.capacity_406.specs.Inside.{Rise, place_at, taken_by};
 
 use crate::claims::{Taken, next_taken};
 use crate::firsts::first_claim;
@@ -50,7 +55,11 @@ fn started(alloc: Global, firsts: &[Claim], earliest: &Claim) -> Result<Vec<Plac
 
 fn started_place(first: &Claim, earliest: &Claim) -> Place
     requires near { IsNear first.now.span.from × IsNear earliest.now.span.from }
-    ensures { result ≡ record { shift = earliest.now.span.from -ℤ first.now.span.from; links = 0; cause = None } }
+    ensures { result ≡ record {
+      shift = earliest.now.span.from -ℤ first.now.span.from;
+      links = 0;
+      cause = None;
+    } }
 {
     Place {
         shift: earliest.span.from - first.span.from,
@@ -70,7 +79,8 @@ fn numbers(alloc: Global, count: u32) -> Result<Vec<u32>, NoMemory>
     Ok(all)
 }
 
-// Settles one waiting train after the other, each time the one with the greatest shift: no other can shift it on.
+// Settles one waiting train after the other, each time the one with the greatest shift: no other
+// can shift it on.
 fn settle_all(trains: &[Occupied], taken: &[Taken], waiting: &mut Vec<u32>, places: &mut [Place])
     requires beside { AreBeside trains.now }
     requires taken { AreTaken trains.now taken.now }
@@ -102,7 +112,8 @@ fn last_waiting(waiting: &[u32], places: &[Place]) -> usize
     requires some { 0 < length waiting.now }
     requires places { All (λ train. train < length places.now) waiting.now }
     ensures bound { result < length waiting.now }
-    ensures last { All (λ train. (place_at places.now train).shift ≤ℤ (place_at places.now (slice_index_or waiting.now result 0)).shift) waiting.now }
+    ensures last { All (λ train. (place_at places.now train).shift
+        ≤ℤ (place_at places.now (slice_index_or waiting.now result 0)).shift) waiting.now }
 {
     let mut last = 0;
     for at in 0..waiting.len() {
@@ -169,7 +180,8 @@ fn clear(trains: &[Occupied], taken: &[Taken], places: &mut [Place], one: &Taken
 fn raise(places: &mut [Place], earlier: &Taken, next: &Taken)
     requires sound { IsSound earlier.now.claim × IsSound next.now.claim }
     requires behind { IsBehind earlier.now.claim next.now }
-    requires trains { (earlier.now.train < length places.old) × (next.now.train < length places.old) }
+    requires trains { (earlier.now.train < length places.old)
+        × (next.now.train < length places.old) }
     requires near { neg_ℤ (far +ℤ far) ≤ℤ (place_at places.old next.now.train).shift }
     requires near_earlier { neg_ℤ (far +ℤ far) ≤ℤ (place_at places.old earlier.now.train).shift }
     requires early { (place_at places.old earlier.now.train).shift ≤ℤ pos 0 }

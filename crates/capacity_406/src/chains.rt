@@ -1,11 +1,13 @@
 //! The chain of trains that keeps the last start from being earlier.
 
-ghost use Rattle.std.specs.Prelude.{◌≡◌, ◌↔◌, ℕ, ◌<◌, ◌^◌, ℤ, ◌+ℤ◌, ◌<ℤ◌, ◌≤ℤ◌, length, map, All, IfOk, IsTrue};
+ghost use Rattle.std.specs.Prelude.{◌≡◌, ◌↔◌, ℕ, ◌<◌, ◌^◌, ℤ, ◌+ℤ◌, ◌<ℤ◌, ◌≤ℤ◌, length, map, All};
+ghost use Rattle.std.specs.Prelude.{IfOk, IsTrue};
 ghost use Rattle.rail_types.specs.Limits.{IsNear};
 ghost use Rattle.capacity_406.specs.Trains.{AreBeside};
 ghost use Rattle.capacity_406.specs.Compression.{IsLastStart};
 ghost use Rattle.capacity_406.specs.Chain.{IsChain};
-ghost use Rattle.capacity_406.specs.Inside.{AreHeld, IsNearShift, begin_at, first_of, link_of, place_at, shifts_of};
+ghost use Rattle.capacity_406.specs.Inside.{AreHeld, IsNearShift, begin_at, first_of, link_of};
+ghost use Rattle.capacity_406.specs.Inside.{place_at, shifts_of};
 
 use crate::firsts::first_claim;
 use crate::places::Place;
@@ -58,7 +60,8 @@ pub(crate) fn last_train(firsts: &[Claim], places: &[Place]) -> u32
     requires near { All (λ first. IsNear first.span.from) firsts.now }
     requires shifts { (train : ℕ) → IsNearShift (place_at places.now train).shift }
     ensures bound { result < length firsts.now }
-    ensures last { (train : ℕ) → train < length firsts.now → begin_at firsts.now places.now train ≤ℤ begin_at firsts.now places.now result }
+    ensures last { (train : ℕ) → train < length firsts.now →
+        begin_at firsts.now places.now train ≤ℤ begin_at firsts.now places.now result }
 {
     let mut last = 0u32;
     for train in 0..firsts.len() as u32 {

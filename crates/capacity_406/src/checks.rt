@@ -25,7 +25,8 @@ pub(crate) fn are_beside(trains: &[Occupied]) -> bool
 fn fits_all(trains: &[Occupied], train: u32) -> bool
     requires train { train < length trains.now }
     requires few { length trains.now < 2 ^ 32 }
-    ensures { IsTrue result → (other : ℕ) → other < length trains.now → train ≢ other → Fits (train_claims trains.now train) (train_claims trains.now other) }
+    ensures { IsTrue result → (other : ℕ) → other < length trains.now → train ≢ other →
+        Fits (train_claims trains.now train) (train_claims trains.now other) }
 {
     for other in 0..trains.len() as u32 {
         if other != train && !fits(claims_of(trains, train), claims_of(trains, other)) {

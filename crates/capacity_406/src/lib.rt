@@ -1,5 +1,5 @@
-//! How much of a stretch's time its trains take, after UIC Code 406: all trains begin as early as their order on the
-//! zones lets them.
+//! How much of a stretch's time its trains take, after UIC Code 406: all trains begin as early as
+//! their order on the zones lets them.
 #![tactic(auto)]
 
 mod bounds;

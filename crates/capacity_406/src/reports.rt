@@ -1,18 +1,24 @@
 //! The text of a capacity.
 
-ghost use Rattle.std.specs.Prelude.{◌≡◌, ◌+◌, ◌<◌, ◌≤◌, ◌^◌, ◌++◌, ◌-ℤ◌, ◌<ℤ◌, ◌≤ℤ◌, ℕ, ◌↔◌, pos, codes, length, min, All, IsErr, IfErr, IfOk, IsTrue, OnOk};
+ghost use Rattle.std.specs.Prelude.{◌≡◌, ◌+◌, ◌<◌, ◌≤◌, ◌^◌, ◌++◌, ◌-ℤ◌, ◌<ℤ◌, ◌≤ℤ◌, ℕ, ◌↔◌, pos};
+ghost use Rattle.std.specs.Prelude.{codes, length, min, All, IsErr, IfErr, IfOk, IsTrue, OnOk};
 ghost use Rattle.std.specs.List.{flat_map};
 ghost use Rattle.rail_types.specs.Limits.{IsNearSpan};
 ghost use Rattle.rail_types.specs.declared.limits.TheConstants.{FAR_TICK};
 ghost use Rattle.rail_types.specs.declared.paths.Claim.{Claim as claim_type};
 ghost use Rattle.capacity_406.specs.declared.TheConstants.{MAX_TRAINS as max_trains};
-ghost use Rattle.capacity_406.specs.declared.trains.CapacityFault.TheVariants.{Many as many_of, Memory as memory};
+ghost use Rattle.capacity_406.specs.declared.trains.CapacityFault.TheVariants.{Many as many_of};
+ghost use Rattle.capacity_406.specs.declared.trains.CapacityFault.TheVariants.{Memory as memory};
 ghost use Rattle.capacity_406.specs.Trains.{AreBeside, AreOwnApart, IsFirstClaim};
 ghost use Rattle.capacity_406.specs.Compression.{IsLeastCompression};
 ghost use Rattle.capacity_406.specs.Chain.{IsChain};
-ghost use Rattle.capacity_406.specs.Report.{IsCapacityText, capacity_text, chain_text, first_line, head_line, later_line, link_lines, new_line, numbered, owner_at as owner_of_link, owner_text, rate_of, ticked, time_text, train_line, window_text, zones_text};
+ghost use Rattle.capacity_406.specs.Report.{IsCapacityText, capacity_text, chain_text, first_line};
+ghost use Rattle.capacity_406.specs.Report.{head_line, later_line, link_lines, new_line, numbered};
+ghost use Rattle.capacity_406.specs.Report.{owner_at as owner_of_link, owner_text, rate_of, ticked};
+ghost use Rattle.capacity_406.specs.Report.{time_text, train_line, window_text, zones_text};
 ghost use Rattle.capacity_406.specs.Inside.{IsNearShift};
-ghost use Rattle.capacity_406.specs.Telling.{AreToldBy, IsTimeBetween, IsTimeOf, ends_at, moved_by, span_of, told_by};
+ghost use Rattle.capacity_406.specs.Telling.{AreToldBy, IsTimeBetween, IsTimeOf, ends_at, moved_by};
+ghost use Rattle.capacity_406.specs.Telling.{span_of, told_by};
 
 use crate::compress;
 use crate::firsts::{first_claim, firsts_of};
@@ -30,9 +36,10 @@ pub(crate) struct Told {
     pub(crate) shift: i64,
 }
 
-/// The text of the capacity of a stretch, for the trains that run on it, in the order in which they are told (UIC Code
-/// 406): the time that they occupy after a compression and the rate of that to the window, a line for each train with
-/// its begin and its shift, and a chain that shows why the last start can't be earlier.
+/// The text of the capacity of a stretch, for the trains that run on it, in the order in which they
+/// are told (UIC Code 406): the time that they occupy after a compression and the rate of that to
+/// the window, a line for each train with its begin and its shift, and a chain that shows why the
+/// last start can't be earlier.
 ///
 /// `Many` comes exactly for more than `MAX_TRAINS` trains; its count stops at the greatest `u32`.
 pub fn capacity_of(
@@ -114,7 +121,8 @@ fn told_of_train(train: &Occupied, first: &Claim, shift: &i64) -> Told
     }
 }
 
-// The time from the least first begin to the greatest end of a first claim after the shifts; 0 without trains.
+// The time from the least first begin to the greatest end of a first claim after the shifts; 0
+// without trains.
 #[tactic(auto, using(crate::proofs::Telling::time_of_none, crate::proofs::Telling::time_of_any))]
 fn occupied_time(firsts: &[Claim], shifts: &[i64]) -> u64
     requires few { length firsts.now < 2 ^ 32 }
@@ -362,7 +370,8 @@ fn push_first(to: &mut Vec<u8>, told: &[Told], link: &Link) -> Result<(), NoMemo
 
 fn push_links(to: &mut Vec<u8>, told: &[Told], links: &[Link]) -> Result<(), NoMemory>
     requires trains { All (λ link. link.train < length told.now) links.now }
-    ensures { OnOk result (to.new.items ≡ to.old.items ++ flat_map (later_line told.now) links.now) }
+    ensures { OnOk result
+        (to.new.items ≡ to.old.items ++ flat_map (later_line told.now) links.now) }
 {
     for link in links {
         push_link(to, told, link)?;

@@ -1,5 +1,6 @@
 -- *inside*: what the private calls of a selection hand to one another.
-use Rattle.std.specs.Prelude.{◌≡◌, ◌≢◌, ℕ, ◌⊎◌, ◌<ℤ◌, Bool, ◌&&◌, nat_le, List, All, AllPairs, Contains, ◌↔◌}
+use Rattle.std.specs.Prelude.{◌≡◌, ◌≢◌, ℕ, ◌⊎◌, ◌<ℤ◌, Bool, ◌&&◌, nat_le, List, All, AllPairs}
+use Rattle.std.specs.Prelude.{Contains, ◌↔◌}
 use Rattle.rail_types.specs.declared.entries.Entry.{Entry as entry_type}
 use Rattle.rail_types.specs.declared.entries.Owner.{Owner}
 use Rattle.rail_types.specs.declared.entries.Owner.TheVariants.{Base, Entry}
@@ -49,7 +50,8 @@ abbrev pub HasAllOf : List HeldClaim → Standing → Type 0
 HasAllOf taken one = (claim : Claim) → Contains one.claims claim ↔ Contains taken (claim, one.owner)
 
 -- the trains among these claims that have one which begins in the window, each once
-pub record AreGrouped (stretch : Stretch) (taken : List HeldClaim) (standing : List Standing) : Type 0 where
+pub record AreGrouped (stretch : Stretch) (taken : List HeldClaim) (standing : List Standing)
+    : Type 0 where
   pub claims : All (HasAllOf taken) standing
   pub first : All (λ one. IsFirstClaim one.claims one.first) standing
   pub trains_run : All (λ one. Runs stretch one.claims) standing

@@ -26,7 +26,8 @@ grants (Some entry) = is_grant entry.deed
 abbrev pub grants_at : List entry_type → ℕ → Bool
 grants_at entries at = grants (slice_get entries at)
 
--- whether an owner is a train: one of the base timetable, or an entry that grants a path; a hold is none
+-- whether an owner is a train: one of the base timetable, or an entry that grants a path; a hold
+-- is none
 abbrev pub is_train : List entry_type → Owner → Bool
 is_train entries (Base train) = true
 is_train entries (Entry at) = grants_at entries at

@@ -1,6 +1,7 @@
 //! Claims gathered by their owners.
 
-ghost use Rattle.std.specs.Prelude.{◌≡◌, ◌<◌, ◌≤◌, ◌++◌, ◌∷◌, [], ◌⊎◌, ◌↔◌, length, map, take, drop, All, AllPairs, IfOk, IsTrue, OnOk};
+ghost use Rattle.std.specs.Prelude.{◌≡◌, ◌<◌, ◌≤◌, ◌++◌, ◌∷◌, [], ◌⊎◌, ◌↔◌, length, map, take};
+ghost use Rattle.std.specs.Prelude.{drop, All, AllPairs, IfOk, IsTrue, OnOk};
 ghost use Rattle.rail_types.specs.declared.entries.Owner.{Owner as owner_type};
 ghost use Rattle.capacity_406.specs.Selecting.{BeginsWithin};
 ghost use Rattle.capacity_406.specs.Trains.{IsFirstClaim};

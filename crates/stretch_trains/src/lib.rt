@@ -1,4 +1,5 @@
-//! The trains that run on a stretch in a history: those of the base timetable and of the grants that stand.
+//! The trains that run on a stretch in a history: those of the base timetable and of the grants
+//! that stand.
 #![tactic(auto)]
 
 mod groups;

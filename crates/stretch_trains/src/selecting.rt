@@ -15,9 +15,10 @@ use no_memory::NoMemory;
 use rail_types::{Claim, Deed, Owner};
 use std::alloc::Global;
 
-/// The trains that run on a stretch in a history, with all their claims on its zones: those of the base timetable and
-/// of the grants that stand, which have a claim there that begins in its window. They are in the order of their first
-/// begin, then trains of the base timetable before grants, then by number. Holds are no trains.
+/// The trains that run on a stretch in a history, with all their claims on its zones: those of the
+/// base timetable and of the grants that stand, which have a claim there that begins in its window.
+/// They are in the order of their first begin, then trains of the base timetable before grants,
+/// then by number. Holds are no trains.
 pub fn trains_on(
     alloc: Global,
     history: &History,
