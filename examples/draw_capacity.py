@@ -55,6 +55,11 @@ def read_claims(arguments):
     return claims
 
 
+def first_zone(claims, zones):
+    """The zone of the claim that begins first on these zones, the lowest at a tie."""
+    return min((start, zone) for zone, start, end in claims if zone in zones)[1]
+
+
 def panel(left, title, head, trains, claims, links, shifted, scale):
     """One timetable: its frame, a box for each claim, and the chain where the trains are shifted."""
     zones = range(head["first"], head["last"] + 1)
@@ -75,7 +80,10 @@ def panel(left, title, head, trains, claims, links, shifted, scale):
                            '<title>%s zone %d from %d to %d</title></rect>'
                            % (x, y, WIDTH - 8, tall, COLOURS[number % len(COLOURS)], edge, owner, zone, start + moved, end + moved))
     if shifted:
-        points = [(left + (zone - head["first"] + 0.5) * WIDTH, scale(at)) for _, zone, at in links if zone is not None]
+        points = []
+        for owner, zone, at in links:
+            place = first_zone(claims[owner], zones) if zone is None else zone
+            points.append((left + (place - head["first"] + 0.5) * WIDTH, scale(at)))
         if points:
             out.append('<polyline points="%s" fill="none" stroke="#222" stroke-width="2"/>'
                        % " ".join("%.1f,%.1f" % point for point in points))
