@@ -7,3 +7,6 @@ mod orders;
 mod selecting;
 
 pub use selecting::trains_on;
+
+#[cfg(test)]
+mod tests;
