@@ -1,0 +1,4 @@
+pub mod Owners
+pub mod Grouping
+pub mod Sorting
+pub mod Selected
