@@ -32,26 +32,23 @@ pub(crate) fn obey<O: Outside>(alloc: Global, order: Order, outside: &mut O) -> 
             network,
             base,
             journal,
-            from: None,
-        } => run_init(
-            alloc,
-            network.as_str(),
-            base.as_str(),
-            journal.as_str(),
-            outside,
-        ),
-        Order::Init {
-            network,
-            base,
-            journal,
-            from: Some(from),
-        } => run_move(
-            alloc,
-            network.as_str(),
-            base.as_str(),
-            journal.as_str(),
-            from.as_str(),
-            outside,
-        ),
+            from,
+        } => match from {
+            None => run_init(
+                alloc,
+                network.as_str(),
+                base.as_str(),
+                journal.as_str(),
+                outside,
+            ),
+            Some(from) => run_move(
+                alloc,
+                network.as_str(),
+                base.as_str(),
+                journal.as_str(),
+                from.as_str(),
+                outside,
+            ),
+        },
     }
 }

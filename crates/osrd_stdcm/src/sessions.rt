@@ -1,6 +1,6 @@
 //! Words that spell no order.
 
-ghost use Rattle.std.specs.Prelude.{◌≡◌, ◌≢◌, ◌⊎◌, map, string_bytes};
+ghost use Rattle.std.specs.Prelude.{◌≡◌, ◌⊎◌, ◌↔◌, IsTrue, map, string_bytes};
 ghost use Rattle.outside_io.specs.Openings.{Undisturbed};
 ghost use Rattle.outside_io.specs.Places.{Untouched};
 ghost use Rattle.file_rounds.specs.Scenes.{scene};
@@ -31,10 +31,16 @@ pub(crate) fn hold_or_refuse<R: AllocGlobal, O: Outside>(
     ensures disks { Untouched (O.disks outside.old) (O.disks outside.new) }
 {
     let status = hold_session::run(rt, words, outside);
-    if !matches!(status, Status::Words) {
+    if !is_words(status) {
         return status;
     }
     refuse_words(rt.alloc(), outside)
+}
+
+fn is_words(status: Status) -> bool
+    ensures { IsTrue result ↔ (status ≡ Status.Words) }
+{
+    matches!(status, Status::Words)
 }
 
 // Reports that the words are not understood.
