@@ -144,16 +144,18 @@ base_done : {Src Snk Dsk : Type 0} (source : Sources Src) (network base : List �
     → ReadsBase source base Last file between new (Ok status) → IsAllDone source network base Last old new status
 base_done source network base Last last file old between new status read (inl stopped) = absurd stopped
 base_done source network base Last last file old between new status read (inr goes) =
-    let is = last.done file goes.given goes.between new status goes.next in
-    (is, record {
-      network_file = file;
-      base_file = goes.given;
-      first = between;
-      second = goes.between;
-      read_network = read;
-      read_base = goes.first;
-      last = subst (λ (s : Status). Last file goes.given goes.between new (Ok s)) is goes.next;
-    })
+    let is = last.done file goes.given goes.between new status goes.next in (
+      is,
+      record {
+        network_file = file;
+        base_file = goes.given;
+        first = between;
+        second = goes.between;
+        read_network = read;
+        read_base = goes.first;
+        last = subst (λ (s : Status). Last file goes.given goes.between new (Ok s)) is goes.next;
+      },
+    )
 
 reads_done : {Src Snk Dsk : Type 0} (source : Sources Src) (network base : List ℕ) (Last : StepOver Src Snk Dsk) → LastEnds Last → (old new : Scene Src Snk Dsk) (status : Status) → ReadsBoth source network base Last old new (Ok status)
     → IsAllDone source network base Last old new status

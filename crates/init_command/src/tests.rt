@@ -7,7 +7,8 @@ use outside_io::{MemDisk, MemOutside, MemSink, MemSource};
 use std::alloc::Global;
 use std::test::Fail;
 
-const BASE: &str = "{\"tick_s\":10,\"setting\":1,\"release\":1,\"horizon\":17280,\"journal_bytes\":268435456,\"trains\":[]}";
+const BASE: &str =
+    "{\"tick_s\":10,\"setting\":1,\"release\":1,\"horizon\":17280,\"journal_bytes\":268435456,\"trains\":[]}";
 
 // The SHA-256 digest of the network's file `{}`.
 const NETWORK_DIGEST: [u8; 32] = [
@@ -81,9 +82,33 @@ fn each_refusal_to_begin_has_its_report(rt: HostRuntime) -> Result<(), Fail> {
             "journal: not empty 77\n",
             begun.as_slice(),
         ),
-        ("1.2.3", BASE, none, 9, Status::Network, "network: not-json\n", none),
-        ("{}", "{}", none, 9, Status::Base, "base: missing tick_s\n", none),
-        ("[]", "{}", none, 9, Status::Network, "network: kind file\n", none),
+        (
+            "1.2.3",
+            BASE,
+            none,
+            9,
+            Status::Network,
+            "network: not-json\n",
+            none,
+        ),
+        (
+            "{}",
+            "{}",
+            none,
+            9,
+            Status::Base,
+            "base: missing tick_s\n",
+            none,
+        ),
+        (
+            "[]",
+            "{}",
+            none,
+            9,
+            Status::Network,
+            "network: kind file\n",
+            none,
+        ),
         ("{}", BASE, none, 0, Status::Opening, "open: net\n", none),
         ("{}", BASE, none, 1, Status::Opening, "open: base\n", none),
         ("{}", BASE, none, 2, Status::Opening, "open: new\n", none),
@@ -118,7 +143,14 @@ fn each_refusal_to_move_has_its_report(rt: HostRuntime) -> Result<(), Fail> {
     let first = journal(alloc, 1)?;
     let none: &[u8] = &[];
     for (old, bytes, failing, status, report, left) in [
-        (first.as_slice(), none, 9, Status::Done, "", begun.as_slice()),
+        (
+            first.as_slice(),
+            none,
+            9,
+            Status::Done,
+            "",
+            begun.as_slice(),
+        ),
         (
             first.as_slice(),
             begun.as_slice(),
@@ -136,8 +168,22 @@ fn each_refusal_to_move_has_its_report(rt: HostRuntime) -> Result<(), Fail> {
             "from: not a journal at 11\n",
             none,
         ),
-        (first.as_slice(), none, 2, Status::Opening, "open: new\n", none),
-        (first.as_slice(), none, 3, Status::Opening, "open: old\n", none),
+        (
+            first.as_slice(),
+            none,
+            2,
+            Status::Opening,
+            "open: new\n",
+            none,
+        ),
+        (
+            first.as_slice(),
+            none,
+            3,
+            Status::Opening,
+            "open: old\n",
+            none,
+        ),
     ] {
         let disk = MemDisk::new(alloc, Vec::from_slice(alloc, bytes)?, 100, Vec::new(alloc))?;
         let mut outside = outside_of(alloc, "{}", BASE, disk, failing)?;

@@ -1,5 +1,5 @@
 -- What a run of `list` comes to.
-use Rattle.std.proofs.Common.{◌≡◌, ◌≢◌, ◌∙◌, ◌⊎◌, ℕ, List, [], ◌∷◌, Result, Ok, Err, inl, inr, refl, sym, subst, ap}
+use Rattle.std.proofs.Common.{◌≡◌, ◌≢◌, ◌∙◌, ◌⊎◌, ℕ, List, [], ◌∷◌, Result, Ok, Err, inl, inr, refl, sym, subst}
 use Rattle.outside_io.specs.Openings.{Undisturbed, source_at, sink_at}
 use Rattle.outside_io.specs.Places.{Untouched}
 use Rattle.outside_io.specs.declared.sinks.Sink.{Ghosts as Sinks}
@@ -12,13 +12,12 @@ use Rattle.named_network.specs.declared.Named.{Named}
 use Rattle.stairway_print.specs.Networks.{network_text}
 use Rattle.command_reports.specs.Refusals.{status_of}
 use Rattle.command_reports.specs.Reports.{EndSays}
-use Rattle.command_reports.specs.Works.{Follows, KeepsTo, Makes, Runs}
+use Rattle.command_reports.specs.Works.{KeepsTo, Makes, Runs}
 use Rattle.command_reports.specs.declared.refusals.Refusal.{Refusal}
 use Rattle.command_reports.proofs.Ends.{ends_leave, runs_back, runs_disks}
 use Rattle.command_reports.proofs.Steps.{follows_clean, follows_keep, makes_keep}
 use Rattle.command_files.specs.Files.{HasNetworkFault, IsNetworkFile, NetworkStep}
 use Rattle.command_files.specs.Outs.{OutSays, OutStep, Writes}
-use Rattle.command_files.specs.Steps.{IsRead}
 use Rattle.command_files.specs.declared.files.FileKind.TheVariants as kind
 use Rattle.command_files.specs.declared.networks.NetworkFile.{NetworkFile}
 use Rattle.command_files.proofs.Kept.{file_keeps, out_keeps}
@@ -77,24 +76,27 @@ list_done source sink network out old between new file status step (inr part) = 
 list_done source sink network out old between new file status step (inl wrote) =
     let read = step.says in
     let writes = wrote.1 in
-    inl (wrote.0, record {
-      file = file;
-      read = record {
-        bytes = read.bytes;
-        reads = record {
-          opens = record { shut = read.reads.opens.shut; quiet = writes.opens.quiet ∙ read.reads.opens.quiet };
-          gave = rw (wrote.2 network) read.reads.gave;
+    inl (
+      wrote.0,
+      record {
+        file = file;
+        read = record {
+          bytes = read.bytes;
+          reads = record {
+            opens = record { shut = read.reads.opens.shut; quiet = writes.opens.quiet ∙ read.reads.opens.quiet };
+            gave = rw (wrote.2 network) read.reads.gave;
+          };
+          means = read.means;
         };
-        means = read.means;
-      };
-      wrote = record {
-        opens = record {
-          shut = λ is. writes.opens.shut (rw (step.only.standing (sink_at out)) is);
-          quiet = writes.opens.quiet ∙ read.reads.opens.quiet;
+        wrote = record {
+          opens = record {
+            shut = λ is. writes.opens.shut (rw (step.only.standing (sink_at out)) is);
+            quiet = writes.opens.quiet ∙ read.reads.opens.quiet;
+          };
+          took = rw (sym (step.only.sinks out)) writes.took;
         };
-        took = rw (sym (step.only.sinks out)) writes.took;
-      };
-    })
+      },
+    )
 
 list_ends : {Src Snk Dsk : Type 0} (source : Sources Src) (sink : Sinks Snk) (network out : List ℕ) (old new : Scene Src Snk Dsk) (status : Status) → ListWorks source sink network out old new (Ok status) → ListEnds source sink network out old new status
 list_ends source sink network out old new status (inl stopped) = absurd stopped
