@@ -1,5 +1,5 @@
 -- How words spell options.
-use Rattle.std.specs.Prelude.{◌≡◌, ◌≢◌, ◌⊎◌, ℕ, ◌<◌, Bool, List, [], ◌∷◌, ◌++◌, length, get_or, slice_get, Some, if◌then◌else◌}
+use Rattle.std.specs.Prelude.{◌≡◌, ◌≢◌, ◌⊎◌, ℕ, ◌<◌, Bool, List, [], ◌∷◌, ◌++◌, length, get_or, slice_get, Option, Some, None, if◌then◌else◌}
 use Rattle.std.specs.List.{list_all, list_any}
 use Rattle.std.specs.Str.{bytes_eq}
 
@@ -69,6 +69,11 @@ values_under option [] = []
 values_under option (setting ∷ settings) =
     if bytes_eq setting.option option then setting.value ∷ values_under option settings
     else values_under option settings
+
+-- a value, or none, as a list
+abbrev pub at_most_one : Option (List ℕ) → List (List ℕ)
+at_most_one None = []
+at_most_one (Some value) = value ∷ []
 
 -- the option is one of these
 abbrev pub is_among : List (List ℕ) → List ℕ → Bool

@@ -7,4 +7,4 @@ mod values;
 
 pub use faults::WordsFault;
 pub use settings::{Setting, read_settings};
-pub use values::{has_only, single_value, values_of};
+pub use values::{has_only, optional_value, single_value, values_of};

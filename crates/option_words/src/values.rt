@@ -1,9 +1,9 @@
 //! The values under an option.
 
-ghost use Rattle.std.specs.Prelude.{◌≡◌, ◌∷◌, [], List, ℕ, IfNone, IfOk, IfSome, IsErrOf, map};
+ghost use Rattle.std.specs.Prelude.{◌≡◌, ◌∷◌, [], List, ℕ, Option, IfNone, IfOk, IfSome, IsErrOf, map, option_map};
 ghost use Rattle.std.specs.List.{list_any};
 ghost use Rattle.std.specs.Str.{bytes_eq};
-ghost use Rattle.option_words.specs.Spelling.{are_among, is_among as among, values_under};
+ghost use Rattle.option_words.specs.Spelling.{are_among, at_most_one, is_among as among, values_under};
 
 use crate::faults::WordsFault;
 use crate::settings::Setting;
@@ -42,6 +42,26 @@ pub fn single_value<'a>(
     match only_value(values.as_slice()) {
         Some(value) => Ok(value),
         None => Err(WordsFault::NotUnderstood),
+    }
+}
+
+/// The value under an option that is given at most once: None where it is not given.
+pub fn optional_value<'a>(
+    alloc: Global,
+    option: &str,
+    settings: &[Setting<'a>],
+) -> Result<Option<&'a str>, WordsFault>
+    ensures once { IfOk result (λ value. values_under option.now settings.now
+        ≡ at_most_one (option_map (λ v. v.now) value)) }
+    ensures other { IsErrOf result WordsFault.NotUnderstood
+        → (value : Option (List ℕ)) → values_under option.now settings.now ≡ at_most_one value
+        → ⊥ }
+{
+    let values = values_of(alloc, option, settings)?;
+    match values.as_slice() {
+        [] => Ok(None),
+        [value] => Ok(Some(value)),
+        _ => Err(WordsFault::NotUnderstood),
     }
 }
 

@@ -1,0 +1,4 @@
+pub mod Works
+pub mod Disks
+pub mod Begins
+pub mod Moves

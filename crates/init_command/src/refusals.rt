@@ -1,0 +1,36 @@
+//! Refusals of disks.
+
+ghost use Rattle.std.specs.Prelude.{codes};
+ghost use Rattle.exit_status.specs.declared.Status.TheVariants.{DiskFault, Journal, Opening};
+ghost use Rattle.command_reports.specs.Refusals.{IsTold, line_with};
+ghost use Rattle.path_recover.specs.Texts.{not_empty_text as text_of_len};
+
+use command_reports::Refusal;
+use exit_status::Status;
+use no_memory::NoMemory;
+use path_recover::not_empty_text;
+use std::alloc::Global;
+
+/// A name could not be opened.
+pub(crate) fn not_opened(alloc: Global, name: &str) -> Refusal
+    ensures { IsTold Opening (line_with (codes "open: ") name.now) result }
+{
+    Refusal::with(alloc, Status::Opening, b"open: ", name.as_bytes())
+}
+
+/// The disk under a name failed.
+pub(crate) fn disk_failed(alloc: Global, name: &str) -> Refusal
+    ensures { IsTold DiskFault (line_with (codes "disk: ") name.now) result }
+{
+    Refusal::with(alloc, Status::DiskFault, b"disk: ", name.as_bytes())
+}
+
+/// The disk of the new journal has so many bytes.
+pub(crate) fn not_empty(alloc: Global, len: u64) -> Refusal
+    ensures { IsTold Journal (line_with (codes "journal: ") (text_of_len len)) result }
+{
+    match not_empty_text(alloc, len) {
+        Ok(text) => Refusal::with(alloc, Status::Journal, b"journal: ", text.as_slice()),
+        Err(NoMemory) => Refusal::Memory,
+    }
+}
