@@ -1,0 +1,4 @@
+pub mod Answers
+pub mod Searched
+pub mod Points
+pub mod Calls
