@@ -34,7 +34,8 @@ pub record CameLine (left left' : Option (List ℕ)) (pending line pending' : Li
   pub line_is : IsLine line
 
 -- a last line came, without an end
-pub record CameLastLine (left left' : Option (List ℕ)) (pending line pending' : List ℕ) : Type 0 where
+pub record CameLastLine (left left' : Option (List ℕ)) (pending line pending' : List ℕ)
+    : Type 0 where
   pub last : CameLast left left' pending line pending'
   pub line_is : IsLine line
   pub some : line ≢ []
@@ -55,7 +56,8 @@ pub record CamePart (left left' : Option (List ℕ)) (pending : List ℕ) : Type
   pub short : length rest ≤ MAX_LINE_BYTES
 
 -- a part of a line came up to some state without a fault, and then the source failed, and gave nothing more
-pub record PartThenFault {Src : Type 0} (left : Src → Option (List ℕ)) (faults : Src → ℕ) (src src' : Src) (pending : List ℕ) : Type 0 where
+pub record PartThenFault {Src : Type 0} (left : Src → Option (List ℕ)) (faults : Src → ℕ)
+    (src src' : Src) (pending : List ℕ) : Type 0 where
   pub at_fault : Src
   pub part : CamePart (left src) (left at_fault) pending
   pub quiet : faults at_fault ≡ faults src

@@ -39,6 +39,7 @@ pub trait Desk {
         ensures left { lines_left self.old ≤ lines_left self.new + 1 }
         ensures told { IfOk result (λ told. answers self.old line_number line.now told self.new) }
         ensures text { IfOk result (λ told. text.new.held ≡ text.old.held ++ reply_text told) }
-        ensures wanted { OnErr result (answers self.old line_number line.now reply.NoMemory self.new) }
+        ensures wanted { OnErr result
+            (answers self.old line_number line.now reply.NoMemory self.new) }
         ensures no_text { OnErr result (text.new.held ≡ text.old.held) };
 }

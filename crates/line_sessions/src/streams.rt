@@ -105,7 +105,8 @@ impl LineReader {
 
     /// Reads up to the next line end.
     pub(crate) fn next_line<S: Source>(&mut self, source: &mut S) -> Step
-        ensures says { Says result (S.left source.old) (S.left source.new) self.old.pending self.new }
+        ensures says { Says result (S.left source.old) (S.left source.new)
+            self.old.pending self.new }
         ensures quiet { result ≢ Step.ReadFault → S.faults source.new ≡ S.faults source.old }
         ensures fault { result ≡ Step.ReadFault
             → PartThenFault S.left S.faults source.old source.new self.old.pending }
@@ -183,7 +184,8 @@ impl LineReader {
     // Asks for more bytes, where none are left.
     fn refill<S: Source>(&mut self, source: &mut S) -> More
         requires { self.old.pending ≡ [] }
-        ensures says { SaysRefilled result (S.left source.old) (S.left source.new) self.new.pending }
+        ensures says { SaysRefilled result (S.left source.old) (S.left source.new)
+            self.new.pending }
         ensures line { self.new.line ≡ self.old.line }
         ensures quiet { result ≢ More.Failed → S.faults source.new ≡ S.faults source.old }
         ensures later { S.faults source.old ≤ S.faults source.new }
