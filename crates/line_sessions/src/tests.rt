@@ -13,6 +13,7 @@ use std::sync::Wait;
 use std::test::Fail;
 
 /// Tells each line how long it is and which one, as `ahead LENGTH at NUMBER`, and wants memory for one of them.
+#[derive(Drop)]
 struct Counter {
     left: u32,
     wants: u32,
@@ -80,7 +81,7 @@ const NOTHING: Case = Case {
     room: 2_000_000,
 };
 
-fn counter() -> Counter
+fn a_desk() -> Counter
     ensures { MAX_LINES ≤ result.left }
 {
     Counter {
@@ -100,7 +101,7 @@ fn input_of(alloc: Global, case: &Case) -> Result<Vec<u8>, NoMemory> {
 fn serve<R: Wait>(rt: &R, alloc: Global, case: &Case) -> Result<Outcome, NoMemory> {
     let mut source = MemSource::new(input_of(alloc, case)?, vec![in alloc; case.reading]?);
     let mut sink = MemSink::new(alloc, case.room, vec![in alloc; case.writing]?)?;
-    let mut desk = counter();
+    let mut desk = a_desk();
     desk.wants = case.wants;
     let ended = serve_lines(rt, alloc, &mut desk, &mut source, &mut sink);
     let mut replies = Vec::new(alloc);
