@@ -2,3 +2,4 @@ pub mod Answers
 pub mod Searched
 pub mod Points
 pub mod Calls
+pub mod Callers

@@ -1,0 +1,12 @@
+//! A client's line and its answer: the line is read, takes a turn, and is told what the history says of it.
+#![tactic(auto)]
+
+mod answers;
+mod entries;
+mod refusals;
+mod replies;
+mod shared;
+mod words;
+
+pub use answers::answer_one;
+pub use shared::Shared;
