@@ -4,6 +4,7 @@
 
 mod clients;
 mod halts;
+mod laws;
 mod told;
 mod turns;
 

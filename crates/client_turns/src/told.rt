@@ -7,7 +7,8 @@ ghost use Rattle.path_commit.specs.Ledgers.{settled_of};
 ghost use Rattle.client_turns.specs.Told.{EntersIn, IsFoundAgain, IsRefusal, IsStanding, Stands, StopsIn};
 
 use crate::halts::Halt;
-use grant_log::{History, Verdict, live_claims_are_unfreed, verdicts_say_what_they_mean};
+use crate::laws::{kept_entries_stand, none_clashes_behind};
+use grant_log::{History, Verdict};
 use no_memory::NoMemory;
 use outside_io::Disk;
 use path_commit::{Book, Committed};
@@ -117,8 +118,8 @@ pub(crate) fn enter_in<D: Disk>(
     ensures footing { footing_of book.new ≡ footing_of book.old }
     ensures later { D.faults book.old.disk ≤ D.faults book.new.disk }
 {
-    live_claims_are_unfreed();
-    verdicts_say_what_they_mean();
+    kept_entries_stand();
+    none_clashes_behind();
     let front = book.front();
     match book.commit(entry, front) {
         Committed::Done(at) => Ok(Entered::Settled {

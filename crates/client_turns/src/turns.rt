@@ -77,10 +77,11 @@ pub fn look<R: Wait, D: Disk>(
     requires knows { Knows (timetable_at gate.now) client.old (view pass.old).seen }
     ensures ready { IsReady gate.now pass.new }
     ensures name { client.new.name ≡ client.old.name }
-    ensures knows { Knows (timetable_at gate.now) client.new (view pass.new).found.list }
+    ensures knows { Knows (timetable_at gate.now) client.new (view pass.new).seen }
     ensures budget { turns_left pass.new + 1 ≡ turns_left pass.old }
     ensures looks { IfOk result (λ _. Looks (view pass.old) (view pass.new)) }
-    ensures front { IfOk result (λ _. client.new.front ≡ length (view pass.new).found.list) }
+    ensures copy { IfOk result (λ _.
+        IsCopyOf (timetable_at gate.now) client.new (view pass.new).found.list) }
     ensures reached { IfOk result (λ _. IsReached after (view pass.new).found.list) }
     ensures halted { IfErr result (λ halt.
         IsHalted halt after (view pass.old) (view pass.new)) }
@@ -105,7 +106,7 @@ pub fn show<R: Wait, D: Disk>(
     requires knows { Knows (timetable_at gate.now) client.old (view pass.old).seen }
     ensures ready { IsReady gate.now pass.new }
     ensures name { client.new.name ≡ client.old.name }
-    ensures knows { Knows (timetable_at gate.now) client.new (view pass.new).found.list }
+    ensures knows { Knows (timetable_at gate.now) client.new (view pass.new).seen }
     ensures budget { turns_left pass.new + 1 ≡ turns_left pass.old }
     ensures looks { IfOk result (λ _. Looks (view pass.old) (view pass.new)) }
     ensures shows { IfOk result (IsStanding (view pass.new).found.list at) }
@@ -140,7 +141,7 @@ pub fn find_again<R: Wait, D: Disk>(
     requires owner { length client.old.name ≤ MAX_OWNER_BYTES }
     ensures ready { IsReady gate.now pass.new }
     ensures name { client.new.name ≡ client.old.name }
-    ensures knows { Knows (timetable_at gate.now) client.new (view pass.new).found.list }
+    ensures knows { Knows (timetable_at gate.now) client.new (view pass.new).seen }
     ensures budget { turns_left pass.new + 1 ≡ turns_left pass.old }
     ensures looks { IfOk result (λ _. Looks (view pass.old) (view pass.new)) }
     ensures found { IfOk result
@@ -174,7 +175,7 @@ pub fn enter_entry<R: Wait, D: Disk>(
     requires range { IsInRange (timetable_at gate.now) entry }
     ensures ready { IsReady gate.now pass.new }
     ensures name { client.new.name ≡ client.old.name }
-    ensures knows { Knows (timetable_at gate.now) client.new (view pass.new).found.list }
+    ensures knows { Knows (timetable_at gate.now) client.new (view pass.new).seen }
     ensures budget { turns_left pass.new + 1 ≡ turns_left pass.old }
     ensures entered { IfOk result (λ entered.
         HasEntered (timetable_at gate.now) entry entered (view pass.old) (view pass.new)) }

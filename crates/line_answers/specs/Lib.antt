@@ -3,3 +3,4 @@ pub mod Searched
 pub mod Points
 pub mod Calls
 pub mod Callers
+pub mod Tells

@@ -2,11 +2,7 @@
 #![tactic(auto)]
 
 mod answers;
-mod entries;
-mod refusals;
-mod replies;
 mod shared;
-mod words;
 
 pub use answers::answer_one;
 pub use shared::Shared;
