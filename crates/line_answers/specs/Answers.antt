@@ -247,11 +247,26 @@ Gives caller line (reply.Unsettled number at front) h g left =
 Gives caller line reply.DiskFault h g left = left ≡ g
 Gives caller line reply.NoMemory h g left = left ≡ g
 
+-- where the word of a line stands that names a front, or none
+abbrev pub word_at : Option ℕ → ℕ
+word_at None = 1
+word_at (Some after) = 3
+
+-- The line seeks a path, and searches are not served: it is told its own word as wrong. (No line is answered so once they
+-- are served.)
+pub record IsNotServed (caller : Caller) (bytes : List ℕ) (field : ℕ) : Type 0 where
+  pub line : Line
+  pub spells : Spells (a_line caller.known) (fields_of bytes) line
+  pub request : Request
+  pub sought : IsSought line.ask request
+  pub word : field ≡ word_at line.after
+
 -- the bytes of a line spell what is asked, and it is answered so; or its first wrong field is told, or memory was wanted
 -- before it was read
 abbrev pub GivesLine : Caller → List ℕ → Reply → List Entry → List Entry → List Entry → Type 0
 GivesLine caller bytes (reply.Bad field) h g left =
-    IsFirstWrong (a_line caller.known) (fields_of bytes) field × (left ≡ g)
+    (IsFirstWrong (a_line caller.known) (fields_of bytes) field ⊎ IsNotServed caller bytes field)
+    × (left ≡ g)
 GivesLine caller bytes reply.NoMemory h g left = left ≡ g
 GivesLine caller bytes told h g left =
     (line : Line) × Spells (a_line caller.known) (fields_of bytes) line
