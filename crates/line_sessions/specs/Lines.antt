@@ -1,5 +1,5 @@
 -- How an input is cut into lines.
-use Rattle.std.specs.Prelude.{◌≡◌, ℕ, ◌≤◌, List, [], ◌∷◌, ◌++◌, length, nat_eq}
+use Rattle.std.specs.Prelude.{ℕ, ◌≤◌, List, [], ◌∷◌, ◌++◌, length, nat_eq}
 use Rattle.std.specs.List.{slice_split}
 use Rattle.client_lines.specs.Cuts.{Lacks}
 use Rattle.client_lines.specs.declared.lines.TheConstants.{MAX_LINE_BYTES}

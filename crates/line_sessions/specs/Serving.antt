@@ -1,5 +1,5 @@
 -- What answering one line says.
-use Rattle.std.specs.Prelude.{◌≡◌, ℕ, ◌+◌, ◌<◌, List, length, take, Option}
+use Rattle.std.specs.Prelude.{ℕ, ◌+◌, ◌<◌, List, length, take, Option}
 use Rattle.std.specs.Io.KnownBytes.{Appends, Keeps}
 use Rattle.outside_io.specs.Stops.{StopsAt}
 use Rattle.reply_texts.specs.Replies.{reply_text}
