@@ -136,7 +136,7 @@ abbrev pub shared_callers : {D : Type 0} → Shared D → List ℕ → Callers
 shared_callers shared = callers_of shared.known (timetable_at shared.gate)
 
 module _ {D Src Snk : Type 0} (shared : Shared D) (streams : Streams Src Snk) where
-  talk_in : (old new : Job D Src Snk) → WasServed streams old new → Talk
+  abbrev pub talk_in : (old new : Job D Src Snk) → WasServed streams old new → Talk
   talk_in old new was = record { name = old.session.name; traffic = was.ends.traffic }
 
   one_done : (old new : Job D Src Snk) → IsReadyJob shared old → (was : WasServed streams old new)

@@ -57,4 +57,4 @@ join-requires-clause-other_idle g c =
 pub returns-clause-joined : goal.returns-clause-joined
 returns-clause-joined g c plans talks all =
     joining_all c.args.shared.now (streams g.S.Source.left g.S.Source.faults g.T.Sink.held g.T.Sink.faults) plans talks c.loop-job.jobs.items c.loop-job.sessions.items (view c.loop-job.pass)
-    (c.loop-job.invariant.joined plans talks all) (omega arith)
+    (c.loop-job.invariant.joined plans talks all) (omega (arith, c.in_default.ensures.cases.0))

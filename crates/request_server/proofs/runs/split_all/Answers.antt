@@ -60,7 +60,7 @@ loop-plan-preserved g c =
         seated = record {
           shared = c.requires.shared;
           ready = (c.split-pass.ensures.new_own, c.split-pass.ensures.new_idle);
-          knows = ((view job.seat.pass).seen, (starts_refl (view job.seat.pass).seen, subst (IsCopyOf table client) (sym (ap (λ v. v.seen) given)) copies.1));
+          knows = ((view job.seat.pass).seen, starts_refl (view job.seat.pass).seen, subst (IsCopyOf table client) (sym (ap (λ v. v.seen) given)) copies.1);
           name = subst IsClientName (sym same.1) named.1;
         };
         name = same.1;
