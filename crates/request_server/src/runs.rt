@@ -237,7 +237,8 @@ fn join_all<'a, D: Disk, S: Source + Drop, T: Sink + Drop>(
     requires sessions { sessions.items ≡ [] }
     requires room { vec_len jobs ≤ vec_capacity sessions }
     ensures ready { IsReady shared.now.gate pass.new }
-    ensures share { (view pass.new).share ≡ (view pass.old).share + length jobs.entry.items * 400000 }
+    ensures share { (view pass.new).share
+        ≡ (view pass.old).share + length jobs.entry.items * 400000 }
     ensures joined { (plans : _) (talks : List talk_type) → AreMatched
         (IsDoneJob (callers_of shared.now.known (timetable_at shared.now.gate)) shared.now
         (streams S.left S.faults T.held T.faults))
