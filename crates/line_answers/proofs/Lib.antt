@@ -1,0 +1,4 @@
+pub mod Calls
+pub mod Quiet
+pub mod Rows
+pub mod Verdicts

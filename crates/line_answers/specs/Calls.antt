@@ -1,0 +1,125 @@
+-- The turns of a call, and what they show of its reply.
+use Rattle.std.specs.Prelude.{◌≡◌, ◌≢◌, ◌⊎◌, ℕ, ◌+◌, ◌≤◌, true, false, All, Contains, List, [], ◌∷◌, ◌++◌, length, take}
+use Rattle.book_gate.specs.declared.views.Turn.{Turn}
+use Rattle.book_gate.specs.Views.{StartsWith, own}
+use Rattle.outside_io.specs.Faults.{Rose}
+use Rattle.plan_core.specs.declared.events.Event.{Event}
+use Rattle.plan_core.specs.declared.events.Event.TheVariants as event
+use Rattle.plan_core.specs.Pairs.{IsEventOfPair, Pair}
+use Rattle.rail_types.specs.declared.entries.Entry.{Entry}
+use Rattle.rail_types.specs.Timetables.{Timetable}
+use Rattle.reply_texts.specs.declared.replies.Reply.{Reply}
+use Rattle.reply_texts.specs.declared.replies.Reply.TheVariants as reply
+use Rattle.client_turns.specs.Turns.{Sight}
+use Rattle.line_answers.specs.Answers.{Caller, GivesLine}
+use Rattle.line_answers.specs.Points.{added, unsettled_by}
+
+-- ---- events
+
+-- an entry that bears the client's name and the number of the line
+pub record IsOf (caller : Caller) (entry : Entry) : Type 0 where
+  pub owner : entry.owner ≡ caller.name
+  pub line : entry.line ≡ caller.line_number
+
+-- an event of the client of this number in a world: a turn without an entry, or one with an entry that bears the
+-- client's name and the line's number
+abbrev pub IsEventOf : Caller → ℕ → Event → Type 0
+IsEventOf caller client (event.Turn other) = other ≡ client
+IsEventOf caller client (event.Commit other entry) = (other ≡ client) × IsOf caller entry
+IsEventOf caller client (event.Free other entry) = (other ≡ client) × IsOf caller entry
+IsEventOf caller client (event.Fault other entry stage) = (other ≡ client) × IsOf caller entry
+IsEventOf caller client other = ⊥
+
+-- one event of the client takes the pair of history and settled count to the other
+abbrev pub TakesEvent : Caller → ℕ → Pair → Pair → Type 0
+TakesEvent caller client old new =
+    (one : Event) × IsEventOf caller client one × IsEventOfPair caller.timetable one old new
+
+-- one event of the client, or a settling and then that event, or a settling that is not done, alone
+abbrev pub TakesEvents : Caller → ℕ → Pair → Pair → Type 0
+TakesEvents caller client old new =
+    TakesEvent caller client old new
+    ⊎ (((mid : Pair) × IsEventOfPair caller.timetable (event.Settle true) old mid
+    × TakesEvent caller client mid new)
+    ⊎ IsEventOfPair caller.timetable (event.Settle false) old new)
+
+abbrev pub pair : List Entry → ℕ → Pair
+pair entries settled = record { entries = entries; settled = settled }
+
+-- the turn is such an event, by what its marks say of beginnings of a history, whatever number the client has
+pub record IsTurnOf (caller : Caller) (history : List Entry) (t : Turn) : Type 0 where
+  pub grows : t.found.entries ≤ t.left.entries
+  pub within : t.left.entries ≤ length history
+  pub event : (client : ℕ) → TakesEvents caller client
+      (pair (take t.found.entries history) t.found.settled)
+      (pair (take t.left.entries history) t.left.settled)
+
+-- ---- the turns of a call
+
+-- the turn left each entry settled
+abbrev pub IsSettled : Turn → Type 0
+IsSettled t = t.left.settled ≡ t.left.entries
+
+-- each turn but the last left each entry settled, and in the last one the count of faults rose
+pub record EndInFault (turns : List Turn) : Type 0 where
+  pub before : List Turn
+  pub last : Turn
+  pub turns_are : turns ≡ before ++ last ∷ []
+  pub settled : All IsSettled before
+  pub rose : Rose last.found.count last.left.count
+
+-- every turn first settles what is not settled; where that fails, or the own entry's writes do, the reply tells it
+abbrev pub Settle : Reply → List Turn → Type 0
+Settle reply.DiskFault turns = EndInFault turns
+Settle (reply.Unsettled number at front) turns = EndInFault turns
+Settle other turns = All IsSettled turns
+
+-- a line that cannot be read takes no turn; want of memory may come without one; every other reply has one
+abbrev pub HasTurns : Reply → List Turn → Type 0
+HasTurns (reply.Bad field) turns = turns ≡ []
+HasTurns reply.NoMemory turns = Unit {0}
+HasTurns other turns = turns ≢ []
+
+-- the first of these turns found so many entries
+abbrev pub FirstFound : List Turn → ℕ → Type 0
+FirstFound [] entries = Unit {0}
+FirstFound (t ∷ ts) entries = t.found.entries ≡ entries
+
+-- the last of these turns found so many entries
+abbrev pub LastFound : List Turn → ℕ → Type 0
+LastFound [] entries = Unit {0}
+LastFound (t ∷ []) entries = t.found.entries ≡ entries
+LastFound (t ∷ u ∷ us) entries = LastFound (u ∷ us) entries
+
+-- the turn left all settled, or changed nothing, or added one entry that is not settled and stands at one of these
+-- positions
+abbrev pub IsToldIn : List ℕ → Turn → Type 0
+IsToldIn unsettled t =
+    (t.left.settled ≡ t.left.entries)
+    ⊎ (((t.left.settled ≡ t.found.settled) × (t.left.entries ≡ t.found.entries))
+    ⊎ ((t.left.settled ≡ t.found.entries) × (t.left.entries ≡ t.found.entries + 1)
+    × Contains unsettled t.found.entries))
+
+-- The reply to a line over the turns of the call: the first found h, the last found g and left this.
+pub record Answers (caller : Caller) (bytes : List ℕ) (told : Reply) (turns : List Turn)
+    (h g left : List Entry) : Type 0 where
+  pub gives : GivesLine caller bytes told h g left
+  pub first : FirstFound turns (length h)
+  pub last : LastFound turns (length g)
+  pub later : StartsWith g h
+  pub own_entries : own turns ≡ added told
+  pub events : All (IsTurnOf caller left) turns
+  pub in_step : All (IsToldIn (unsettled_by told)) turns
+  pub settle : Settle told turns
+  pub turns_are : HasTurns told turns
+
+-- the call took the pass from v to w, and that reply answers the line
+pub record AnswersBetween (caller : Caller) (bytes : List ℕ) (told : Reply) (v w : Sight) : Type 0 where
+  pub turns : List Turn
+  pub h : List Entry
+  pub g : List Entry
+  pub taken : w.turns ≡ v.turns ++ turns
+  pub share : w.share ≡ v.share
+  pub goes_on : StartsWith h v.seen
+  pub keeps : StartsWith w.seen g
+  pub answers : Answers caller bytes told turns h g w.seen

@@ -1,0 +1,8 @@
+//! A client's line and its answer: the line is read, takes a turn, and is told what the history says of it.
+#![tactic(auto)]
+
+mod answers;
+mod shared;
+
+pub use answers::answer_one;
+pub use shared::Shared;

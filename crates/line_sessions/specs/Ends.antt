@@ -1,0 +1,167 @@
+-- How a session ends, and what its source gave and its sink got.
+use Rattle.std.specs.Prelude.{◌≡◌, ◌≢◌, ◌⊎◌, ℕ, ◌<◌, ◌≤◌, List, [], ◌∷◌, ◌++◌, length, take, All, Option}
+use Rattle.std.specs.Io.KnownBytes.{Appends, Consumes, IsAtEnd}
+use Rattle.outside_io.specs.Stops.{ReadStopsAt, StopsAt}
+use Rattle.client_lines.specs.declared.lines.TheConstants.{MAX_LINE_BYTES}
+use Rattle.reply_texts.specs.Replies.{reply_text}
+use Rattle.reply_texts.specs.declared.replies.Reply.{Reply}
+use Rattle.reply_texts.specs.declared.replies.Reply.TheVariants as reply
+use Rattle.line_sessions.specs.declared.sessions.TheConstants.{MAX_LINES}
+use Rattle.line_sessions.specs.declared.sessions.Ended.{Ended}
+use Rattle.line_sessions.specs.declared.sessions.Why.{Why}
+use Rattle.line_sessions.specs.declared.sessions.Why.TheVariants.{Input, ReadFault, WriteFault, LongLine, LineCount, Memory}
+use Rattle.line_sessions.specs.Lines.{lines_of, ended, IsLine, HasNoEnd}
+use Rattle.line_sessions.specs.Told.{Told, lines_told, text_told, AreAnswered}
+
+-- what a session took out of its source and put into its sink, and the lines that were answered
+pub record Traffic : Type 0 where
+  pub taken : List ℕ
+  pub gained : List ℕ
+  pub told : List Told
+
+-- ---- the lines
+
+-- the bytes taken are these lines, each with its end, and then a rest; none of the lines is too long, nor are they too
+-- many
+pub record Begins (taken : List ℕ) (lines : List (List ℕ)) (rest : List ℕ) : Type 0 where
+  pub text : taken ≡ ended lines ++ rest
+  pub lines_are : All IsLine lines
+  pub count : length lines ≤ MAX_LINES
+
+-- the bytes taken are the whole of these lines; none of the lines is too long, nor are they too many
+pub record AreAll (taken : List ℕ) (lines : List (List ℕ)) : Type 0 where
+  pub text : lines ≡ lines_of taken
+  pub lines_are : All IsLine lines
+  pub count : length lines ≤ MAX_LINES
+
+-- the source is at its end and the lines are those of the whole input, or they are those of its beginning
+abbrev pub AreLinesOf : Type 0 → List ℕ → List (List ℕ) → Type 0
+AreLinesOf AtEnd taken lines =
+    (AtEnd × AreAll taken lines) ⊎ ((rest : List ℕ) × Begins taken lines rest)
+
+-- ---- the replies
+
+-- the replies to these lines are all that the sink gained, and so many lines are counted
+pub record AreCounted (gained : List ℕ) (told : List Told) (lines : ℕ) : Type 0 where
+  pub replies : gained ≡ text_told told
+  pub number : lines ≡ length told
+
+-- ---- the ends
+
+-- the source is at its end, and each line of the whole input was answered
+pub record EndsAtInput (traffic : Traffic) (lines : ℕ) (AtEnd : Type 0) : Type 0 where
+  pub at_end : AtEnd
+  pub lines_are : AreAll traffic.taken (lines_told traffic.told)
+  pub counted : AreCounted traffic.gained traffic.told lines
+
+-- the source failed behind the answered lines, within the next one, where one more was allowed
+pub record EndsAtReadFault (traffic : Traffic) (lines : ℕ) : Type 0 where
+  pub rest : List ℕ
+  pub begins : Begins traffic.taken (lines_told traffic.told) rest
+  pub partial : HasNoEnd rest
+  pub short : length rest ≤ MAX_LINE_BYTES
+  pub few : length traffic.told ≡ MAX_LINES → rest ≡ []
+  pub counted : AreCounted traffic.gained traffic.told lines
+
+-- the line behind the answered ones is too long, and one more line was allowed
+pub record EndsAtLongLine (traffic : Traffic) (lines : ℕ) : Type 0 where
+  pub line : List ℕ
+  pub rest : List ℕ
+  pub begins : Begins traffic.taken (lines_told traffic.told) (line ++ rest)
+  pub one : HasNoEnd line
+  pub long : MAX_LINE_BYTES < length line
+  pub allowed : length traffic.told < MAX_LINES
+  pub counted : AreCounted traffic.gained traffic.told lines
+
+-- as many lines as are allowed were answered, and another one begins
+pub record EndsAtLineCount (traffic : Traffic) (lines : ℕ) : Type 0 where
+  pub rest : List ℕ
+  pub begins : Begins traffic.taken (lines_told traffic.told) rest
+  pub full : length traffic.told ≡ MAX_LINES
+  pub more : rest ≢ []
+  pub counted : AreCounted traffic.gained traffic.told lines
+
+-- nothing was answered behind these lines, or memory was wanted for the reply to one more, of which the sink got nothing
+abbrev pub IsWantedBehind : List Told → List Told → Type 0
+IsWantedBehind told counted =
+    (told ≡ counted)
+    ⊎ ((line : List ℕ) × (told ≡ counted ++ record { line = line; reply = reply.NoMemory } ∷ []))
+
+-- memory was wanted, for a session, for more of the input, or for the reply to the last line
+pub record EndsAtMemory (traffic : Traffic) (lines : ℕ) (AtEnd : Type 0) : Type 0 where
+  pub before : List Told
+  pub lines_are : AreLinesOf AtEnd traffic.taken (lines_told traffic.told)
+  pub wanted : IsWantedBehind traffic.told before
+  pub counted : AreCounted traffic.gained before lines
+
+-- the sink took the replies to some lines whole, and of the reply to the last line a part
+pub record EndsAtWriteFault (traffic : Traffic) (lines : ℕ) (AtEnd : Type 0) : Type 0 where
+  pub before : List Told
+  pub last : Told
+  pub part : ℕ
+  pub lines_are : AreLinesOf AtEnd traffic.taken (lines_told traffic.told)
+  pub told_are : traffic.told ≡ before ++ last ∷ []
+  pub proper : part < length (reply_text last.reply)
+  pub gained : traffic.gained ≡ text_told before ++ take part (reply_text last.reply)
+  pub number : lines ≡ length before
+
+-- what an end says of what passed, where so many lines are counted and AtEnd is that the source is at its end
+abbrev pub EndsBy : Why → Traffic → ℕ → Type 0 → Type 0
+EndsBy Input traffic lines AtEnd = EndsAtInput traffic lines AtEnd
+EndsBy ReadFault traffic lines AtEnd = EndsAtReadFault traffic lines
+EndsBy WriteFault traffic lines AtEnd = EndsAtWriteFault traffic lines AtEnd
+EndsBy LongLine traffic lines AtEnd = EndsAtLongLine traffic lines
+EndsBy LineCount traffic lines AtEnd = EndsAtLineCount traffic lines
+EndsBy Memory traffic lines AtEnd = EndsAtMemory traffic lines AtEnd
+
+-- ---- the whole
+
+-- what is told of sources and sinks: their bytes and their counts of faults
+pub record Streams (Src Snk : Type 0) : Type 0 where
+  pub left : Src → Option (List ℕ)
+  pub read_faults : Src → ℕ
+  pub held : Snk → Option (List ℕ)
+  pub write_faults : Snk → ℕ
+
+-- these, named
+abbrev pub streams : {Src Snk : Type 0} → (Src → Option (List ℕ)) → (Src → ℕ)
+    → (Snk → Option (List ℕ)) → (Snk → ℕ) → Streams Src Snk
+streams left read_faults held write_faults = record {
+  left = left;
+  read_faults = read_faults;
+  held = held;
+  write_faults = write_faults;
+}
+
+-- A session ended so, and this passed between the states of its source and its sink before and after. A fault of either
+-- ends a session at once.
+pub record Passes {Src Snk : Type 0} (streams : Streams Src Snk) (ended : Ended)
+    (traffic : Traffic) (source source' : Src) (sink sink' : Snk) : Type 0 where
+  pub consumed : Consumes (streams.left source) (streams.left source') traffic.taken
+  pub appended : Appends (streams.held sink) (streams.held sink') traffic.gained
+  pub ends : EndsBy ended.why traffic ended.lines (IsAtEnd (streams.left source'))
+  pub read_fault : ended.why ≡ ReadFault
+      → ReadStopsAt streams.left streams.read_faults source source' traffic.taken
+  pub write_fault : ended.why ≡ WriteFault
+      → StopsAt streams.held streams.write_faults sink sink' traffic.gained
+  pub read_quiet : ended.why ≢ ReadFault
+      → streams.read_faults source' ≡ streams.read_faults source
+  pub write_quiet : ended.why ≢ WriteFault
+      → streams.write_faults sink' ≡ streams.write_faults sink
+
+-- a desk, a source and a sink at one time
+pub record Scene (Desk Src Snk : Type 0) : Type 0 where
+  pub desk : Desk
+  pub source : Src
+  pub sink : Snk
+
+-- these, named
+abbrev pub scene : {Desk Src Snk : Type 0} → Desk → Src → Snk → Scene Desk Src Snk
+scene desk source sink = record { desk = desk; source = source; sink = sink }
+
+-- a session ended so, and the desk answered its lines one after another
+pub record Ends {Desk Src Snk : Type 0} (answers : Desk → ℕ → List ℕ → Reply → Desk → Type 0)
+    (streams : Streams Src Snk) (ended : Ended) (old new : Scene Desk Src Snk) : Type 0 where
+  pub traffic : Traffic
+  pub passes : Passes streams ended traffic old.source new.source old.sink new.sink
+  pub answered : AreAnswered answers 1 traffic.told old.desk new.desk

@@ -1,0 +1,5 @@
+pub mod Lines
+pub mod Told
+pub mod Ends
+pub mod Streams
+pub mod Serving

@@ -1,0 +1,14 @@
+//! The session of one client: lines cut out of a source, each answered by a desk, the replies put into a sink.
+#![tactic(auto)]
+
+mod cuts;
+mod desks;
+mod laws;
+mod sessions;
+mod streams;
+#[cfg(test)]
+mod tests;
+
+pub use desks::Desk;
+pub use laws::{inputs_are_cut_at_line_ends, limits_are_these};
+pub use sessions::{Ended, MAX_LINES, Why, serve_lines};

@@ -1,0 +1,9 @@
+pub mod Counts
+pub mod Shares
+pub mod Told
+pub mod Histories
+pub mod Rows
+pub mod Replies
+pub mod Joins
+pub mod Whole
+pub mod Matched

@@ -1,0 +1,24 @@
+use Rattle.std.proofs.Common.{◌≡◌, ◌+◌, ◌*◌, ◌≤◌, All, List, length, reverse, vec_capacity}
+use Rattle.book_gate.specs.Passes.{view}
+use Rattle.client_turns.specs.Turns.{IsReady}
+use Rattle.line_sessions.specs.Ends.{streams}
+use Rattle.request_server.specs.Jobs.{IsBack, IsDoneJob}
+use Rattle.request_server.specs.Runs.{AreMatched}
+use Rattle.request_server.specs.Talks.{Talk}
+use Rattle.request_server.proofs.Matched.{Joining, shared_callers}
+use Rattle.request_server.proofs.runs.join_all.Given as goal
+
+abbrev pub invariant-loop-job : goal.invariant-loop-job
+invariant-loop-job g l = record {
+  ready : IsReady l.shared.gate l.pass;
+  share : (view l.pass).share + length l.jobs.items * 400000
+      ≡ (view l.fn.pass).share + length l.fn.jobs.items * 400000;
+  jobs : All (IsBack l.shared) l.jobs.items;
+  room : length l.jobs.items + length l.sessions.items ≤ vec_capacity l.sessions;
+  joined : (plans : _) (talks : List Talk)
+      → AreMatched (IsDoneJob (shared_callers l.shared) l.shared (streams g.S.Source.left g.S.Source.faults g.T.Sink.held g.T.Sink.faults)) plans (reverse l.fn.jobs.items) talks
+      → Joining l.shared (streams g.S.Source.left g.S.Source.faults g.T.Sink.held g.T.Sink.faults) plans talks l.jobs.items l.sessions.items (view l.pass);
+}
+
+abbrev pub decreases-loop-job : goal.decreases-loop-job
+decreases-loop-job g l = goal.left-loop-job g l

@@ -1,0 +1,4 @@
+pub mod Runs
+pub mod Talks
+pub mod Seats
+pub mod Jobs

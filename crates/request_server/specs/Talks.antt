@@ -1,0 +1,71 @@
+-- What one client was told, over a history.
+use Rattle.std.specs.Prelude.{◌≡◌, ℕ, ◌+◌, ◌-◌, ◌^◌, ◌≤◌, ◌<◌, All, AllPairs, List, ◌++◌, [], ◌∷◌, flat_map, sum_by, Some}
+use Rattle.book_gate.specs.declared.views.Turn.{Turn}
+use Rattle.book_gate.specs.Views.{StartsWith, own, rises}
+use Rattle.client_turns.specs.Turns.{Sight}
+use Rattle.line_answers.specs.Answers.{Caller, GivesLine}
+use Rattle.line_answers.specs.Calls.{IsToldIn}
+use Rattle.line_answers.specs.Points.{point, added, fault, unsettled_by}
+use Rattle.line_sessions.specs.Ends.{Traffic}
+use Rattle.line_sessions.specs.Told.{Told}
+use Rattle.rail_types.specs.declared.entries.Entry.{Entry}
+
+-- a client's name, and what passed in its session
+pub record Talk : Type 0 where
+  pub name : List ℕ
+  pub traffic : Traffic
+
+-- the callers of a client's lines, by their numbers
+abbrev pub Callers : Type 0
+Callers = ℕ → Caller
+
+-- the reply is what the history gives to the line, between a beginning of it that a turn of the call found and one that
+-- it left
+pub record IsAnswer (history : List Entry) (caller : Caller) (one : Told) : Type 0 where
+  pub h : List Entry
+  pub g : List Entry
+  pub left : List Entry
+  pub gives : GivesLine caller one.line one.reply h g left
+  pub later : StartsWith g h
+  pub within : StartsWith history left
+
+-- each reply is what the history gives to its line, the first of which has this number
+abbrev pub AreGiven : List Entry → Callers → ℕ → List Told → Type 0
+AreGiven history callers number [] = Unit {0}
+AreGiven history callers number (one ∷ told) =
+    IsAnswer history (callers number) one × AreGiven history callers (number + 1) told
+
+-- where both print fronts, the later one is not less
+abbrev pub IsNoOlder : Told → Told → Type 0
+IsNoOlder a b = (k l : ℕ) → point a.reply ≡ Some k → point b.reply ≡ Some l → k ≤ l
+
+-- the positions that the replies print as those of their entries
+abbrev pub printed : List Told → List ℕ
+printed told = flat_map (λ one. added one.reply) told
+
+-- how many replies tell a fault of the disk
+abbrev pub faults : List Told → ℕ
+faults told = sum_by (λ one. fault one.reply) told
+
+-- the positions of the entries that the replies told as unsettled
+abbrev pub unsettled : List Told → List ℕ
+unsettled told = flat_map (λ one. unsettled_by one.reply) told
+
+-- each line, the first of which is 1, has the reply that the history gives, at fronts that do not fall
+pub record IsTalk (history : List Entry) (callers : Callers) (told : List Told) : Type 0 where
+  pub given : AreGiven history callers 1 told
+  pub points : AllPairs IsNoOlder told
+
+-- ---- inside
+
+-- every turn left a count of faults that does not stand at its end
+abbrev pub AreBelowEnd : List Turn → Type 0
+AreBelowEnd turns = All (λ t. t.left.count < 2 ^ 64 - 1) turns
+
+-- the pass, from v to w, added the entries of these replies, and met their faults
+pub record Serves (v w : Sight) (told : List Told) : Type 0 where
+  pub share : w.share ≡ v.share
+  pub goes_on : StartsWith w.seen v.seen
+  pub own_entries : own w.turns ≡ own v.turns ++ printed told
+  pub counts : AreBelowEnd w.turns → rises v.turns + faults told ≤ rises w.turns
+  pub told_so : v.turns ≡ [] → All (IsToldIn (unsettled told)) w.turns

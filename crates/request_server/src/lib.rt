@@ -1,0 +1,10 @@
+//! Many clients at once over one book: each has a seat at the gate, its lines are answered one after another, and what
+//! all of them are told is one history.
+#![tactic(auto)]
+
+mod plans;
+mod runs;
+mod seats;
+
+pub use plans::{Plan, Session};
+pub use runs::serve_clients;
