@@ -1,6 +1,7 @@
 //! What a turn tells of entries.
 ghost use Rattle.std.specs.Prelude.{◌≡◌, ◌≤◌, IfErr, IfOk, length};
 ghost use Rattle.rail_types.specs.declared.limits.TheConstants.{MAX_OWNER_BYTES};
+ghost use Rattle.book_gate.specs.Views.{StartsWith};
 ghost use Rattle.grant_log.specs.Legal.{IsInRange};
 ghost use Rattle.path_commit.specs.Footings.{footing_of};
 ghost use Rattle.path_commit.specs.Ledgers.{settled_of};
@@ -115,6 +116,7 @@ pub(crate) fn enter_in<D: Disk>(
     requires range { IsInRange book.old.timetable entry }
     ensures entered { IfOk result (EntersIn D.faults entry book.old book.new) }
     ensures stopped { IfErr result (StopsIn D.faults entry book.old book.new) }
+    ensures grows { StartsWith book.new.entries book.old.entries }
     ensures footing { footing_of book.new ≡ footing_of book.old }
     ensures later { D.faults book.old.disk ≤ D.faults book.new.disk }
 {
