@@ -14,4 +14,5 @@ pub returns-in-Path-clause-answers : goal.returns-in-Path-clause-answers
 returns-in-Path-clause-answers g c =
     let caller : Caller = caller_of c.args.shared.now c.args.client.now.name c.args.line_number in
     let v : Sight = view c.args.pass.now in
-    not_served_line caller c.args.line v c.word_place.result ? ? ? c.word_place.ensures
+    not_served_line caller c.args.line v c.word_place.result c.in-Path._number c.in-Path._request
+    c.in-Path.is c.word_place.ensures

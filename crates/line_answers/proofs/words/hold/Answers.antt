@@ -8,6 +8,7 @@ use Rattle.rail_types.specs.declared.entries.Entry.{Entry}
 use Rattle.rail_types.specs.declared.entries.Wanted.TheVariants.{Pinned}
 use Rattle.reply_texts.specs.declared.replies.Reply.{Reply}
 use Rattle.reply_texts.specs.declared.replies.Reply.TheVariants as reply
+use Rattle.client_turns.specs.declared.told.Entered.{Entered}
 use Rattle.client_turns.specs.declared.told.Entered.TheVariants as entered
 use Rattle.client_turns.specs.Turns.{HasEntered, IsFullIn, IsRefusedIn, IsStopped, Sight, timetable_at}
 use Rattle.line_answers.specs.Answers.{Caller, IsAllowed, IsNarrowLine, entry_of}
@@ -28,7 +29,8 @@ returns-in-Ok-Settled-clause-answers g c =
     let v : Sight = view c.args.pass.now in let w : Sight = view c.enter_entry.new.pass in
     let timetable = timetable_at c.args.shared.now.gate in
     let at = c.in-Ok-Settled.at in let front = c.in-Ok-Settled.front in
-    let done = subst (λ (e : Entry). HasEntered timetable e (entered.Settled at front) v w) c.in-Ok.ensures c.in-Ok-Settled.ensures.entered in
+    let told = subst (λ (x : Entered). HasEntered timetable c.in-Ok.entry x v w) c.in-Ok-Settled.field-0-is c.in-Ok-Settled.ensures.entered in
+    let done = subst (λ (e : Entry). HasEntered timetable e (entered.Settled at front) v w) c.in-Ok.ensures told in
     settled_line caller line c.args.number deed refl refl v w (reply.Held c.args.number at front) at front done
     (λ bytes spells adds. (line, spells, (tt, c.in-Ok-Settled.ensures.reached, (entry_of caller c.args.number deed, adds))))
     refl (λ ts all. all) (λ ts some. some)
@@ -43,7 +45,8 @@ returns-in-Ok-Unsettled-clause-answers g c =
     let allowed : IsAllowed caller line w.found.list = λ may. refl in
     let narrow : IsNarrowLine caller line = λ request sought. absurd sought in
     let at = c.in-Ok-Unsettled.at in let front = c.in-Ok-Unsettled.front in
-    let done = subst (λ (e : Entry). HasEntered timetable e (entered.Unsettled at front) v w) c.in-Ok.ensures c.in-Ok-Unsettled.ensures.entered in
+    let told = subst (λ (x : Entered). HasEntered timetable c.in-Ok.entry x v w) c.in-Ok-Unsettled.field-0-is c.in-Ok-Unsettled.ensures.entered in
+    let done = subst (λ (e : Entry). HasEntered timetable e (entered.Unsettled at front) v w) c.in-Ok.ensures told in
     unsettled_line caller line c.args.number deed refl refl v w c.in-Ok-Unsettled.ensures.reached allowed narrow at front done
 
 pub returns-in-Ok-Refused-clause-answers : goal.returns-in-Ok-Refused-clause-answers
@@ -56,7 +59,8 @@ returns-in-Ok-Refused-clause-answers g c =
     let allowed : IsAllowed caller line w.found.list = λ may. refl in
     let narrow : IsNarrowLine caller line = λ request sought. absurd sought in
     let told = c.in-Ok-Refused.told in
-    let refused = subst (λ (e : Entry). IsRefusedIn timetable e told v w) c.in-Ok.ensures c.in-Ok-Refused.ensures.entered in
+    let so = subst (λ (x : Entered). HasEntered timetable c.in-Ok.entry x v w) c.in-Ok-Refused.field-0-is c.in-Ok-Refused.ensures.entered in
+    let refused = subst (λ (e : Entry). IsRefusedIn timetable e told v w) c.in-Ok.ensures so in
     hold_refused caller line c.args.number deed refl refl v w c.in-Ok-Refused.ensures.reached allowed narrow c.front.result
     (c.front.ensures ∙ c.in-Ok-Refused.ensures.copy.front) tt told c.hold_refused.result refused c.hold_refused.ensures
 
@@ -69,7 +73,8 @@ returns-in-Ok-Full-clause-answers g c =
     let timetable = timetable_at c.args.shared.now.gate in
     let allowed : IsAllowed caller line w.found.list = λ may. refl in
     let narrow : IsNarrowLine caller line = λ request sought. absurd sought in
-    let full = subst (λ (e : Entry). IsFullIn timetable e v w) c.in-Ok.ensures c.in-Ok-Full.ensures.entered in
+    let so = subst (λ (x : Entered). HasEntered timetable c.in-Ok.entry x v w) c.in-Ok-Full.field-0-is c.in-Ok-Full.ensures.entered in
+    let full = subst (λ (e : Entry). IsFullIn timetable e v w) c.in-Ok.ensures so in
     full_line caller line c.args.number deed refl refl v w c.in-Ok-Full.ensures.reached allowed narrow c.front-in-Ok-Full.result
     (c.front-in-Ok-Full.ensures ∙ c.in-Ok-Full.ensures.copy.front) full
 
