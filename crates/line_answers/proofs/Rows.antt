@@ -8,9 +8,12 @@ use Rattle.book_gate.specs.declared.views.Turn.{Turn}
 use Rattle.client_lines.specs.Cuts.{fields_of}
 use Rattle.client_lines.specs.Forms.{Spells}
 use Rattle.client_lines.specs.Lines.{a_line}
+use Rattle.client_lines.specs.Reading.{RefusesFirst}
 use Rattle.client_lines.specs.declared.asks.Ask.{Ask}
 use Rattle.client_lines.specs.declared.asks.Ask.TheVariants as asks
 use Rattle.client_lines.specs.declared.asks.Line.{Line}
+use Rattle.client_lines.specs.declared.faults.LineFault.{LineFault}
+use Rattle.client_lines.specs.declared.faults.LineFault.TheVariants as fault
 use Rattle.grant_log.specs.declared.verdicts.Verdict.{Verdict}
 use Rattle.grant_log.specs.declared.verdicts.Verdict.TheVariants as verdict
 use Rattle.grant_log.specs.Live.{freed_by}
@@ -31,7 +34,7 @@ use Rattle.line_answers.specs.Answers.{Adds, Caller, GivesLine, IsAllowed, IsDee
 use Rattle.line_answers.specs.Callers.{AnswersLine}
 use Rattle.line_answers.specs.Calls.{AnswersBetween, HasTurns, IsOf, IsSettled, Settle}
 use Rattle.line_answers.specs.Points.{added}
-use Rattle.line_answers.specs.Tells.{AddsNothing, TellsAgain, TellsFree, TellsHold, TellsPin, halt_reply}
+use Rattle.line_answers.specs.Tells.{AddsNothing, TellsAgain, TellsFree, TellsHold, TellsPin, fault_reply, halt_reply}
 use Rattle.line_answers.proofs.Calls.{begun, entered, looked, not_begun, not_settled, untaken}
 
 leaves : (v w : Sight) → Looks v w → (front : ℕ) → front ≡ length w.found.list
@@ -251,6 +254,14 @@ past_end entries at none =
 
 pub want_line : (caller : Caller) (line : Line) (v : Sight) → AnswersLine caller line reply.NoMemory v v
 want_line caller line v bytes spells =
+    untaken caller bytes reply.NoMemory v refl refl (All-nil IsSettled) tt
+
+pub unread_line : (caller : Caller) (bytes : List ℕ) (v : Sight) (told : LineFault)
+    → RefusesFirst (a_line caller.known) (fields_of bytes) told
+    → AnswersBetween caller bytes (fault_reply told) v v
+unread_line caller bytes v (fault.Bad field) wrong =
+    untaken caller bytes (reply.Bad field) v (inl wrong, refl) refl (All-nil IsSettled) refl
+unread_line caller bytes v fault.Memory wrong =
     untaken caller bytes reply.NoMemory v refl refl (All-nil IsSettled) tt
 
 pub not_served_line : (caller : Caller) (line : Line) (v : Sight) (field number : ℕ) (request : Request)

@@ -14,11 +14,12 @@ ghost use Rattle.line_answers.specs.Calls.{AnswersBetween};
 ghost use Rattle.line_answers.specs.Callers.{AnswersLine, caller_of};
 ghost use Rattle.line_answers.specs.Tells.{AddsNothing};
 
+use crate::replies::unread;
 use crate::shared::Shared;
 use crate::words::{free, front, hold, pin, show_entry};
 use book_gate::Pass;
 use byte_fields::Buffer;
-use client_lines::{Ask, Line, LineFault, lines_are_within_limits, read_line};
+use client_lines::{Ask, Line, lines_are_within_limits, read_line};
 use client_turns::Client;
 use no_memory::NoMemory;
 use outside_io::Disk;
@@ -96,8 +97,7 @@ fn answer_bytes<R: Wait, D: Disk>(
     lines_are_within_limits();
     match read_line(alloc, line, &shared.known) {
         Ok(line) => answer_line(rt, alloc, shared, pass, client, line_number, line),
-        Err(LineFault::Bad { field }) => Reply::Bad { field },
-        Err(LineFault::Memory) => Reply::NoMemory,
+        Err(fault) => unread(fault),
     }
 }
 

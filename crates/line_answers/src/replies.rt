@@ -1,10 +1,21 @@
 //! Replies by what a turn told.
 ghost use Rattle.std.specs.Prelude.{◌≡◌};
-ghost use Rattle.line_answers.specs.Tells.{IsFreeTold, IsHoldTold, IsPinTold, TellsFree, TellsHold, TellsPin, halt_reply};
+ghost use Rattle.line_answers.specs.Tells.{IsFreeTold, IsHoldTold, IsPinTold, TellsFree, TellsHold, TellsPin, fault_reply, halt_reply};
 
+use client_lines::LineFault;
 use client_turns::{Halt, Refusal};
 use grant_log::Verdict;
 use reply_texts::Reply;
+
+// What a line is told that was not read.
+pub(crate) fn unread(fault: LineFault) -> Reply
+    ensures { result ≡ fault_reply fault }
+{
+    match fault {
+        LineFault::Bad { field } => Reply::Bad { field },
+        LineFault::Memory => Reply::NoMemory,
+    }
+}
 
 // What a line is told whose turn was halted.
 pub(crate) fn halted(halt: Halt) -> Reply
