@@ -94,9 +94,11 @@ module _ {D : Type 0} (faults : D → ℕ) (v m : Sight) (book left : Ledger D)
         → HasEntered timetable entry told v (served m (stands faults left))
     ended (entered.Settled at front) done =
         (gains at front (length left.entries) (length left.entries) done.0 refl, adds at front (length left.entries) done.0)
-    ended (entered.Unsettled at front) done =
-        (gains at front (length book.entries) (length m.found.list) done.0 (ap length list),
-        adds at front (length book.entries) done.0, rises done.1)
+    ended (entered.Unsettled at front) done = (
+      gains at front (length book.entries) (length m.found.list) done.0 (ap length list),
+      adds at front (length book.entries) done.0,
+      rises done.1,
+    )
     ended (entered.Refused told) done = record {
       looks = looks_at done.0 settled;
       refusal = moved (λ t entries. IsRefusal entries (verdict_on t entries entry) told) done.2;

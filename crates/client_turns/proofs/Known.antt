@@ -28,13 +28,16 @@ known_live timetable client entries knows =
 pub same_claims_known : (timetable : Timetable) (client : Client) (copy : List Zone) (entries : List Entry)
     → claims_by_zone copy ≡ claims_by_zone client.copy → length copy ≡ length client.copy
     → Knows timetable client entries → Knows timetable (record client { copy = copy }) entries
-same_claims_known timetable client copy entries same long knows =
-    (knows.0, knows.1, record {
-      front = knows.2.front;
-      zones = long ∙ knows.2.zones;
-      live = subst (λ (l : List HeldClaim). AreLive timetable l knows.0)
-          (ap (λ (claims : List (List HeldClaim)). flat_map (λ one. one) claims) (sym same)) knows.2.live;
-    })
+same_claims_known timetable client copy entries same long knows = (
+  knows.0,
+  knows.1,
+  record {
+    front = knows.2.front;
+    zones = long ∙ knows.2.zones;
+    live = subst (λ (l : List HeldClaim). AreLive timetable l knows.0)
+        (ap (λ (claims : List (List HeldClaim)). flat_map (λ one. one) claims) (sym same)) knows.2.live;
+  },
+)
 
 pub known_longer : (timetable : Timetable) (client : Client) (long short : List Entry)
     → StartsWith long short → Knows timetable client short → Knows timetable client long

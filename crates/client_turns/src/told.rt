@@ -29,15 +29,9 @@ pub enum Refusal {
 #[derive(Debug, Drop)]
 pub enum Entered {
     /// It is settled at this position; the front is behind it.
-    Settled {
-        at: u64,
-        front: u64,
-    },
+    Settled { at: u64, front: u64 },
     /// The disk failed after it was begun: it stands at this position, before the front, and is not settled.
-    Unsettled {
-        at: u64,
-        front: u64,
-    },
+    Unsettled { at: u64, front: u64 },
     /// The history does not take it.
     Refused(Refusal),
     /// Its record would not have room within the journal's limit.

@@ -268,11 +268,13 @@ pub not_served_line : (caller : Caller) (line : Line) (v : Sight) (field number 
     → line.ask ≡ asks.Path number request → field ≡ word_at line.after
     → AnswersLine caller line (reply.Bad field) v v
 not_served_line caller line v field number request asked word bytes spells =
-    untaken caller bytes (reply.Bad field) v
-    (inr (record {
-      line = line;
-      spells = spells;
-      request = request;
-      sought = subst (λ (ask : Ask). IsSought ask request) (sym asked) refl;
-      word = word;
-    }), refl) refl (All-nil IsSettled) refl
+    untaken caller bytes (reply.Bad field) v (
+      inr (record {
+        line = line;
+        spells = spells;
+        request = request;
+        sought = subst (λ (ask : Ask). IsSought ask request) (sym asked) refl;
+        word = word;
+      }),
+      refl,
+    ) refl (All-nil IsSettled) refl

@@ -39,7 +39,8 @@ pub(crate) fn hold<R: Wait, D: Disk>(
     requires budget { 1 ≤ turns_left pass.old }
     requires knows { Knows (timetable_at shared.now.gate) client.old (view pass.old).seen }
     requires name { IsClientName client.old.name }
-    requires within { IsAskWithin (timetable_at shared.now.gate).net (hold_of number claims reason) }
+    requires within { IsAskWithin (timetable_at shared.now.gate).net
+        (hold_of number claims reason) }
     ensures ready { IsReady shared.now.gate pass.new }
     ensures budget { turns_left pass.old ≤ turns_left pass.new + 1 }
     ensures name { client.new.name ≡ client.old.name }

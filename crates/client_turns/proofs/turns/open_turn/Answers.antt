@@ -15,9 +15,11 @@ use Rattle.client_turns.proofs.turns.open_turn.Goals as goal
 
 pub leave-requires-clause-list : goal.leave-requires-clause-list
 leave-requires-clause-list g c =
-    let m : Sight = view c.enter-held.new.pass in
-    ([], settling.list g.D.Disk.faults m c.enter-held.result c.book.result.now c.settle.new.self
-    c.enter-held.ensures.found c.book.ensures.found c.settle.ensures.entries ∙ sym (append-nil m.found.list))
+    let m : Sight = view c.enter-held.new.pass in (
+      [],
+      settling.list g.D.Disk.faults m c.enter-held.result c.book.result.now c.settle.new.self
+          c.enter-held.ensures.found c.book.ensures.found c.settle.ensures.entries ∙ sym (append-nil m.found.list),
+    )
 
 pub returns-in-Fault-clause-knows : goal.returns-in-Fault-clause-knows
 returns-in-Fault-clause-knows g c =
@@ -53,9 +55,11 @@ catch_up-requires g c =
     let footing : footing_of (opened c.args.gate.now) ≡ footing_of now =
     sym (ap footing_of again ∙ c.settle.ensures.footing ∙ ap footing_of lent ∙ c.enter-held.ensures.footing) in
     let timetable : timetable_at c.args.gate.now ≡ now.timetable = same_timetable (opened c.args.gate.now) now footing in
-    record { knows = known_longer now.timetable c.args.client.now now.entries v.seen
-      (subst (λ (l : List Entry). StartsWith l v.seen) entries c.enter-held.ensures.seen)
-      (subst (λ (t : Timetable). Knows t c.args.client.now v.seen) timetable c.requires.knows) }
+    record {
+      knows = known_longer now.timetable c.args.client.now now.entries v.seen
+          (subst (λ (l : List Entry). StartsWith l v.seen) entries c.enter-held.ensures.seen)
+          (subst (λ (t : Timetable). Knows t c.args.client.now v.seen) timetable c.requires.knows);
+    }
 
 pub leave-requires-then-is_err-clause-list : goal.leave-requires-then-is_err-clause-list
 leave-requires-then-is_err-clause-list g c =
@@ -112,14 +116,15 @@ returns-in-Some-clause-halted g c =
     subst (λ (l : List Entry). StartsWith l v.seen) (sym (ap (λ s. s.list) c.enter-held.ensures.found)) c.enter-held.ensures.seen in
     let copy : IsCopyOf now.timetable c.catch_up.new.self now.entries =
     not_err _ c.catch_up.result (sym c.is_err.ensures.value ∙ c.if-is_err.false) c.catch_up.ensures.copy in
-    let w : Sight = view c.leave-in-Some.new.pass in
-    (looks faults v m now now c.enter-held.ensures.opens goes_on up.within up.list up.counts (omega arith)
-    w c.leave-in-Some.ensures.served refl up.settled,
-    record {
-      asked = c.in-Some.ensures.some.0;
-      stands = copy.front ∙ ap length up.list ∙ ap (λ (x : Sight). length x.found.list) (sym c.leave-in-Some.ensures.served);
-      beyond = c.in-Some.ensures.some.1;
-    })
+    let w : Sight = view c.leave-in-Some.new.pass in (
+      looks faults v m now now c.enter-held.ensures.opens goes_on up.within up.list up.counts (omega arith)
+          w c.leave-in-Some.ensures.served refl up.settled,
+      record {
+        asked = c.in-Some.ensures.some.0;
+        stands = copy.front ∙ ap length up.list ∙ ap (λ (x : Sight). length x.found.list) (sym c.leave-in-Some.ensures.served);
+        beyond = c.in-Some.ensures.some.1;
+      },
+    )
 
 pub returns-clause-open : goal.returns-clause-open
 returns-clause-open g c =
