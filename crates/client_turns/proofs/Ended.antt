@@ -1,7 +1,7 @@
 -- A turn that was opened over a book, what was done to the book, and what the turn then did.
-use Rattle.std.proofs.Common.{◌≡◌, ◌≢◌, ◌⊎◌, ℕ, ◌+◌, ◌<◌, ◌≤◌, true, List, [], ◌∷◌, ◌++◌, Option, length, ap, sym, ◌∙◌, subst, refl, arith}
-use Rattle.std.proofs.lemmas.List.{append-nil, length_push}
-use mathlib.Core.Logic.{inl, inr}
+use Rattle.std.proofs.Common.{◌≡◌, ◌≢◌, ℕ, ◌<◌, ◌≤◌, true, List, [], ◌∷◌, ◌++◌, Option, length, ap, sym, ◌∙◌, subst, refl, arith}
+use Rattle.std.proofs.lemmas.List.{append-nil}
+use mathlib.Core.Logic.{inr}
 use Rattle.book_gate.specs.declared.views.Statement.{Statement}
 use Rattle.book_gate.specs.Steps.{served}
 use Rattle.book_gate.specs.Views.{StartsWith}
@@ -19,9 +19,8 @@ use Rattle.client_turns.specs.declared.halts.Halt.{Halt}
 use Rattle.client_turns.specs.declared.halts.Halt.TheVariants as halt
 use Rattle.client_turns.specs.declared.told.Entered.{Entered}
 use Rattle.client_turns.specs.declared.told.Entered.TheVariants as entered
-use Rattle.client_turns.specs.declared.told.Refusal.{Refusal}
 use Rattle.client_turns.specs.Told.{EntersIn, Gained, IsRefusal, MayEnter, StopsIn}
-use Rattle.client_turns.specs.Turns.{CannotBegin, CannotSettle, HasEntered, IsAdded, IsFullIn, IsReached, IsRefusedIn, IsStopped, Looks, Sight, TakesTurn}
+use Rattle.client_turns.specs.Turns.{CannotBegin, CannotSettle, HasEntered, IsAdded, IsReached, IsStopped, Looks, Sight, TakesTurn}
 use Rattle.client_turns.proofs.Taken.{took_turn}
 
 abbrev pub stands : {D : Type 0} → (D → ℕ) → Ledger D → Statement Entry

@@ -9,7 +9,7 @@ use Rattle.occupation_book.specs.Zones.{Zone}
 use Rattle.rail_types.specs.Occupation.{HeldClaim}
 use Rattle.rail_types.specs.declared.entries.Entry.{Entry}
 use Rattle.rail_types.specs.Timetables.{Timetable}
-use Rattle.client_turns.specs.Clients.{IsCopyOf, Knows}
+use Rattle.client_turns.specs.Clients.{Knows}
 use Rattle.client_turns.specs.declared.clients.Client.{Client}
 
 pub starts_trans : {X : Type 0} (a b c : List X) → StartsWith a b → StartsWith b c → StartsWith a c

@@ -1,5 +1,5 @@
 -- A book that was taken out, settled and looked at.
-use Rattle.std.proofs.Common.{◌≡◌, ◌⊎◌, ℕ, ◌+◌, ◌<◌, ◌≤◌, length, ap, sym, ◌∙◌, subst, refl, arith}
+use Rattle.std.proofs.Common.{◌≡◌, ℕ, ◌+◌, ◌<◌, ◌≤◌, length, ap, sym, ◌∙◌, subst, refl, arith}
 use mathlib.Core.Logic.{⊎_elim}
 use Rattle.grant_journal.specs.Causes.{HasSettleCause}
 use Rattle.grant_journal.specs.declared.journals.Settled.{Settled}

@@ -1,5 +1,5 @@
 -- A turn that is open, what was done to its book, and what the turn did once it ended.
-use Rattle.std.proofs.Common.{◌≡◌, ◌≢◌, ℕ, ◌≤◌, List, [], Option, length, ap, sym, ◌∙◌, subst, refl, arith}
+use Rattle.std.proofs.Common.{◌≡◌, ℕ, ◌≤◌, [], Option, ap, sym, ◌∙◌, subst, arith}
 use Rattle.std.proofs.lemmas.List.{append-nil}
 use Rattle.book_gate.specs.declared.gates.Gate.{Gate}
 use Rattle.book_gate.specs.declared.gates.Pass.{Pass}
@@ -9,7 +9,6 @@ use Rattle.book_gate.specs.Views.{StartsWith}
 use Rattle.path_commit.specs.declared.stands.Footing.{Footing}
 use Rattle.path_commit.specs.Ledgers.{Ledger}
 use Rattle.rail_types.specs.declared.entries.Entry.{Entry}
-use Rattle.rail_types.specs.Timetables.{Timetable}
 use Rattle.client_turns.specs.declared.clients.Client.{Client}
 use Rattle.client_turns.specs.declared.halts.Halt.{Halt}
 use Rattle.client_turns.specs.declared.told.Entered.{Entered}

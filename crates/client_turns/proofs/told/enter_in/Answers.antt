@@ -1,7 +1,4 @@
-use Rattle.std.proofs.Common.{◌≡◌, ℕ, List, length, subst}
-use Rattle.grant_log.specs.Live.{claims_of, live_claims}
-use Rattle.path_commit.specs.Clashes.{IsLastClash}
-use Rattle.rail_types.specs.Timetables.{Timetable}
+use Rattle.grant_log.specs.Live.{claims_of}
 use Rattle.client_turns.proofs.Kept.{none_from}
 use Rattle.client_turns.proofs.told.enter_in.Goals as goal
 

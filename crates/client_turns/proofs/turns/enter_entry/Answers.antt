@@ -1,4 +1,4 @@
-use Rattle.std.proofs.Common.{rules, ◌≡◌, refl}
+use Rattle.std.proofs.Common.{rules}
 use Rattle.book_gate.specs.Passes.{view}
 use Rattle.client_turns.specs.Turns.{IsStopped, timetable_at}
 use Rattle.client_turns.proofs.Turned as turned

@@ -1,4 +1,4 @@
-use Rattle.std.proofs.Common.{◌≡◌, refl}
+use Rattle.std.proofs.Common.{refl}
 use Rattle.book_gate.specs.Passes.{view}
 use Rattle.client_turns.proofs.Turned as turned
 use Rattle.client_turns.proofs.turns.look.Goals as goal

@@ -3,11 +3,11 @@ use Rattle.std.proofs.lemmas.List.{append-nil}
 use Rattle.book_gate.specs.Passes.{opened, view}
 use Rattle.book_gate.specs.Views.{StartsWith}
 use Rattle.path_commit.specs.Footings.{footing_of}
-use Rattle.path_commit.specs.Ledgers.{Ledger, settled_of}
+use Rattle.path_commit.specs.Ledgers.{Ledger}
 use Rattle.rail_types.specs.declared.entries.Entry.{Entry}
 use Rattle.rail_types.specs.Timetables.{Timetable}
 use Rattle.client_turns.specs.Clients.{IsCopyOf, Knows}
-use Rattle.client_turns.specs.Turns.{IsAhead, IsReached, Sight, timetable_at}
+use Rattle.client_turns.specs.Turns.{IsReached, Sight, timetable_at}
 use Rattle.client_turns.proofs.Ended.{fails_to_settle, looks, same_timetable}
 use Rattle.client_turns.proofs.Known.{known_longer, none_there, not_err}
 use Rattle.client_turns.proofs.Opened as settling

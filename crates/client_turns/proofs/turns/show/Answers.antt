@@ -1,4 +1,4 @@
-use Rattle.std.proofs.Common.{rules, ◌≡◌, refl}
+use Rattle.std.proofs.Common.{rules, refl}
 use Rattle.book_gate.specs.Passes.{view}
 use Rattle.client_turns.specs.Turns.{Looks}
 use Rattle.client_turns.proofs.Turned as turned

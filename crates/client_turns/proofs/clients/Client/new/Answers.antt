@@ -1,4 +1,4 @@
-use Rattle.std.proofs.Common.{◌≡◌, ap, sym, ◌∙◌, subst}
+use Rattle.std.proofs.Common.{ap, ◌∙◌, subst}
 use Rattle.grant_log.specs.Following.{AreLive}
 use Rattle.occupation_book.specs.Held.{held}
 use Rattle.rail_types.specs.Timetables.{Timetable}
