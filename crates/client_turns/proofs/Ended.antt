@@ -1,7 +1,7 @@
 -- A turn that was opened over a book, what was done to the book, and what the turn then did.
-use Rattle.std.proofs.Common.{◌≡◌, ◌≢◌, ◌⊎◌, ℕ, ◌+◌, ◌<◌, ◌≤◌, true, List, [], ◌∷◌, ◌++◌, Option, length, ap, sym, ◌∙◌, subst, refl, arith}
-use Rattle.std.proofs.lemmas.List.{append-nil, length_push}
-use mathlib.Core.Logic.{inl, inr}
+use Rattle.std.proofs.Common.{◌≡◌, ◌≢◌, ℕ, ◌<◌, ◌≤◌, true, List, [], ◌∷◌, ◌++◌, Option, length, ap, sym, ◌∙◌, subst, refl, arith}
+use Rattle.std.proofs.lemmas.List.{append-nil}
+use mathlib.Core.Logic.{inr}
 use Rattle.book_gate.specs.declared.views.Statement.{Statement}
 use Rattle.book_gate.specs.Steps.{served}
 use Rattle.book_gate.specs.Views.{StartsWith}
@@ -19,16 +19,15 @@ use Rattle.client_turns.specs.declared.halts.Halt.{Halt}
 use Rattle.client_turns.specs.declared.halts.Halt.TheVariants as halt
 use Rattle.client_turns.specs.declared.told.Entered.{Entered}
 use Rattle.client_turns.specs.declared.told.Entered.TheVariants as entered
-use Rattle.client_turns.specs.declared.told.Refusal.{Refusal}
 use Rattle.client_turns.specs.Told.{EntersIn, Gained, IsRefusal, MayEnter, StopsIn}
-use Rattle.client_turns.specs.Turns.{CannotBegin, CannotSettle, HasEntered, IsAdded, IsFullIn, IsReached, IsRefusedIn, IsStopped, Looks, Sight, TakesTurn}
+use Rattle.client_turns.specs.Turns.{CannotBegin, CannotSettle, HasEntered, IsAdded, IsReached, IsStopped, Looks, Sight, TakesTurn}
 use Rattle.client_turns.proofs.Taken.{took_turn}
 
-pub stands : {D : Type 0} → (D → ℕ) → Ledger D → Statement Entry
+abbrev pub stands : {D : Type 0} → (D → ℕ) → Ledger D → Statement Entry
 stands faults book =
     record { list = book.entries; settled = settled_of book; count = faults book.disk }
 
-timetable_in : Footing → Timetable
+abbrev pub timetable_in : Footing → Timetable
 timetable_in footing =
     record { net = footing.net; settings = footing.base.settings; base = footing.base.claims }
 
@@ -66,22 +65,6 @@ module _ {D : Type 0} (faults : D → ℕ) (v m : Sight) (book left : Ledger D)
       → settled_of book ≡ length book.entries → Looks v w
   looks w ends same settled = subst (Looks v) (sym ends) (looks_at same settled)
 
-  cannot_settle : left.entries ≡ book.entries → settled_of left ≡ m.found.settled
-      → m.found.settled < length m.found.list → Rose (faults book.disk) (faults left.disk)
-      → CannotSettle v (served m (stands faults left))
-  cannot_settle same settled pending rose = record {
-    takes = takes m.found.settled settled (nothing same);
-    same = same ∙ list;
-    pending = pending;
-    rose = rises rose;
-  }
-
-  pub fails_to_settle : (w : Sight) → w ≡ served m (stands faults left) → left.entries ≡ book.entries
-      → settled_of left ≡ m.found.settled → m.found.settled < length m.found.list
-      → Rose (faults book.disk) (faults left.disk) → CannotSettle v w
-  fails_to_settle w ends same settled pending rose =
-      subst (CannotSettle v) (sym ends) (cannot_settle same settled pending rose)
-
   module _ (timetable : Timetable) (by : book.timetable ≡ timetable) (entry : Entry)
       (settled : settled_of book ≡ length book.entries) where
     moved : (P : Timetable → List Entry → Type 0) → P book.timetable book.entries
@@ -110,9 +93,11 @@ module _ {D : Type 0} (faults : D → ℕ) (v m : Sight) (book left : Ledger D)
         → HasEntered timetable entry told v (served m (stands faults left))
     ended (entered.Settled at front) done =
         (gains at front (length left.entries) (length left.entries) done.0 refl, adds at front (length left.entries) done.0)
-    ended (entered.Unsettled at front) done =
-        (gains at front (length book.entries) (length m.found.list) done.0 (ap length list),
-        adds at front (length book.entries) done.0, rises done.1)
+    ended (entered.Unsettled at front) done = (
+      gains at front (length book.entries) (length m.found.list) done.0 (ap length list),
+      adds at front (length book.entries) done.0,
+      rises done.1,
+    )
     ended (entered.Refused told) done = record {
       looks = looks_at done.0 settled;
       refusal = moved (λ t entries. IsRefusal entries (verdict_on t entries entry) told) done.2;
@@ -149,3 +134,19 @@ module _ {D : Type 0} (faults : D → ℕ) (v m : Sight) (book left : Ledger D)
         → IsStopped timetable entry told after v w
     stops w ends after reached told done =
         subst (IsStopped timetable entry told after v) (sym ends) (stopped after reached told done)
+
+pub fails_to_settle : {D : Type 0} (faults : D → ℕ) (v m w : Sight) (left : Ledger D)
+    → m ≡ record v { has_ticket = true; ticket = m.ticket; has_book = true; found = m.found }
+    → w ≡ served m (stands faults left) → StartsWith m.found.list v.seen
+    → left.entries ≡ m.found.list → settled_of left ≡ m.found.settled
+    → m.found.settled < length m.found.list → m.found.count ≤ faults left.disk
+    → Rose m.found.count (faults left.disk) → CannotSettle v w
+fails_to_settle faults v m w left opens ends goes_on list settled pending later rose =
+    subst (CannotSettle v) (sym ends) record {
+      takes = subst (TakesTurn v (served m (stands faults left))) settled
+          (took_turn v m (served m (stands faults left)) (stands faults left) opens refl goes_on
+          ([], list ∙ sym (append-nil m.found.list)) (omega arith) later);
+      same = list;
+      pending = pending;
+      rose = rose;
+    }

@@ -1,5 +1,5 @@
 -- The turns that a client takes, and what they leave.
-use Rattle.std.specs.Prelude.{◌≡◌, ◌≢◌, ◌⊎◌, ℕ, ◌+◌, ◌<◌, ◌≤◌, List, [], ◌∷◌, ◌++◌, length, Option, Some, None}
+use Rattle.std.specs.Prelude.{◌≡◌, ◌≢◌, ◌⊎◌, ℕ, ◌+◌, ◌<◌, ◌≤◌, List, [], ◌∷◌, ◌++◌, length, Option, Some}
 use Rattle.book_gate.specs.declared.gates.Gate.{Gate}
 use Rattle.book_gate.specs.declared.gates.Pass.{Pass}
 use Rattle.book_gate.specs.declared.views.View.{View}

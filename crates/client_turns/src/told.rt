@@ -1,6 +1,7 @@
 //! What a turn tells of entries.
 ghost use Rattle.std.specs.Prelude.{◌≡◌, ◌≤◌, IfErr, IfOk, length};
 ghost use Rattle.rail_types.specs.declared.limits.TheConstants.{MAX_OWNER_BYTES};
+ghost use Rattle.book_gate.specs.Views.{StartsWith};
 ghost use Rattle.grant_log.specs.Legal.{IsInRange};
 ghost use Rattle.path_commit.specs.Footings.{footing_of};
 ghost use Rattle.path_commit.specs.Ledgers.{settled_of};
@@ -28,15 +29,9 @@ pub enum Refusal {
 #[derive(Debug, Drop)]
 pub enum Entered {
     /// It is settled at this position; the front is behind it.
-    Settled {
-        at: u64,
-        front: u64,
-    },
+    Settled { at: u64, front: u64 },
     /// The disk failed after it was begun: it stands at this position, before the front, and is not settled.
-    Unsettled {
-        at: u64,
-        front: u64,
-    },
+    Unsettled { at: u64, front: u64 },
     /// The history does not take it.
     Refused(Refusal),
     /// Its record would not have room within the journal's limit.
@@ -115,6 +110,7 @@ pub(crate) fn enter_in<D: Disk>(
     requires range { IsInRange book.old.timetable entry }
     ensures entered { IfOk result (EntersIn D.faults entry book.old book.new) }
     ensures stopped { IfErr result (StopsIn D.faults entry book.old book.new) }
+    ensures grows { StartsWith book.new.entries book.old.entries }
     ensures footing { footing_of book.new ≡ footing_of book.old }
     ensures later { D.faults book.old.disk ≤ D.faults book.new.disk }
 {

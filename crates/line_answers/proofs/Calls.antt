@@ -94,16 +94,26 @@ module _ (caller : Caller) (entry : Entry) (is_of : IsOf caller entry) (found le
   pub pends_event : (client : ℕ) → left ≡ found ++ entry ∷ []
       → TakesEvents caller client (pair found settled) (pair left (length found))
   pends_event client more =
-      settled_first caller client found settled (pair left (length found)) within
-      (event.Fault client entry Gate, (refl, is_of), (record { settled = refl; joins = joins },
-      ap (λ l. pair l (length found)) more))
+      settled_first caller client found settled (pair left (length found)) within (
+        event.Fault client entry Gate,
+        (refl, is_of),
+        (
+          record { settled = refl; joins = joins },
+          ap (λ l. pair l (length found)) more,
+        ),
+      )
 
   pub fails_event : (client : ℕ) → left ≡ found
       → TakesEvents caller client (pair found settled) (pair left (length left))
   fails_event client same =
-      settled_first caller client found settled (pair left (length left)) within
-      (event.Fault client entry Record, (refl, is_of), (record { settled = refl; joins = joins },
-      ap (λ l. pair l (length l)) same))
+      settled_first caller client found settled (pair left (length left)) within (
+        event.Fault client entry Record,
+        (refl, is_of),
+        (
+          record { settled = refl; joins = joins },
+          ap (λ l. pair l (length l)) same,
+        ),
+      )
 
 -- ---- a call of one turn
 

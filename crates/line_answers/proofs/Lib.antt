@@ -1,4 +1,3 @@
 pub mod Calls
 pub mod Quiet
 pub mod Rows
-pub mod Verdicts

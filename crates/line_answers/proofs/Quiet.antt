@@ -1,5 +1,5 @@
 -- A reply that added nothing, and whose text could not be made.
-use Rattle.std.proofs.Common.{◌≡◌, ℕ, All, List, [], ap, sym, ◌∙◌, subst, refl}
+use Rattle.std.proofs.Common.{◌≡◌, ℕ, All, IfErr, List, [], Result, Ok, Err, ap, sym, ◌∙◌, subst, refl}
 use Rattle.book_gate.specs.declared.views.Turn.{Turn}
 use Rattle.rail_types.specs.declared.entries.Entry.{Entry}
 use Rattle.reply_texts.specs.declared.replies.Reply.{Reply}
@@ -67,3 +67,7 @@ untold caller bytes told v w adds between =
         turns_are = tt;
       };
     }
+
+pub if_err : {T E : Type 0} (P : Type 0) (result : Result T E) → P → IfErr result (λ refused. P)
+if_err P (Ok value) told = tt
+if_err P (Err refused) told = told

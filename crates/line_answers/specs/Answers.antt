@@ -94,7 +94,8 @@ HasNoRoom caller entries entry =
     caller.timetable.settings.journal_bytes < bytes_with entries entry
 
 -- an entry for which the line asks, which joins the history and has room in the journal
-pub record MayBegin (caller : Caller) (ask : Ask) (entries : List Entry) (entry : Entry) : Type 0 where
+pub record MayBegin (caller : Caller) (ask : Ask) (entries : List Entry) (entry : Entry)
+    : Type 0 where
   pub own : IsEntryOf caller ask entry
   pub joins : Joins caller.timetable entries entry
   pub room : bytes_with entries entry ≤ caller.timetable.settings.journal_bytes

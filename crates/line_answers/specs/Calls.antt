@@ -114,7 +114,8 @@ pub record Answers (caller : Caller) (bytes : List ℕ) (told : Reply) (turns : 
   pub turns_are : HasTurns told turns
 
 -- the call took the pass from v to w, and that reply answers the line
-pub record AnswersBetween (caller : Caller) (bytes : List ℕ) (told : Reply) (v w : Sight) : Type 0 where
+pub record AnswersBetween (caller : Caller) (bytes : List ℕ) (told : Reply) (v w : Sight)
+    : Type 0 where
   pub turns : List Turn
   pub h : List Entry
   pub g : List Entry

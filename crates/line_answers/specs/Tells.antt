@@ -1,5 +1,7 @@
 -- Replies by what a turn told. *inside*
 use Rattle.std.specs.Prelude.{◌≡◌, ℕ}
+use Rattle.client_lines.specs.declared.faults.LineFault.{LineFault}
+use Rattle.client_lines.specs.declared.faults.LineFault.TheVariants as fault
 use Rattle.grant_log.specs.declared.verdicts.Verdict.{Verdict}
 use Rattle.grant_log.specs.declared.verdicts.Verdict.TheVariants as verdict
 use Rattle.reply_texts.specs.declared.replies.Reply.{Reply}
@@ -8,6 +10,11 @@ use Rattle.client_turns.specs.declared.halts.Halt.{Halt}
 use Rattle.client_turns.specs.declared.halts.Halt.TheVariants as halt
 use Rattle.client_turns.specs.declared.told.Refusal.{Refusal}
 use Rattle.client_turns.specs.declared.told.Refusal.TheVariants.{Kept, Other}
+
+-- the reply to a line that was not read
+abbrev pub fault_reply : LineFault → Reply
+fault_reply (fault.Bad field) = reply.Bad field
+fault_reply fault.Memory = reply.NoMemory
 
 -- the reply where a turn was halted
 abbrev pub halt_reply : Halt → Reply

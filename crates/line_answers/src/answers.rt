@@ -1,24 +1,30 @@
 //! One line, answered.
-ghost use Rattle.std.specs.Prelude.{◌≡◌, ◌+◌, ◌++◌, ◌≤◌, IfErr, IfOk, OnErr, length};
+ghost use Rattle.std.specs.Prelude.{◌≡◌, ◌⊎◌, ◌+◌, ◌++◌, ◌≤◌, IfErr, IfOk, OnErr, length};
 ghost use Rattle.book_gate.specs.Passes.{turns_left, view};
-ghost use Rattle.client_lines.specs.Within.{AreSound};
+ghost use Rattle.client_lines.specs.Within.{AreSound, IsAskWithin};
 ghost use Rattle.client_lines.specs.declared.lines.TheConstants.{MAX_LINE_BYTES};
 ghost use Rattle.rail_types.specs.Limits.{IsClientName};
 ghost use Rattle.reply_texts.specs.Replies.{reply_text as text_of};
+ghost use Rattle.reply_texts.specs.Rooms.{IsBehindEntry};
 ghost use Rattle.reply_texts.specs.declared.replies.Reply.TheVariants.{NoMemory as no_memory};
 ghost use Rattle.client_turns.specs.Clients.{Knows};
 ghost use Rattle.client_turns.specs.Turns.{IsReady, timetable_at};
+ghost use Rattle.line_answers.specs.Answers.{word_at};
 ghost use Rattle.line_answers.specs.Calls.{AnswersBetween};
-ghost use Rattle.line_answers.specs.Callers.{caller_of};
+ghost use Rattle.line_answers.specs.Callers.{AnswersLine, caller_of};
+ghost use Rattle.line_answers.specs.Tells.{AddsNothing};
 
+use crate::replies::unread;
 use crate::shared::Shared;
+use crate::words::{free, front, hold, pin, show_entry};
 use book_gate::Pass;
 use byte_fields::Buffer;
+use client_lines::{Ask, Line, lines_are_within_limits, read_line};
 use client_turns::Client;
 use no_memory::NoMemory;
 use outside_io::Disk;
 use path_commit::Book;
-use reply_texts::Reply;
+use reply_texts::{Reply, replies_have_room, reply_room, reply_text};
 use std::alloc::Global;
 use std::sync::Wait;
 
@@ -55,5 +61,120 @@ pub fn answer_one<R: Wait, D: Disk>(
         (view pass.old) (view pass.new)) }
     ensures untold { OnErr result (text.new.held ≡ text.old.held) }
 {
-    Err(NoMemory)
+    replies_have_room();
+    // Room for the reply of a line that adds an entry is made before any turn.
+    text.reserve(reply_room(0))?;
+    let reply = answer_bytes(rt, alloc, shared, pass, client, line_number, line);
+    reply_text(&reply, text)?;
+    Ok(reply)
+}
+
+// Reads a line and answers it. The reply is short, or tells of no entry that was added and of no fault.
+fn answer_bytes<R: Wait, D: Disk>(
+    rt: &R,
+    alloc: Global,
+    shared: &Shared<D>,
+    pass: &mut Pass<Book<D>>,
+    client: &mut Client,
+    line_number: u32,
+    line: &[u8],
+) -> Reply
+    requires ready { IsReady shared.now.gate pass.old }
+    requires budget { 1 ≤ turns_left pass.old }
+    requires knows { Knows (timetable_at shared.now.gate) client.old (view pass.old).seen }
+    requires known { AreSound shared.now.known }
+    requires network { shared.now.known.railway.network ≡ (timetable_at shared.now.gate).net }
+    requires name { IsClientName client.old.name }
+    requires line { length line.now ≤ MAX_LINE_BYTES }
+    ensures ready { IsReady shared.now.gate pass.new }
+    ensures budget { turns_left pass.old ≤ turns_left pass.new + 1 }
+    ensures name { client.new.name ≡ client.old.name }
+    ensures knows { Knows (timetable_at shared.now.gate) client.new (view pass.new).seen }
+    ensures answers { AnswersBetween (caller_of shared.now client.old.name line_number) line.now
+        result (view pass.old) (view pass.new) }
+    ensures short { IsBehindEntry 0 result ⊎ AddsNothing result }
+{
+    lines_are_within_limits();
+    match read_line(alloc, line, &shared.known) {
+        Ok(line) => answer_line(rt, alloc, shared, pass, client, line_number, line),
+        Err(fault) => unread(fault),
+    }
+}
+
+// Answers a line that was read, by its word.
+fn answer_line<R: Wait, D: Disk>(
+    rt: &R,
+    alloc: Global,
+    shared: &Shared<D>,
+    pass: &mut Pass<Book<D>>,
+    client: &mut Client,
+    line_number: u32,
+    line: Line,
+) -> Reply
+    requires ready { IsReady shared.now.gate pass.old }
+    requires budget { 1 ≤ turns_left pass.old }
+    requires knows { Knows (timetable_at shared.now.gate) client.old (view pass.old).seen }
+    requires name { IsClientName client.old.name }
+    requires within { IsAskWithin (timetable_at shared.now.gate).net line.ask }
+    ensures ready { IsReady shared.now.gate pass.new }
+    ensures budget { turns_left pass.old ≤ turns_left pass.new + 1 }
+    ensures name { client.new.name ≡ client.old.name }
+    ensures knows { Knows (timetable_at shared.now.gate) client.new (view pass.new).seen }
+    ensures answers { AnswersLine (caller_of shared.now client.old.name line_number) line result
+        (view pass.old) (view pass.new) }
+    ensures short { IsBehindEntry 0 result ⊎ AddsNothing result }
+{
+    let Line { after, ask } = line;
+    match ask {
+        Ask::Hold(number, claims, reason) => hold(
+            rt,
+            alloc,
+            shared,
+            pass,
+            client,
+            line_number,
+            after,
+            number,
+            claims,
+            reason,
+        ),
+        Ask::Pin(number, path) => pin(
+            rt,
+            alloc,
+            shared,
+            pass,
+            client,
+            line_number,
+            after,
+            number,
+            path,
+        ),
+        // Searches are not served.
+        Ask::Path(_number, _request) => Reply::Bad {
+            field: word_place(after),
+        },
+        Ask::Free(number, freed) => free(
+            rt,
+            alloc,
+            shared,
+            pass,
+            client,
+            line_number,
+            after,
+            number,
+            freed,
+        ),
+        Ask::Show(at) => show_entry(rt, alloc, shared, pass, client, line_number, after, at),
+        Ask::Front => front(rt, shared, pass, client, line_number, after),
+    }
+}
+
+// Which field the word of a line is, counted from 1.
+fn word_place(after: Option<u64>) -> u32
+    ensures { result ≡ word_at after }
+{
+    match after {
+        None => 1,
+        Some(_) => 3,
+    }
 }

@@ -2,7 +2,10 @@
 #![tactic(auto)]
 
 mod answers;
+mod entries;
+mod replies;
 mod shared;
+mod words;
 
 pub use answers::answer_one;
 pub use shared::Shared;

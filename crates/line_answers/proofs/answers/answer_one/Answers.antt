@@ -1,16 +1,33 @@
-use Rattle.std.proofs.Common.{refl}
+use Rattle.std.proofs.Common.{◌≡◌, ◌≤◌, true, false, refl, arith}
 use Rattle.std.proofs.lemmas.List.Elements.{All-nil}
+use mathlib.Core.Logic.{inl, inr, ⊎_elim}
 use Rattle.book_gate.specs.Passes.{view}
 use Rattle.reply_texts.specs.declared.replies.Reply.TheVariants as reply
+use Rattle.client_turns.specs.Turns.{Sight}
+use Rattle.line_answers.specs.Answers.{Caller}
 use Rattle.line_answers.specs.Callers.{caller_of}
 use Rattle.line_answers.specs.Calls.{IsSettled}
 use Rattle.line_answers.proofs.Calls.{untaken}
-use Rattle.line_answers.proofs.Rows.{halted_line}
-use Rattle.line_answers.proofs.Quiet.{untold}
-use Rattle.line_answers.proofs.Verdicts.{hold_told}
+use Rattle.line_answers.proofs.Quiet.{if_err, untold}
 use Rattle.line_answers.proofs.answers.answer_one.Goals as goal
 
-pub returns-clause-wanted : goal.returns-clause-wanted
-returns-clause-wanted g c =
-    untaken (caller_of c.args.shared.now c.args.client.now.name c.args.line_number) c.args.line.now
-    reply.NoMemory (view c.args.pass.now) refl refl (All-nil IsSettled) tt
+pub returns-in_err-reserve-clause-wanted : goal.returns-in_err-reserve-clause-wanted
+returns-in_err-reserve-clause-wanted g c =
+    let caller : Caller = caller_of c.args.shared.now c.args.client.now.name c.args.line_number in
+    let v : Sight = view c.args.pass.now in
+    if_err _ c.from_residual.result
+    (untaken caller c.args.line.now reply.NoMemory v refl refl (All-nil IsSettled) tt)
+
+pub returns-in_err-reply_text-clause-wanted : goal.returns-in_err-reply_text-clause-wanted
+returns-in_err-reply_text-clause-wanted g c =
+    let caller : Caller = caller_of c.args.shared.now c.args.client.now.name c.args.line_number in
+    let v : Sight = view c.args.pass.now in let w : Sight = view c.answer_bytes-reply.new.pass in
+    let told = c.answer_bytes-reply.result in
+    let had = c.in_ok-reserve.ensures.ok in let sized = c.reply_room.ensures in
+    if_err _ c.from_residual-in_err-reply_text.result
+    (⊎_elim
+    (λ behind.
+    let few = c.replies_have_room.ensures 0 told behind in
+    let ok = c.in_err-reply_text.ensures.room (omega arith) in absurd (let wrong : false ≡ true = ok in cc))
+    (λ adds. untold caller c.args.line.now told v w adds c.answer_bytes-reply.ensures.answers)
+    c.answer_bytes-reply.ensures.short)

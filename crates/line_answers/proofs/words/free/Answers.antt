@@ -1,0 +1,91 @@
+use Rattle.std.proofs.Common.{◌≡◌, refl, sym, ◌∙◌, subst}
+use Rattle.book_gate.specs.Passes.{view}
+use Rattle.client_lines.specs.declared.asks.Line.{Line}
+use Rattle.client_lines.specs.declared.asks.Ask.TheVariants as asks
+use Rattle.rail_types.specs.declared.entries.Deed.{Deed}
+use Rattle.rail_types.specs.declared.entries.Deed.TheVariants.{Hold, Grant, Free}
+use Rattle.rail_types.specs.declared.entries.Entry.{Entry}
+use Rattle.rail_types.specs.declared.entries.Wanted.TheVariants.{Pinned}
+use Rattle.reply_texts.specs.declared.replies.Reply.{Reply}
+use Rattle.reply_texts.specs.declared.replies.Reply.TheVariants as reply
+use Rattle.client_turns.specs.declared.told.Entered.{Entered}
+use Rattle.client_turns.specs.declared.told.Entered.TheVariants as entered
+use Rattle.client_turns.specs.Turns.{HasEntered, IsFullIn, IsRefusedIn, IsStopped, Sight, timetable_at}
+use Rattle.line_answers.specs.Answers.{Caller, IsAllowed, IsNarrowLine, entry_of}
+use Rattle.line_answers.specs.Callers.{AnswersLine, caller_of}
+use Rattle.line_answers.proofs.Rows.{full_line, free_refused, settled_line, stopped_line, unsettled_line, want_line}
+use Rattle.line_answers.proofs.words.free.Goals as goal
+
+pub returns-in_default-clause-answers : goal.returns-in_default-clause-answers
+returns-in_default-clause-answers g c =
+    want_line (caller_of c.args.shared.now c.args.client.now.name c.args.line_number)
+    (record { after = c.args.after; ask = asks.Free c.args.number c.args.freed }) (view c.args.pass.now)
+
+pub returns-in-Ok-Settled-clause-answers : goal.returns-in-Ok-Settled-clause-answers
+returns-in-Ok-Settled-clause-answers g c =
+    let caller : Caller = caller_of c.args.shared.now c.args.client.now.name c.args.line_number in
+    let line : Line = record { after = c.args.after; ask = asks.Free c.args.number c.args.freed } in
+    let deed : Deed = Free c.args.freed in
+    let v : Sight = view c.args.pass.now in let w : Sight = view c.enter_entry.new.pass in
+    let timetable = timetable_at c.args.shared.now.gate in
+    let at = c.in-Ok-Settled.at in let front = c.in-Ok-Settled.front in
+    let told = subst (λ (x : Entered). HasEntered timetable c.in-Ok.entry x v w) c.in-Ok-Settled.field-0-is c.in-Ok-Settled.ensures.entered in
+    let done = subst (λ (e : Entry). HasEntered timetable e (entered.Settled at front) v w) c.in-Ok.ensures told in
+    settled_line caller line c.args.number deed refl refl v w (reply.Freed c.args.number at c.args.freed front) at front done
+    (λ bytes spells adds. (line, spells, (refl, c.in-Ok-Settled.ensures.reached, (entry_of caller c.args.number deed, adds))))
+    refl (λ ts all. all) (λ ts some. some)
+
+pub returns-in-Ok-Unsettled-clause-answers : goal.returns-in-Ok-Unsettled-clause-answers
+returns-in-Ok-Unsettled-clause-answers g c =
+    let caller : Caller = caller_of c.args.shared.now c.args.client.now.name c.args.line_number in
+    let line : Line = record { after = c.args.after; ask = asks.Free c.args.number c.args.freed } in
+    let deed : Deed = Free c.args.freed in
+    let v : Sight = view c.args.pass.now in let w : Sight = view c.enter_entry.new.pass in
+    let timetable = timetable_at c.args.shared.now.gate in
+    let allowed : IsAllowed caller line w.found.list = λ may. refl in
+    let narrow : IsNarrowLine caller line = λ request sought. absurd sought in
+    let at = c.in-Ok-Unsettled.at in let front = c.in-Ok-Unsettled.front in
+    let told = subst (λ (x : Entered). HasEntered timetable c.in-Ok.entry x v w) c.in-Ok-Unsettled.field-0-is c.in-Ok-Unsettled.ensures.entered in
+    let done = subst (λ (e : Entry). HasEntered timetable e (entered.Unsettled at front) v w) c.in-Ok.ensures told in
+    unsettled_line caller line c.args.number deed refl refl v w c.in-Ok-Unsettled.ensures.reached allowed narrow at front done
+
+pub returns-in-Ok-Refused-clause-answers : goal.returns-in-Ok-Refused-clause-answers
+returns-in-Ok-Refused-clause-answers g c =
+    let caller : Caller = caller_of c.args.shared.now c.args.client.now.name c.args.line_number in
+    let line : Line = record { after = c.args.after; ask = asks.Free c.args.number c.args.freed } in
+    let deed : Deed = Free c.args.freed in
+    let v : Sight = view c.args.pass.now in let w : Sight = view c.enter_entry.new.pass in
+    let timetable = timetable_at c.args.shared.now.gate in
+    let allowed : IsAllowed caller line w.found.list = λ may. refl in
+    let narrow : IsNarrowLine caller line = λ request sought. absurd sought in
+    let told = c.in-Ok-Refused.told in
+    let so = subst (λ (x : Entered). HasEntered timetable c.in-Ok.entry x v w) c.in-Ok-Refused.field-0-is c.in-Ok-Refused.ensures.entered in
+    let refused = subst (λ (e : Entry). IsRefusedIn timetable e told v w) c.in-Ok.ensures so in
+    free_refused caller line c.args.number deed refl refl v w c.in-Ok-Refused.ensures.reached allowed narrow c.front.result
+    (c.front.ensures ∙ c.in-Ok-Refused.ensures.copy.front) c.args.freed refl told c.free_refused.result refused c.free_refused.ensures
+
+pub returns-in-Ok-Full-clause-answers : goal.returns-in-Ok-Full-clause-answers
+returns-in-Ok-Full-clause-answers g c =
+    let caller : Caller = caller_of c.args.shared.now c.args.client.now.name c.args.line_number in
+    let line : Line = record { after = c.args.after; ask = asks.Free c.args.number c.args.freed } in
+    let deed : Deed = Free c.args.freed in
+    let v : Sight = view c.args.pass.now in let w : Sight = view c.enter_entry.new.pass in
+    let timetable = timetable_at c.args.shared.now.gate in
+    let allowed : IsAllowed caller line w.found.list = λ may. refl in
+    let narrow : IsNarrowLine caller line = λ request sought. absurd sought in
+    let so = subst (λ (x : Entered). HasEntered timetable c.in-Ok.entry x v w) c.in-Ok-Full.field-0-is c.in-Ok-Full.ensures.entered in
+    let full = subst (λ (e : Entry). IsFullIn timetable e v w) c.in-Ok.ensures so in
+    full_line caller line c.args.number deed refl refl v w c.in-Ok-Full.ensures.reached allowed narrow c.front-in-Ok-Full.result
+    (c.front-in-Ok-Full.ensures ∙ c.in-Ok-Full.ensures.copy.front) full
+
+pub returns-in-Err-clause-answers : goal.returns-in-Err-clause-answers
+returns-in-Err-clause-answers g c =
+    let caller : Caller = caller_of c.args.shared.now c.args.client.now.name c.args.line_number in
+    let line : Line = record { after = c.args.after; ask = asks.Free c.args.number c.args.freed } in
+    let deed : Deed = Free c.args.freed in
+    let v : Sight = view c.args.pass.now in let w : Sight = view c.enter_entry.new.pass in
+    let timetable = timetable_at c.args.shared.now.gate in
+    let halt = c.in-Err.halt in
+    let stopped = subst (λ (e : Entry). IsStopped timetable e halt c.args.after v w) c.in-Ok.ensures c.in-Err.ensures.stopped in
+    subst (λ (r : Reply). AnswersLine caller line r v w) (sym c.halted.ensures)
+    (stopped_line caller line c.args.number deed refl refl v w halt stopped)

@@ -1,0 +1,40 @@
+use Rattle.std.proofs.Common.{◌≡◌, Some, refl, sym, ◌∙◌, subst}
+use Rattle.book_gate.specs.Passes.{view}
+use Rattle.client_lines.specs.declared.asks.Line.{Line}
+use Rattle.client_lines.specs.declared.asks.Ask.TheVariants as asks
+use Rattle.reply_texts.specs.declared.replies.Reply.{Reply}
+use Rattle.client_turns.specs.Told.{IsStanding}
+use Rattle.client_turns.specs.Turns.{Sight}
+use Rattle.line_answers.specs.Answers.{Caller}
+use Rattle.line_answers.specs.Callers.{AnswersLine, caller_of}
+use Rattle.line_answers.proofs.Rows.{halted_line, missing_line, past_end, shown_line}
+use Rattle.line_answers.proofs.words.show_entry.Goals as goal
+
+pub returns-in-Ok-Some-clause-answers : goal.returns-in-Ok-Some-clause-answers
+returns-in-Ok-Some-clause-answers g c =
+    let caller : Caller = caller_of c.args.shared.now c.args.client.now.name c.args.line_number in
+    let line : Line = record { after = c.args.after; ask = asks.Show c.args.at } in
+    let v : Sight = view c.args.pass.now in let w : Sight = view c.show.new.pass in
+    let shows : IsStanding w.found.list c.args.at (Some c.in-Ok-Some.standing) =
+    subst (IsStanding w.found.list c.args.at) c.in-Ok-Some.field-0-is c.in-Ok-Some.ensures.shows in
+    shown_line caller line v w c.in-Ok-Some.ensures.looks c.in-Ok-Some.ensures.reached c.front.result
+    (c.front.ensures ∙ c.in-Ok-Some.ensures.copy.front) c.args.at c.in-Ok-Some.standing.entry
+    c.in-Ok-Some.standing.freed_by refl shows.0 shows.1
+
+pub returns-in-Ok-None-clause-answers : goal.returns-in-Ok-None-clause-answers
+returns-in-Ok-None-clause-answers g c =
+    let caller : Caller = caller_of c.args.shared.now c.args.client.now.name c.args.line_number in
+    let line : Line = record { after = c.args.after; ask = asks.Show c.args.at } in
+    let v : Sight = view c.args.pass.now in let w : Sight = view c.show.new.pass in
+    missing_line caller line v w c.in-Ok-None.ensures.looks c.in-Ok-None.ensures.reached
+    c.front-in-Ok-None.result (c.front-in-Ok-None.ensures ∙ c.in-Ok-None.ensures.copy.front) c.args.at refl
+    (past_end w.found.list c.args.at
+    (subst (IsStanding w.found.list c.args.at) c.in-Ok-None.field-0-is c.in-Ok-None.ensures.shows))
+
+pub returns-in-Err-clause-answers : goal.returns-in-Err-clause-answers
+returns-in-Err-clause-answers g c =
+    let caller : Caller = caller_of c.args.shared.now c.args.client.now.name c.args.line_number in
+    let line : Line = record { after = c.args.after; ask = asks.Show c.args.at } in
+    let v : Sight = view c.args.pass.now in let w : Sight = view c.show.new.pass in
+    subst (λ (r : Reply). AnswersLine caller line r v w) (sym c.halted.ensures)
+    (halted_line caller line v w c.in-Err.halt c.in-Err.ensures.halted)

@@ -1,0 +1,256 @@
+//! The words of lines, each answered in one turn.
+ghost use Rattle.std.specs.Prelude.{◌≡◌, ◌+◌, ◌⊎◌, ◌≤◌};
+ghost use Rattle.book_gate.specs.Passes.{turns_left, view};
+ghost use Rattle.client_lines.specs.Within.{IsAskWithin};
+ghost use Rattle.client_lines.specs.declared.asks.Ask.TheVariants.{Hold as hold_of, Pin as pin_of, Free as free_of, Show as show_of, Front as front_of};
+ghost use Rattle.rail_types.specs.Limits.{IsClientName};
+ghost use Rattle.reply_texts.specs.Rooms.{IsBehindEntry};
+ghost use Rattle.client_turns.specs.Clients.{Knows};
+ghost use Rattle.client_turns.specs.Turns.{IsReady, timetable_at};
+ghost use Rattle.line_answers.specs.Callers.{AnswersLine, caller_of};
+ghost use Rattle.line_answers.specs.Tells.{AddsNothing};
+
+use crate::entries::entry_of;
+use crate::replies::{free_refused, halted, hold_refused, pin_refused};
+use crate::shared::Shared;
+use book_gate::Pass;
+use client_turns::{Client, Entered, enter_entry, look, show};
+use outside_io::Disk;
+use path_commit::Book;
+use rail_types::{Claim, Deed, List, Name, Path, Wanted};
+use reply_texts::Reply;
+use std::alloc::Global;
+use std::sync::Wait;
+
+// Holds claims for a reason.
+pub(crate) fn hold<R: Wait, D: Disk>(
+    rt: &R,
+    alloc: Global,
+    shared: &Shared<D>,
+    pass: &mut Pass<Book<D>>,
+    client: &mut Client,
+    line_number: u32,
+    after: Option<u64>,
+    number: u64,
+    claims: List<Claim>,
+    reason: Name,
+) -> Reply
+    requires ready { IsReady shared.now.gate pass.old }
+    requires budget { 1 ≤ turns_left pass.old }
+    requires knows { Knows (timetable_at shared.now.gate) client.old (view pass.old).seen }
+    requires name { IsClientName client.old.name }
+    requires within { IsAskWithin (timetable_at shared.now.gate).net
+        (hold_of number claims reason) }
+    ensures ready { IsReady shared.now.gate pass.new }
+    ensures budget { turns_left pass.old ≤ turns_left pass.new + 1 }
+    ensures name { client.new.name ≡ client.old.name }
+    ensures knows { Knows (timetable_at shared.now.gate) client.new (view pass.new).seen }
+    ensures answers { AnswersLine (caller_of shared.now client.old.name line_number)
+        (record { after = after; ask = hold_of number claims reason }) result
+        (view pass.old) (view pass.new) }
+    ensures short { IsBehindEntry 0 result ⊎ AddsNothing result }
+{
+    let Ok(entry) = entry_of(
+        alloc,
+        client,
+        line_number,
+        number,
+        Deed::Hold(claims, reason),
+    ) else {
+        return Reply::NoMemory;
+    };
+    match enter_entry(rt, alloc, &shared.gate, pass, client, after, entry) {
+        Ok(Entered::Settled { at, front }) => Reply::Held {
+            number,
+            entry: at,
+            front,
+        },
+        Ok(Entered::Unsettled { at, front }) => Reply::Unsettled {
+            number,
+            entry: at,
+            front,
+        },
+        Ok(Entered::Refused(told)) => hold_refused(number, told, client.front()),
+        Ok(Entered::Full) => Reply::Full {
+            number,
+            front: client.front(),
+        },
+        Err(halt) => halted(halt),
+    }
+}
+
+// Takes a path that the client gives.
+pub(crate) fn pin<R: Wait, D: Disk>(
+    rt: &R,
+    alloc: Global,
+    shared: &Shared<D>,
+    pass: &mut Pass<Book<D>>,
+    client: &mut Client,
+    line_number: u32,
+    after: Option<u64>,
+    number: u64,
+    path: Path,
+) -> Reply
+    requires ready { IsReady shared.now.gate pass.old }
+    requires budget { 1 ≤ turns_left pass.old }
+    requires knows { Knows (timetable_at shared.now.gate) client.old (view pass.old).seen }
+    requires name { IsClientName client.old.name }
+    requires within { IsAskWithin (timetable_at shared.now.gate).net (pin_of number path) }
+    ensures ready { IsReady shared.now.gate pass.new }
+    ensures budget { turns_left pass.old ≤ turns_left pass.new + 1 }
+    ensures name { client.new.name ≡ client.old.name }
+    ensures knows { Knows (timetable_at shared.now.gate) client.new (view pass.new).seen }
+    ensures answers { AnswersLine (caller_of shared.now client.old.name line_number)
+        (record { after = after; ask = pin_of number path }) result
+        (view pass.old) (view pass.new) }
+    ensures short { IsBehindEntry 0 result ⊎ AddsNothing result }
+{
+    let Ok(entry) = entry_of(
+        alloc,
+        client,
+        line_number,
+        number,
+        Deed::Grant(Wanted::Pinned, path),
+    ) else {
+        return Reply::NoMemory;
+    };
+    match enter_entry(rt, alloc, &shared.gate, pass, client, after, entry) {
+        Ok(Entered::Settled { at, front }) => Reply::Pinned {
+            number,
+            entry: at,
+            front,
+        },
+        Ok(Entered::Unsettled { at, front }) => Reply::Unsettled {
+            number,
+            entry: at,
+            front,
+        },
+        Ok(Entered::Refused(told)) => pin_refused(number, told, client.front()),
+        Ok(Entered::Full) => Reply::Full {
+            number,
+            front: client.front(),
+        },
+        Err(halt) => halted(halt),
+    }
+}
+
+// Frees an entry.
+pub(crate) fn free<R: Wait, D: Disk>(
+    rt: &R,
+    alloc: Global,
+    shared: &Shared<D>,
+    pass: &mut Pass<Book<D>>,
+    client: &mut Client,
+    line_number: u32,
+    after: Option<u64>,
+    number: u64,
+    freed: u64,
+) -> Reply
+    requires ready { IsReady shared.now.gate pass.old }
+    requires budget { 1 ≤ turns_left pass.old }
+    requires knows { Knows (timetable_at shared.now.gate) client.old (view pass.old).seen }
+    requires name { IsClientName client.old.name }
+    requires within { IsAskWithin (timetable_at shared.now.gate).net (free_of number freed) }
+    ensures ready { IsReady shared.now.gate pass.new }
+    ensures budget { turns_left pass.old ≤ turns_left pass.new + 1 }
+    ensures name { client.new.name ≡ client.old.name }
+    ensures knows { Knows (timetable_at shared.now.gate) client.new (view pass.new).seen }
+    ensures answers { AnswersLine (caller_of shared.now client.old.name line_number)
+        (record { after = after; ask = free_of number freed }) result
+        (view pass.old) (view pass.new) }
+    ensures short { IsBehindEntry 0 result ⊎ AddsNothing result }
+{
+    let Ok(entry) = entry_of(alloc, client, line_number, number, Deed::Free(freed)) else {
+        return Reply::NoMemory;
+    };
+    match enter_entry(rt, alloc, &shared.gate, pass, client, after, entry) {
+        Ok(Entered::Settled { at, front }) => Reply::Freed {
+            number,
+            entry: at,
+            freed,
+            front,
+        },
+        Ok(Entered::Unsettled { at, front }) => Reply::Unsettled {
+            number,
+            entry: at,
+            front,
+        },
+        Ok(Entered::Refused(told)) => free_refused(number, freed, told, client.front()),
+        Ok(Entered::Full) => Reply::Full {
+            number,
+            front: client.front(),
+        },
+        Err(halt) => halted(halt),
+    }
+}
+
+// Shows the entry at a position.
+pub(crate) fn show_entry<R: Wait, D: Disk>(
+    rt: &R,
+    alloc: Global,
+    shared: &Shared<D>,
+    pass: &mut Pass<Book<D>>,
+    client: &mut Client,
+    line_number: u32,
+    after: Option<u64>,
+    at: u64,
+) -> Reply
+    requires ready { IsReady shared.now.gate pass.old }
+    requires budget { 1 ≤ turns_left pass.old }
+    requires knows { Knows (timetable_at shared.now.gate) client.old (view pass.old).seen }
+    requires name { IsClientName client.old.name }
+    requires within { IsAskWithin (timetable_at shared.now.gate).net (show_of at) }
+    ensures ready { IsReady shared.now.gate pass.new }
+    ensures budget { turns_left pass.old ≤ turns_left pass.new + 1 }
+    ensures name { client.new.name ≡ client.old.name }
+    ensures knows { Knows (timetable_at shared.now.gate) client.new (view pass.new).seen }
+    ensures answers { AnswersLine (caller_of shared.now client.old.name line_number)
+        (record { after = after; ask = show_of at }) result
+        (view pass.old) (view pass.new) }
+    ensures short { IsBehindEntry 0 result ⊎ AddsNothing result }
+{
+    match show(rt, alloc, &shared.gate, pass, client, after, at) {
+        Ok(Some(standing)) => Reply::Shown {
+            at,
+            front: client.front(),
+            entry: standing.entry,
+            freed_by: standing.freed_by,
+        },
+        Ok(None) => Reply::Unknown {
+            entry: at,
+            front: client.front(),
+        },
+        Err(halt) => halted(halt),
+    }
+}
+
+// Tells the front.
+pub(crate) fn front<R: Wait, D: Disk>(
+    rt: &R,
+    shared: &Shared<D>,
+    pass: &mut Pass<Book<D>>,
+    client: &mut Client,
+    line_number: u32,
+    after: Option<u64>,
+) -> Reply
+    requires ready { IsReady shared.now.gate pass.old }
+    requires budget { 1 ≤ turns_left pass.old }
+    requires knows { Knows (timetable_at shared.now.gate) client.old (view pass.old).seen }
+    requires name { IsClientName client.old.name }
+    requires within { IsAskWithin (timetable_at shared.now.gate).net (front_of) }
+    ensures ready { IsReady shared.now.gate pass.new }
+    ensures budget { turns_left pass.old ≤ turns_left pass.new + 1 }
+    ensures name { client.new.name ≡ client.old.name }
+    ensures knows { Knows (timetable_at shared.now.gate) client.new (view pass.new).seen }
+    ensures answers { AnswersLine (caller_of shared.now client.old.name line_number)
+        (record { after = after; ask = front_of }) result
+        (view pass.old) (view pass.new) }
+    ensures short { IsBehindEntry 0 result ⊎ AddsNothing result }
+{
+    match look(rt, &shared.gate, pass, client, after) {
+        Ok(()) => Reply::Front {
+            front: client.front(),
+        },
+        Err(halt) => halted(halt),
+    }
+}
