@@ -6,7 +6,7 @@ ghost use Rattle.rail_types.specs.Timetables.{IsBaseClaimOf, IsTimetable, timeta
 ghost use Rattle.grant_log.specs.Legal.{IsDeedOn, IsInRange};
 
 use crate::trains_on;
-use capacity_406::{Occupied, Stretch};
+use capacity_406::{CapacityFault, Occupied, Stretch, capacity_of};
 use grant_log::{History, Verdict};
 use no_memory::NoMemory;
 use rail_types::{
@@ -236,6 +236,41 @@ fn planned_trains_run_by_their_begin(rt: HostRuntime) -> Result<(), Fail> {
             &[],
             &[]
         )?
+    );
+    Ok(())
+}
+
+// The text of the capacity of the trains that run where these claims are planned.
+fn text_of(alloc: Global, planned: &[BaseClaim]) -> Result<Option<Vec<u8>>, CapacityFault> {
+    let Some(history) = history_over(alloc, planned)? else {
+        return Ok(None);
+    };
+    let trains = trains_on(alloc, &history, &STRETCH)?;
+    Ok(Some(capacity_of(alloc, &STRETCH, &trains)?))
+}
+
+fn is_text(told: &Option<Vec<u8>>, text: &[u8]) -> bool {
+    match told {
+        Some(told) => told.as_slice() == text,
+        None => false,
+    }
+}
+
+// The second train comes 75 ticks after the first has left the zone, and moves up to it.
+#[test]
+fn the_capacity_of_planned_trains_is_told(rt: HostRuntime) -> Result<(), Fail> {
+    let alloc = rt.alloc();
+    let text = text_of(alloc, &[planned(0, 0, 5, 24), planned(1, 0, 99, 118)])?;
+    assert!(rt;
+        is_text(
+            &text,
+            b"capacity zones 0 1 window 0 100 trains 2 occupied 38 rate 380\n\
+              train base 0 begin 5 shift 0\n\
+              train base 1 begin 24 shift -75\n\
+              chain 2\n\
+              link base 0 start 5\n\
+              link base 1 zone 0 at 24\n"
+        )
     );
     Ok(())
 }
