@@ -114,14 +114,20 @@ list_other source sink network out old new refusal other (inl stopped) opening o
     file_other {A = NetworkFile} kind.Network source network IsNetworkFile HasNetworkFault old new refusal other stopped.says opening of_network memory
 list_other source sink network out old new refusal other (inr goes) opening of_network memory = table_other sink goes.given.named out goes.between new refusal other goes.next opening memory
 
+-- what was reached holds behind a report of nothing
+reached_done : {S : Type 0} (P : S → Type 0) (between new : S) (reached status : Status) → ((reached ≡ Done) × P between) ⊎ (reached ≡ Report) → status ≡ reached → new ≡ between → status ≡ Done → P new
+reached_done P between new reached status (inl done) told same is = subst P (sym same) done.1
+reached_done P between new reached status (inr part) told same is = let e : Report ≡ Done = sym part ∙ (sym told ∙ is) in cc
+
+refused_done : {A : Type 0} (refusal : Refusal) (status : Status) → status_of refusal ≢ Done → status ≡ status_of refusal → status ≡ Done → A
+refused_done refusal status other told is = absurd (other (sym told ∙ is))
+
 done_by : {Src Snk Dsk : Type 0} (source : Sources Src) (sink : Sinks Snk) (network out : List ℕ) (old between new : Scene Src Snk Dsk) (outcome : Result Status Refusal) (status : Status) → ListWorks source sink network out old between outcome
     → EndSays sink between new outcome status → status ≡ Done → IsListed source sink network out old new
-done_by {Src = Src} {Snk = Snk} {Dsk = Dsk} source sink network out old between new (Ok reached) status works ends is = elim (list_ends source sink network out old between reached works) [
-  | inl done ↦ subst (λ (s : Scene Src Snk Dsk). IsListed source sink network out old s) (sym ends.1) done.1
-  | inr part ↦ let e : Report ≡ Done = sym part ∙ (sym ends.0 ∙ is) in cc
-]
+done_by {Src = Src} {Snk = Snk} {Dsk = Dsk} source sink network out old between new (Ok reached) status works ends is =
+    reached_done (λ (s : Scene Src Snk Dsk). IsListed source sink network out old s) between new reached status (list_ends source sink network out old between reached works) ends.0 ends.1 is
 done_by source sink network out old between new (Err refusal) status works ends is =
-    absurd (list_other source sink network out old between refusal Done works (λ e. cc) (λ e. cc) (λ e. cc) (sym ends.status_is ∙ is))
+    refused_done refusal status (list_other source sink network out old between refusal Done works (λ e. cc) (λ e. cc) (λ e. cc)) ends.status_is is
 
 pub run_done : {Src Snk Dsk : Type 0} (source : Sources Src) (sink : Sinks Snk) (network out : List ℕ) (old new : Scene Src Snk Dsk) (status : Status) → Runs sink (list_calls network out) (ListWorks source sink network out) old new status → status ≡ Done
     → IsListed source sink network out old new
