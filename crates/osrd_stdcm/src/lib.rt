@@ -1,9 +1,7 @@
 //! The server's commands, from words to a status.
 #![tactic(auto)]
 
-mod orders;
 mod runs;
-mod sessions;
 #[cfg(test)]
 mod tests;
 
