@@ -3,8 +3,8 @@
 
     draw_capacity.py CAPACITY OUT.svg [--base BASE.json] [--grant I=TABLE]..
 
-CAPACITY is the text that `capacity` writes. The claims of `base T` are read from the base file, those of `entry I` from
-the table that `stairs` writes for that grant. Time runs down, zones stand side by side; the trains of the chain have a
+CAPACITY is the text of a capacity (docs/CAPACITY.md). The claims of `base T` are read from the base file, those of
+`entry I` from the table of that grant's stairway. Time runs down, zones stand side by side; the trains of the chain have a
 dark edge, and a line joins each link to the next. It needs Python 3 and nothing else.
 """
 import json
