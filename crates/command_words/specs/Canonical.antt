@@ -21,3 +21,13 @@ abbrev pub list_app : App
 list_app =
     with_rule (with_rule (bare_app (codes "list")) (required_rule (codes "network")))
     (required_rule (codes "out"))
+
+-- the command `init` of a new journal
+abbrev pub init_app : App
+init_app =
+    with_rule (with_rule (with_rule (bare_app (codes "init")) (required_rule (codes "network")))
+    (required_rule (codes "base"))) (required_rule (codes "journal"))
+
+-- the command `init` of a journal that is moved
+abbrev pub move_app : App
+move_app = with_rule init_app (required_rule (codes "from"))

@@ -1,8 +1,8 @@
 -- The orders that words spell.
-use Rattle.std.specs.Prelude.{◌≡◌, ℕ, List, [], ◌∷◌, codes}
+use Rattle.std.specs.Prelude.{◌≡◌, ℕ, List, [], ◌∷◌, Option, None, Some, codes}
 use Rattle.option_words.specs.Spelling.{Setting, Spell, values_under, Word}
 use Rattle.command_words.specs.declared.orders.Order.{Order}
-use Rattle.command_words.specs.declared.orders.Order.TheVariants.{Tables}
+use Rattle.command_words.specs.declared.orders.Order.TheVariants.{Tables, Init}
 
 -- an option with this value
 abbrev pub setting : List ℕ → List ℕ → Setting
@@ -11,11 +11,20 @@ setting option value = record { option = option; value = value }
 -- the command word of an order
 abbrev pub command_of : Order → Word
 command_of (Tables network out) = codes "list"
+command_of (Init network base journal from) = codes "init"
+
+-- an option that may be left out
+abbrev pub if_given : List ℕ → Option (List ℕ) → List Setting
+if_given option None = []
+if_given option (Some value) = setting option value ∷ []
 
 -- the options of an order, each with its value
 abbrev pub settings_of : Order → List Setting
 settings_of (Tables network out) =
     setting (codes "network") network ∷ setting (codes "out") out ∷ []
+settings_of (Init network base journal from) =
+    setting (codes "network") network ∷ setting (codes "base") base
+    ∷ setting (codes "journal") journal ∷ if_given (codes "from") from
 
 -- each option has the same values in the same order
 abbrev pub Agree : List Setting → List Setting → Type 0

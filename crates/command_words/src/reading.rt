@@ -1,13 +1,13 @@
 //! Words read as an order.
 
-ghost use Rattle.std.specs.Prelude.{◌≡◌, codes, IfOk, IsErrOf, map, string_bytes};
+ghost use Rattle.std.specs.Prelude.{◌≡◌, codes, IfOk, IsErrOf, map, option_map, string_bytes};
 ghost use Rattle.command_words.specs.Orders.{Asks, AreWords};
 ghost use Rattle.command_words.specs.declared.orders.Order.{Order as order_type};
 
-use crate::canonical::parse_list;
+use crate::canonical::{parse_init, parse_list, parse_move};
 use crate::orders::Order;
 use no_memory::NoMemory;
-use option_words::{Setting, WordsFault, has_only, read_settings, single_value};
+use option_words::{Setting, WordsFault, has_only, optional_value, read_settings, single_value};
 use std::alloc::Global;
 
 /// Reads words as an order. Any words that spell no order are `NotUnderstood`.
@@ -33,6 +33,9 @@ fn read_order(alloc: Global, command: &str, settings: &[Setting<'_>]) -> Result<
 {
     if command == "list" {
         return read_list(alloc, settings);
+    }
+    if command == "init" {
+        return read_init(alloc, settings);
     }
     Err(WordsFault::NotUnderstood)
 }
@@ -60,5 +63,69 @@ fn read_list(alloc: Global, settings: &[Setting<'_>]) -> Result<Order, WordsFaul
             out: texts.out,
         }),
         Err(NoMemory) => Err(WordsFault::Memory),
+    }
+}
+
+// The order that options of `init` ask for.
+fn read_init(alloc: Global, settings: &[Setting<'_>]) -> Result<Order, WordsFault>
+    ensures understood { IfOk result (λ order. Asks (codes "init") settings.now order) }
+    ensures refused { IsErrOf result WordsFault.NotUnderstood
+        → (order : order_type) → Asks (codes "init") settings.now order → ⊥ }
+{
+    if !has_only(&["network", "base", "journal", "from"], settings) {
+        return Err(WordsFault::NotUnderstood);
+    }
+    let network = match single_value(alloc, "network", settings) {
+        Ok(network) => network,
+        Err(fault) => return Err(fault),
+    };
+    let base = match single_value(alloc, "base", settings) {
+        Ok(base) => base,
+        Err(fault) => return Err(fault),
+    };
+    let journal = match single_value(alloc, "journal", settings) {
+        Ok(journal) => journal,
+        Err(fault) => return Err(fault),
+    };
+    let from = match optional_value(alloc, "from", settings) {
+        Ok(from) => from,
+        Err(fault) => return Err(fault),
+    };
+    match init_order(alloc, network, base, journal, from) {
+        Ok(order) => Ok(order),
+        Err(NoMemory) => Err(WordsFault::Memory),
+    }
+}
+
+// An order to begin a journal, or to move one.
+fn init_order(
+    alloc: Global,
+    network: &str,
+    base: &str,
+    journal: &str,
+    from: Option<&str>,
+) -> Result<Order, NoMemory>
+    ensures { IfOk result (λ order. order ≡ Order.Init network.now base.now journal.now
+        (option_map (λ name. name.now) from.entry)) }
+{
+    match from {
+        None => {
+            let texts = parse_init(alloc, network, base, journal)?;
+            Ok(Order::Init {
+                network: texts.network,
+                base: texts.base,
+                journal: texts.journal,
+                from: None,
+            })
+        }
+        Some(from) => {
+            let texts = parse_move(alloc, network, base, journal, from)?;
+            Ok(Order::Init {
+                network: texts.network,
+                base: texts.base,
+                journal: texts.journal,
+                from: Some(texts.from),
+            })
+        }
     }
 }

@@ -1,66 +1,62 @@
 -- What a run does, by its words.
-use Rattle.std.specs.Prelude.{◌≡◌, ◌≢◌, ◌≤◌, ◌⊎◌, ℕ, List, [], ◌∷◌, Some, codes, slice_get}
+use Rattle.std.specs.Prelude.{◌⊎◌, ℕ, List}
 use Rattle.exit_status.specs.declared.Status.{Status}
-use Rattle.exit_status.specs.declared.Status.TheVariants.{Done, Words, Opening, ClientEnd, Report, Memory}
-use Rattle.outside_io.specs.Places.{Untouched}
+use Rattle.outside_io.specs.declared.disks.Disk.{Ghosts as Disks}
 use Rattle.outside_io.specs.declared.sinks.Sink.{Ghosts as Sinks}
 use Rattle.outside_io.specs.declared.sources.Source.{Ghosts as Sources}
 use Rattle.option_words.specs.Spelling.{Word}
+use Rattle.command_words.specs.Orders.{AreWords}
+use Rattle.command_words.specs.declared.orders.Order.{Order}
 use Rattle.file_rounds.specs.Scenes.{Scene}
-use Rattle.list_command.specs.Runs.{AskNothing as AskNoList, ListIsDone, RunSays}
-use Rattle.hold_session.specs.declared.sessions.Why.TheVariants.{Input, Memory as memory_end}
-use Rattle.hold_session.specs.Ends.{Streams, streams}
-use Rattle.hold_session.specs.Run.{Refuses, Serves, ServesBadly, Unchanged, Under, under}
-use Rattle.hold_session.specs.Status.{IsHoldStatus}
-use Rattle.hold_session.specs.Words.{AskNothing}
+use Rattle.command_reports.specs.Reports.{TellsRefusal}
+use Rattle.command_reports.specs.declared.refusals.Refusal.TheVariants.{Memory}
+use Rattle.hold_session.specs.Words.{AskNothing as AskNoHolds}
+use Rattle.osrd_stdcm.specs.Orders.{NamesNoDisk, OrderIsDone, OrderSays}
+use Rattle.osrd_stdcm.specs.Sessions.{HoldsOrRefuses, IsServed, streams_of}
 
--- the first word is `list`
-abbrev pub IsList : List Word → Type 0
-IsList words = slice_get words 0 ≡ Some (codes "list")
+-- words that spell no order
+abbrev pub AskNoOrder : List Word → Type 0
+AskNoOrder words = (order : Order) → AreWords words order → ⊥
 
--- what `list` says of its status
-pub record ListSays {Src Snk Dsk : Type 0} (source : Sources Src) (sink : Sinks Snk)
+-- words that spell no order and ask for no hold lines
+abbrev pub AskNothing : List Word → Type 0
+AskNothing words = AskNoOrder words × AskNoHolds words
+
+-- words of which no order has a disk of this name
+abbrev pub AskNoDisk : List Word → List ℕ → Type 0
+AskNoDisk words name = (order : Order) → AreWords words order → NamesNoDisk order name
+
+-- the words spell an order, and it was carried out
+pub record Obeys {Src Snk Dsk : Type 0} (source : Sources Src) (sink : Sinks Snk)
+    (disk : Disks Dsk) (words : List Word) (old new : Scene Src Snk Dsk)
+    (status : Status) : Type 0 where
+  pub order : Order
+  pub asked : AreWords words order
+  pub says : OrderSays source sink disk order old new status
+
+-- the words spell no order: a client's hold lines were answered, or the words refused
+pub record Falls {Src Snk Dsk : Type 0} (source : Sources Src) (sink : Sinks Snk)
     (words : List Word) (old new : Scene Src Snk Dsk) (status : Status) : Type 0 where
-  -- all that is done, step by step
-  pub says : RunSays source sink words old new status
-  -- Words comes exactly where the words spell no order; want of memory alone may stand before it
-  pub wording : status ≡ Words → AskNoList words
-  pub form : AskNoList words → (status ≡ Words) ⊎ (status ≡ Memory)
-  -- at Done the table stands whole behind what its sink held before
-  pub done : status ≡ Done → ListIsDone source sink words old new
-  -- at a refusal no sink gained anything
-  pub clean : status ≢ Done → status ≢ Report → Untouched old.sinks new.sinks
+  pub asked : AskNoOrder words
+  pub says : HoldsOrRefuses source sink words old new status
 
--- how sources and sinks tell their bytes and their faults
-abbrev pub streams_of : {Src Snk : Type 0} → Sources Src → Sinks Snk → Streams Src Snk
-streams_of source sink = streams source.left source.faults sink.held sink.faults
+-- what a run does: the order of the words; or it answers hold lines, or refuses the words; or memory was wanted for them
+abbrev pub RunSays : {Src Snk Dsk : Type 0} → Sources Src → Sinks Snk → Disks Dsk → List Word
+    → Scene Src Snk Dsk → Scene Src Snk Dsk → Status → Type 0
+RunSays source sink disk words old new status =
+    Obeys source sink disk words old new status
+    ⊎ (Falls source sink words old new status ⊎ TellsRefusal sink Memory old new status)
 
--- the sources and the sinks under their names
-abbrev pub hold_scene : {Src Snk Dsk : Type 0} → Scene Src Snk Dsk → Under Src Snk
-hold_scene scene = under scene.sources scene.sinks
+-- the words spell an order, and all that it asks for was done
+pub record IsObeyed {Src Snk Dsk : Type 0} (source : Sources Src) (sink : Sinks Snk)
+    (disk : Disks Dsk) (words : List Word) (old new : Scene Src Snk Dsk) : Type 0 where
+  pub order : Order
+  pub asked : AreWords words order
+  pub done : OrderIsDone source sink disk order old new
 
--- what serving a client's hold lines says of its status
-pub record HoldsSay {Src Snk Dsk : Type 0} (streams : Streams Src Snk) (words : List Word)
-    (old new : Scene Src Snk Dsk) (status : Status) : Type 0 where
-  -- Words comes exactly where the words ask for nothing; want of memory alone may stand before it
-  pub wording : status ≡ Words → AskNothing words
-  pub form : AskNothing words → (status ≡ Words) ⊎ (status ≡ Memory)
-  pub untouched : AskNothing words → new ≡ old
-  -- no other status comes
-  pub among : IsHoldStatus status
-  -- the client was served to the end of its input; or to an end that is its fault or its streams'
-  pub done : status ≡ Done
-      → Serves streams old.standing words Input (hold_scene old) (hold_scene new)
-  pub client_end : status ≡ ClientEnd
-      → ServesBadly streams old.standing words (hold_scene old) (hold_scene new)
-  -- a name could not be opened; no sink gained anything
-  pub opening : status ≡ Opening
-      → Refuses old.standing words (hold_scene old) (hold_scene new) old.faults new.faults
-  -- want of memory comes before anything is changed, or behind lines that were answered
-  pub memory : status ≡ Memory
-      → Unchanged (hold_scene old) (hold_scene new)
-      ⊎ Serves streams old.standing words memory_end (hold_scene old) (hold_scene new)
-  pub later : old.faults ≤ new.faults
-  -- where a call that opens a name failed, the status is Opening
-  pub quiet : status ≢ Opening → new.faults ≡ old.faults
-  pub report : new.report ≡ old.report
+-- all that the words ask for was done
+abbrev pub IsDone : {Src Snk Dsk : Type 0} → Sources Src → Sinks Snk → Disks Dsk → List Word
+    → Scene Src Snk Dsk → Scene Src Snk Dsk → Type 0
+IsDone source sink disk words old new =
+    IsObeyed source sink disk words old new
+    ⊎ IsServed (streams_of source sink) words old new

@@ -1,7 +1,9 @@
 //! The server's commands, from words to a status.
 #![tactic(auto)]
 
+mod orders;
 mod runs;
+mod sessions;
 #[cfg(test)]
 mod tests;
 

@@ -1,4 +1,4 @@
-//! The command `list` over an outside in memory. Expected values by hand.
+//! Commands over an outside in memory. Expected values by hand.
 
 use crate::{Status, run};
 use outside_io::{MemOutside, MemSink, MemSource};
@@ -6,8 +6,10 @@ use std::test::Fail;
 
 const TABLE: &str = "zones 0 blocks 0 stops 0\n";
 
+const NOT_UNDERSTOOD: &str = "words not understood\n";
+
 #[test]
-fn each_status_of_list_has_its_report(rt: HostRuntime) -> Result<(), Fail> {
+fn each_status_has_its_report(rt: HostRuntime) -> Result<(), Fail> {
     let alloc = rt.alloc();
     for (words, file, failing, room, status, table, report) in [
         (
@@ -35,7 +37,7 @@ fn each_status_of_list_has_its_report(rt: HostRuntime) -> Result<(), Fail> {
             99,
             Status::Words,
             "",
-            "words not understood\n",
+            NOT_UNDERSTOOD,
         ),
         (
             "list --network net --out out --out out",
@@ -44,7 +46,7 @@ fn each_status_of_list_has_its_report(rt: HostRuntime) -> Result<(), Fail> {
             99,
             Status::Words,
             "",
-            "words not understood\n",
+            NOT_UNDERSTOOD,
         ),
         (
             "list --network net --out -",
@@ -53,7 +55,7 @@ fn each_status_of_list_has_its_report(rt: HostRuntime) -> Result<(), Fail> {
             99,
             Status::Words,
             "",
-            "words not understood\n",
+            NOT_UNDERSTOOD,
         ),
         (
             "list --network net -- --out out",
@@ -62,7 +64,7 @@ fn each_status_of_list_has_its_report(rt: HostRuntime) -> Result<(), Fail> {
             99,
             Status::Words,
             "",
-            "words not understood\n",
+            NOT_UNDERSTOOD,
         ),
         (
             "list --network= --out out",
@@ -71,7 +73,7 @@ fn each_status_of_list_has_its_report(rt: HostRuntime) -> Result<(), Fail> {
             99,
             Status::Words,
             "",
-            "words not understood\n",
+            NOT_UNDERSTOOD,
         ),
         (
             "list --net net --out out",
@@ -80,7 +82,7 @@ fn each_status_of_list_has_its_report(rt: HostRuntime) -> Result<(), Fail> {
             99,
             Status::Words,
             "",
-            "words not understood\n",
+            NOT_UNDERSTOOD,
         ),
         (
             "list --network net --out out --help",
@@ -89,7 +91,7 @@ fn each_status_of_list_has_its_report(rt: HostRuntime) -> Result<(), Fail> {
             99,
             Status::Words,
             "",
-            "words not understood\n",
+            NOT_UNDERSTOOD,
         ),
         (
             "list --network other --out out",
@@ -152,6 +154,52 @@ fn each_status_of_list_has_its_report(rt: HostRuntime) -> Result<(), Fail> {
             5,
             Status::Report,
             "zones",
+            "",
+        ),
+        ("serve", "{}", 9, 99, Status::Words, "", NOT_UNDERSTOOD),
+        (
+            "tables --network net --out out",
+            "{}",
+            9,
+            99,
+            Status::Words,
+            "",
+            NOT_UNDERSTOOD,
+        ),
+        (
+            "init --network net --base out",
+            "{}",
+            9,
+            99,
+            Status::Words,
+            "",
+            NOT_UNDERSTOOD,
+        ),
+        (
+            "init --network net --base other --journal new",
+            "{}",
+            9,
+            99,
+            Status::Opening,
+            "",
+            "open: other\n",
+        ),
+        (
+            "init --from=old --network net --base other --journal new",
+            "1.2.3",
+            9,
+            99,
+            Status::Network,
+            "",
+            "network: not-json\n",
+        ),
+        (
+            "serve --zones 3 --client A=net:out",
+            "hold 1 1 38 50",
+            9,
+            99,
+            Status::Done,
+            "held 1 entry 0 at 1\n",
             "",
         ),
     ] {

@@ -1,4 +1,4 @@
-use Rattle.std.proofs.Common.{◌≡◌, ◌∙◌, List, ℕ, [], ◌∷◌, codes, decimal, refl, sym, ap}
+use Rattle.std.proofs.Common.{◌∙◌, List, ℕ, [], ◌∷◌, codes, refl, sym}
 use Rattle.command_words.specs.Orders.{settings_of}
 use Rattle.command_words.specs.declared.orders.Order.TheVariants.{Tables}
 use Rattle.command_words.proofs.Agreeing.{agree_by, refuse_others}
