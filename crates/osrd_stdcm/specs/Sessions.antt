@@ -1,5 +1,5 @@
 -- What is done at words that spell no order: a client's hold lines are answered, or the words are refused.
-use Rattle.std.specs.Prelude.{◌≡◌, ◌≢◌, ◌≤◌, ◌⊎◌, ℕ, List, [], codes}
+use Rattle.std.specs.Prelude.{◌≡◌, ◌≢◌, ◌≤◌, ◌⊎◌, List, [], codes}
 use Rattle.exit_status.specs.declared.Status.{Status}
 use Rattle.exit_status.specs.declared.Status.TheVariants.{Done, Words, Opening, ClientEnd, Memory}
 use Rattle.outside_io.specs.declared.sinks.Sink.{Ghosts as Sinks}

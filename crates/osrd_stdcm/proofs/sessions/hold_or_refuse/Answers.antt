@@ -1,5 +1,5 @@
-use Rattle.std.proofs.Common.{◌≡◌, ap, inr, map, string_bytes, subst, sym}
-use Rattle.file_rounds.specs.Scenes.{Scene, scene}
+use Rattle.std.proofs.Common.{◌≡◌, ap, inl, inr, map, string_bytes, subst, true, false}
+use Rattle.file_rounds.specs.Scenes.{scene}
 use Rattle.hold_session.specs.Words.{AskNothing}
 use Rattle.osrd_stdcm.specs.Sessions.{TellsWords}
 use Rattle.osrd_stdcm.proofs.sessions.hold_or_refuse.Goals as goal
@@ -12,3 +12,23 @@ returns-clause-says g c =
 
 pub returns-clause-words : goal.returns-clause-words
 returns-clause-words g c is = c.run-status.ensures.words (c.is_words.ensures.0 c.if-not-is_words.false)
+
+pub returns-then-not-is_words-clause-says : goal.returns-then-not-is_words-clause-says
+returns-then-not-is_words-clause-says g c = inl (record {
+  understood = λ is.
+      let yes : c.is_words.result ≡ true = c.is_words.ensures.1 is in
+      let no : c.is_words.result ≡ false = c.if-not-is_words.true in cc;
+  says = record {
+    wording = c.run-status.ensures.words;
+    form = c.run-status.ensures.form;
+    untouched = λ asked. ap (scene g.O.Outside) (c.run-status.ensures.untouched asked);
+    among = c.run-status.ensures.among;
+    done = c.run-status.ensures.done;
+    client_end = c.run-status.ensures.client_end;
+    opening = c.run-status.ensures.opening;
+    memory = c.run-status.ensures.memory;
+    later = c.run-status.ensures.later;
+    quiet = c.run-status.ensures.quiet;
+    report = c.run-status.ensures.report;
+  };
+})
