@@ -19,8 +19,10 @@ use Rattle.client_turns.specs.declared.halts.Halt.{Halt}
 use Rattle.client_turns.specs.declared.halts.Halt.TheVariants as halt
 use Rattle.client_turns.specs.declared.told.Entered.{Entered}
 use Rattle.client_turns.specs.declared.told.Entered.TheVariants as entered
-use Rattle.client_turns.specs.Told.{EntersIn, Gained, IsRefusal, MayEnter, StopsIn}
-use Rattle.client_turns.specs.Turns.{CannotBegin, CannotSettle, HasEntered, IsAdded, IsReached, IsStopped, Looks, Sight, TakesTurn}
+use Rattle.client_turns.specs.declared.told.Tried.{Tried}
+use Rattle.client_turns.specs.declared.told.Tried.TheVariants as tried
+use Rattle.client_turns.specs.Told.{EntersIn, Gained, IsRefusal, IsTakenBefore, IsTakenSince, MayEnter, StopsIn, TriesIn}
+use Rattle.client_turns.specs.Turns.{CannotBegin, CannotSettle, HasEntered, HasTried, IsAdded, IsReached, IsStopped, Looks, Sight, TakesTurn}
 use Rattle.client_turns.proofs.Taken.{took_turn}
 
 abbrev pub stands : {D : Type 0} → (D → ℕ) → Ledger D → Statement Entry
@@ -112,6 +114,27 @@ module _ {D : Type 0} (faults : D → ℕ) (v m : Sight) (book left : Ledger D)
     pub enters : (w : Sight) → w ≡ served m (stands faults left) → (told : Entered)
         → EntersIn faults entry book left told → HasEntered timetable entry told v w
     enters w ends told done = subst (HasEntered timetable entry told v) (sym ends) (ended told done)
+
+    ended_try : (searched : ℕ) (told : Tried) → TriesIn faults entry searched book left told
+        → HasTried timetable entry searched told v (served m (stands faults left))
+    ended_try searched (tried.Entered (entered.Settled at front)) done =
+        ended (entered.Settled at front) done
+    ended_try searched (tried.Entered (entered.Unsettled at front)) done =
+        ended (entered.Unsettled at front) done
+    ended_try searched (tried.Entered (entered.Refused told)) done = (
+      ended (entered.Refused told) done.0,
+      moved (λ t entries. IsTakenBefore t entries entry searched) done.1,
+    )
+    ended_try searched (tried.Entered entered.Full) done = ended entered.Full done
+    ended_try searched (tried.Missed at) done = record {
+      looks = looks_at done.0 settled;
+      since = moved (λ t entries. IsTakenSince t entries entry searched at) done.1;
+    }
+
+    pub tries : (w : Sight) → w ≡ served m (stands faults left) → (searched : ℕ) (told : Tried)
+        → TriesIn faults entry searched book left told → HasTried timetable entry searched told v w
+    tries w ends searched told done =
+        subst (HasTried timetable entry searched told v) (sym ends) (ended_try searched told done)
 
     cannot_begin : StopsIn faults entry book left halt.DiskFault
         → CannotBegin timetable entry v (served m (stands faults left))

@@ -1,14 +1,20 @@
 -- Where an entry is kept, one stands at its position.
-use Rattle.std.proofs.Common.{◌≡◌, ℕ, List, length, subst}
+use Rattle.std.proofs.Common.{◌≡◌, ◌≢◌, ℕ, List, length, ap, ◌∙◌, subst}
 use Rattle.rail_types.specs.declared.entries.Entry.{Entry}
 use Rattle.rail_types.specs.declared.paths.Claim.{Claim}
 use Rattle.rail_types.specs.Timetables.{Timetable}
 use Rattle.grant_log.specs.declared.verdicts.Verdict.{Verdict}
 use Rattle.grant_log.specs.declared.verdicts.Verdict.TheVariants as verdict
-use Rattle.grant_log.specs.Live.{live_claims}
+use Rattle.grant_log.specs.Live.{claims_of, live_claims}
 use Rattle.grant_log.specs.Meanings.{Says}
-use Rattle.path_commit.specs.Clashes.{IsLastClash}
-use Rattle.client_turns.specs.Told.{Stands}
+use Rattle.grant_log.specs.Verdict.{verdict_on}
+use Rattle.path_commit.specs.Answers.{IsTaken}
+use Rattle.path_commit.specs.Clashes.{IsLastClash, NoneClashesFrom}
+use Rattle.path_commit.specs.Ledgers.{Ledger}
+use Rattle.client_turns.specs.declared.told.Entered.TheVariants as entered
+use Rattle.client_turns.specs.declared.told.Refusal.{Refusal}
+use Rattle.client_turns.specs.declared.told.Tried.TheVariants as tried
+use Rattle.client_turns.specs.Told.{IsRefusal, Stands, TriesIn}
 
 pub said_stands : (timetable : Timetable) (entries : List Entry) (entry : Entry) (told : Verdict)
     → Says timetable entries entry told → Stands entries told
@@ -28,3 +34,22 @@ pub none_from : (timetable : Timetable) (entries : List Entry) (claims : List Cl
     → (at : ℕ) → ¬ IsLastClash (live_claims timetable entries) claims front at
 none_from timetable entries claims front is law at last =
     law at (subst (λ n. IsLastClash (live_claims timetable entries) claims n at) is last)
+
+-- what became of an entry that was refused, by what the book told of it
+pub tries_refused : {D : Type 0} (faults : D → ℕ) (old new : Ledger D) (entry : Entry) (searched : ℕ)
+    (said : Verdict) (told : Refusal) (list : List Entry) → new ≡ old → list ≡ new.entries
+    → (said ≡ verdict_on old.timetable old.entries entry) × (said ≢ verdict.Fresh)
+    × (IsTaken said
+    → NoneClashesFrom (live_claims old.timetable old.entries) (claims_of old.timetable entry.deed) searched)
+    → IsRefusal list said told
+    → TriesIn faults entry searched old new (tried.Entered (entered.Refused told))
+tries_refused {D} faults old new entry searched said told list same here is refusal = (
+  (
+    same,
+    subst (λ v. v ≢ verdict.Fresh) is.0 is.1,
+    subst (λ v. IsRefusal old.entries v told) is.0
+        (subst (λ l. IsRefusal l said told) (here ∙ ap (λ (b : Ledger D). b.entries) same) refusal),
+  ),
+  subst (λ v. IsTaken v → NoneClashesFrom (live_claims old.timetable old.entries) (claims_of old.timetable entry.deed) searched)
+      is.0 is.2,
+)

@@ -1,5 +1,5 @@
 -- A turn that is open, what was done to its book, and what the turn did once it ended.
-use Rattle.std.proofs.Common.{◌≡◌, ℕ, ◌≤◌, [], Option, ap, sym, ◌∙◌, subst, arith}
+use Rattle.std.proofs.Common.{◌≡◌, ℕ, ◌≤◌, List, [], Option, length, ap, sym, ◌∙◌, subst, arith, length-append}
 use Rattle.std.proofs.lemmas.List.{append-nil}
 use Rattle.book_gate.specs.declared.gates.Gate.{Gate}
 use Rattle.book_gate.specs.declared.gates.Pass.{Pass}
@@ -13,9 +13,10 @@ use Rattle.client_turns.specs.declared.clients.Client.{Client}
 use Rattle.client_turns.specs.declared.halts.Halt.{Halt}
 use Rattle.client_turns.specs.declared.told.Entered.{Entered}
 use Rattle.client_turns.specs.Clients.{IsCopyOf, Knows}
-use Rattle.client_turns.specs.Told.{EntersIn, StopsIn}
-use Rattle.client_turns.specs.Turns.{HasEntered, IsOpen, IsReached, IsStopped, Looks, Sight, timetable_at}
-use Rattle.client_turns.proofs.Ended.{enters, looks, same_timetable, stands, stops}
+use Rattle.client_turns.specs.declared.told.Tried.{Tried}
+use Rattle.client_turns.specs.Told.{EntersIn, StopsIn, TriesIn}
+use Rattle.client_turns.specs.Turns.{HasEntered, HasTried, IsOpen, IsReached, IsStopped, Looks, Sight, timetable_at}
+use Rattle.client_turns.proofs.Ended.{enters, looks, same_timetable, stands, stops, tries}
 use Rattle.client_turns.proofs.Known.{known_longer}
 
 module _ {D : Type 0} (faults : D → ℕ) (gate : Gate (Ledger D) Entry Footing)
@@ -29,6 +30,17 @@ module _ {D : Type 0} (faults : D → ℕ) (gate : Gate (Ledger D) Entry Footing
   pub same_starts : left ≡ book → StartsWith left.entries (view new).found.list
   same_starts same =
       ([], ap (λ (b : Ledger D). b.entries) (same ∙ lent) ∙ open_now.list ∙ sym (append-nil (view new).found.list))
+
+  -- what a client knew before is no more than what the book has
+  pub front_within : (known : Client) → Knows (timetable_at gate) known (view old).seen
+      → known.front ≤ length book.entries
+  front_within known knows =
+      let all = known_longer (timetable_at gate) known (view new).found.list (view old).seen
+      open_now.goes_on knows in
+      let rest : List Entry = all.1.0 in
+      let long = ap length all.1.1 ∙ length-append all.0 rest in
+      let here = ap (λ (b : Ledger D). length b.entries) lent ∙ ap length open_now.list in
+      let front = all.2.front in omega arith
 
   module _ (w : Sight) (ends : w ≡ served (view new) (stands faults left)) where
     found_still : (view new).found.list ≡ w.found.list
@@ -65,6 +77,16 @@ module _ {D : Type 0} (faults : D → ℕ) (gate : Gate (Ledger D) Entry Footing
         (subst (λ (b : Ledger D). faults b.disk ≤ faults left.disk) lent later)
         (timetable_at gate) by entry open_now.settled w ends told
         (subst (λ (b : Ledger D). EntersIn faults entry b left told) lent done)
+
+    pub turn_tries : (entry : Entry) (searched : ℕ) (told : Tried)
+        → faults book.disk ≤ faults left.disk → TriesIn faults entry searched book left told
+        → HasTried (timetable_at gate) entry searched told (view old) w
+    turn_tries entry searched told later done =
+        tries faults (view old) (view new) held left open_now.opens open_now.goes_on open_now.within
+        open_now.list open_now.counts
+        (subst (λ (b : Ledger D). faults b.disk ≤ faults left.disk) lent later)
+        (timetable_at gate) by entry open_now.settled w ends searched told
+        (subst (λ (b : Ledger D). TriesIn faults entry searched b left told) lent done)
 
     pub turn_stops : (entry : Entry) (told : Halt) → faults book.disk ≤ faults left.disk
         → StopsIn faults entry book left told

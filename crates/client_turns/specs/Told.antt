@@ -7,9 +7,10 @@ use Rattle.rail_types.specs.Timetables.{Timetable}
 use Rattle.grant_log.specs.declared.verdicts.Verdict.{Verdict}
 use Rattle.grant_log.specs.declared.verdicts.Verdict.TheVariants as verdict
 use Rattle.grant_log.specs.Legal.{Joins}
-use Rattle.grant_log.specs.Live.{freed_by}
+use Rattle.grant_log.specs.Live.{claims_of, freed_by, live_claims}
 use Rattle.grant_log.specs.Verdict.{place_of, repeat_at, verdict_on}
-use Rattle.path_commit.specs.Answers.{bytes_with, with_entry}
+use Rattle.path_commit.specs.Answers.{IsTaken, bytes_with, with_entry}
+use Rattle.path_commit.specs.Clashes.{IsLastClash, NoneClashesFrom}
 use Rattle.path_commit.specs.Ledgers.{Ledger, settled_of}
 use Rattle.client_turns.specs.declared.halts.Halt.{Halt}
 use Rattle.client_turns.specs.declared.halts.Halt.TheVariants as halt
@@ -18,6 +19,8 @@ use Rattle.client_turns.specs.declared.told.Entered.TheVariants.{Settled, Unsett
 use Rattle.client_turns.specs.declared.told.Refusal.{Refusal}
 use Rattle.client_turns.specs.declared.told.Refusal.TheVariants.{Kept, Other}
 use Rattle.client_turns.specs.declared.told.Standing.{Standing}
+use Rattle.client_turns.specs.declared.told.Tried.{Tried}
+use Rattle.client_turns.specs.declared.told.Tried.TheVariants.{Entered as Judged, Missed}
 
 -- the entry at a position with the later one that frees it, or that none stands there
 abbrev pub IsStanding : List Entry → ℕ → Option Standing → Type 0
@@ -48,6 +51,19 @@ IsFoundAgain entries owner number deed (Some told) =
 pub record MayEnter (timetable : Timetable) (entry : Entry) (entries : List Entry) : Type 0 where
   pub joins : Joins timetable entries entry
   pub room : bytes_with entries entry ≤ timetable.settings.journal_bytes
+
+-- where a claim of the entry is taken, no entry from this position on has one that clashes
+abbrev pub IsTakenBefore : Timetable → List Entry → Entry → ℕ → Type 0
+IsTakenBefore timetable entries entry searched =
+    IsTaken (verdict_on timetable entries entry)
+    → NoneClashesFrom (live_claims timetable entries) (claims_of timetable entry.deed) searched
+
+-- a claim of the entry is taken, and the last entry from the searched position on that has one which clashes stands here
+pub record IsTakenSince (timetable : Timetable) (entries : List Entry) (entry : Entry)
+    (searched at : ℕ) : Type 0 where
+  pub taken : IsTaken (verdict_on timetable entries entry)
+  pub clash : IsLastClash (live_claims timetable entries) (claims_of timetable entry.deed)
+      searched at
 
 -- ---- inside
 
@@ -85,3 +101,12 @@ StopsIn faults entry old new halt.DiskFault =
     × (settled_of new ≡ length new.entries) × Rose (faults old.disk) (faults new.disk)
 StopsIn faults entry old new halt.NoMemory = new ≡ old
 StopsIn faults entry old new (halt.Ahead after front) = ⊥
+
+-- what became in a book of an entry whose path was searched for at a front
+abbrev pub TriesIn : {D : Type 0} → (D → ℕ) → Entry → ℕ → Ledger D → Ledger D → Tried → Type 0
+TriesIn faults entry searched old new (Judged (Refused told)) =
+    EntersIn faults entry old new (Refused told)
+    × IsTakenBefore old.timetable old.entries entry searched
+TriesIn faults entry searched old new (Judged entered) = EntersIn faults entry old new entered
+TriesIn faults entry searched old new (Missed at) =
+    (new ≡ old) × IsTakenSince old.timetable old.entries entry searched at

@@ -22,7 +22,9 @@ use Rattle.client_turns.specs.declared.told.Entered.{Entered}
 use Rattle.client_turns.specs.declared.told.Entered.TheVariants.{Settled, Unsettled, Refused, Full}
 use Rattle.client_turns.specs.declared.told.Refusal.{Refusal}
 use Rattle.client_turns.specs.Clients.{IsCopyOf}
-use Rattle.client_turns.specs.Told.{IsRefusal, MayEnter}
+use Rattle.client_turns.specs.declared.told.Tried.{Tried}
+use Rattle.client_turns.specs.declared.told.Tried.TheVariants.{Entered as Judged, Missed}
+use Rattle.client_turns.specs.Told.{IsRefusal, IsTakenBefore, IsTakenSince, MayEnter}
 
 -- what a pass knows of a book
 abbrev pub Sight : Type 0
@@ -112,6 +114,19 @@ HasEntered timetable entry (Unsettled at front) v w =
     × Rose w.found.count w.count
 HasEntered timetable entry (Refused told) v w = IsRefusedIn timetable entry told v w
 HasEntered timetable entry Full v w = IsFullIn timetable entry v w
+
+-- a turn in which entries from the searched position on clash with an entry, the last of them at this position
+pub record IsMissedIn (timetable : Timetable) (entry : Entry) (searched at : ℕ) (v w : Sight)
+    : Type 0 where
+  pub looks : Looks v w
+  pub since : IsTakenSince timetable w.found.list entry searched at
+
+-- a turn that judged an entry whose path was searched for where there were so many entries
+abbrev pub HasTried : Timetable → Entry → ℕ → Tried → Sight → Sight → Type 0
+HasTried timetable entry searched (Judged (Refused told)) v w =
+    IsRefusedIn timetable entry told v w × IsTakenBefore timetable w.found.list entry searched
+HasTried timetable entry searched (Judged entered) v w = HasEntered timetable entry entered v w
+HasTried timetable entry searched (Missed at) v w = IsMissedIn timetable entry searched at v w
 
 -- a turn that ended with nothing added to what it found
 abbrev pub IsStopped : Timetable → Entry → Halt → Option ℕ → Sight → Sight → Type 0

@@ -10,5 +10,5 @@ mod turns;
 
 pub use clients::Client;
 pub use halts::Halt;
-pub use told::{Entered, Refusal, Standing};
-pub use turns::{enter_entry, find_again, look, show};
+pub use told::{Entered, Refusal, Standing, Tried};
+pub use turns::{enter_entry, find_again, look, show, try_entry};

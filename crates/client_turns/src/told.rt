@@ -5,7 +5,7 @@ ghost use Rattle.book_gate.specs.Views.{StartsWith};
 ghost use Rattle.grant_log.specs.Legal.{IsInRange};
 ghost use Rattle.path_commit.specs.Footings.{footing_of};
 ghost use Rattle.path_commit.specs.Ledgers.{settled_of};
-ghost use Rattle.client_turns.specs.Told.{EntersIn, IsFoundAgain, IsRefusal, IsStanding, Stands, StopsIn};
+ghost use Rattle.client_turns.specs.Told.{EntersIn, IsFoundAgain, IsRefusal, IsStanding, Stands, StopsIn, TriesIn};
 
 use crate::halts::Halt;
 use crate::laws::{kept_entries_stand, none_clashes_behind};
@@ -36,6 +36,15 @@ pub enum Entered {
     Refused(Refusal),
     /// Its record would not have room within the journal's limit.
     Full,
+}
+
+/// What became of an entry whose path was searched for.
+#[derive(Debug, Drop)]
+pub enum Tried {
+    /// It was judged by all that stands.
+    Entered(Entered),
+    /// Entries from the searched front on have live claims that clash with it; the last of them stands at this position.
+    Missed(u64),
 }
 
 /// An entry, and the position of the one that frees it, if any does.
@@ -114,25 +123,49 @@ pub(crate) fn enter_in<D: Disk>(
     ensures footing { footing_of book.new ≡ footing_of book.old }
     ensures later { D.faults book.old.disk ≤ D.faults book.new.disk }
 {
-    kept_entries_stand();
     none_clashes_behind();
     let front = book.front();
-    match book.commit(entry, front) {
-        Committed::Done(at) => Ok(Entered::Settled {
+    let tried = try_in(alloc, book, entry, front)?;
+    match tried {
+        Tried::Entered(entered) => Ok(entered),
+        // No entry stands from the front on, so none clashes.
+        Tried::Missed(_at) => unreachable!(),
+    }
+}
+
+// Judges an entry whose path was searched for where the book had so many entries, and takes it into a book with nothing
+// pending.
+pub(crate) fn try_in<D: Disk>(
+    alloc: Global,
+    book: &mut Book<D>,
+    entry: Entry,
+    searched: u64,
+) -> Result<Tried, Halt>
+    requires idle { settled_of book.old ≡ length book.old.entries }
+    requires range { IsInRange book.old.timetable entry }
+    requires searched { searched ≤ length book.old.entries }
+    ensures tried { IfOk result (TriesIn D.faults entry searched book.old book.new) }
+    ensures stopped { IfErr result (StopsIn D.faults entry book.old book.new) }
+    ensures grows { StartsWith book.new.entries book.old.entries }
+    ensures footing { footing_of book.new ≡ footing_of book.old }
+    ensures later { D.faults book.old.disk ≤ D.faults book.new.disk }
+{
+    kept_entries_stand();
+    match book.commit(entry, searched) {
+        Committed::Done(at) => Ok(Tried::Entered(Entered::Settled {
             at,
             front: book.front(),
-        }),
-        Committed::Unsettled(at) => Ok(Entered::Unsettled {
+        })),
+        Committed::Unsettled(at) => Ok(Tried::Entered(Entered::Unsettled {
             at,
             front: book.front(),
-        }),
+        })),
         Committed::Refused(verdict) => {
             let told = told_by(alloc, book.history(), verdict)?;
-            Ok(Entered::Refused(told))
+            Ok(Tried::Entered(Entered::Refused(told)))
         }
-        // No entry stands from the front on, so none clashes.
-        Committed::Clash { entry: _ } => unreachable!(),
-        Committed::Full => Ok(Entered::Full),
+        Committed::Clash { entry } => Ok(Tried::Missed(entry)),
+        Committed::Full => Ok(Tried::Entered(Entered::Full)),
         Committed::DiskFault => Err(Halt::DiskFault),
         Committed::Memory => Err(Halt::NoMemory),
     }

@@ -1,15 +1,15 @@
 //! The turns that a client takes, each whole.
-ghost use Rattle.std.specs.Prelude.{◌≡◌, ℕ, ◌+◌, ◌<◌, ◌≤◌, IfErr, IfOk, IfSome, IsNone, Some, length};
+ghost use Rattle.std.specs.Prelude.{◌≡◌, ℕ, ◌+◌, ◌<◌, ◌≤◌, IfErr, IfOk, IfSome, IsNone, None, Some, length};
 ghost use Rattle.rail_types.specs.declared.limits.TheConstants.{MAX_OWNER_BYTES};
 ghost use Rattle.book_gate.specs.Passes.{turns_left, view};
 ghost use Rattle.grant_log.specs.Legal.{IsInRange};
 ghost use Rattle.client_turns.specs.Clients.{IsCopyOf, Knows};
 ghost use Rattle.client_turns.specs.Told.{IsFoundAgain, IsStanding};
-ghost use Rattle.client_turns.specs.Turns.{HasEntered, IsHalted, IsOpen, IsReached, IsReady, IsStopped, Looks, timetable_at};
+ghost use Rattle.client_turns.specs.Turns.{HasEntered, HasTried, IsHalted, IsOpen, IsReached, IsReady, IsStopped, Looks, timetable_at};
 
 use crate::clients::Client;
 use crate::halts::Halt;
-use crate::told::{Entered, Refusal, Standing, enter_in, standing_at, told_again};
+use crate::told::{Entered, Refusal, Standing, Tried, enter_in, standing_at, told_again, try_in};
 use book_gate::{Gate, Held, Pass};
 use grant_journal::Settled;
 use outside_io::Disk;
@@ -190,4 +190,37 @@ pub fn enter_entry<R: Wait, D: Disk>(
     gate.leave(pass, held);
     let entered = entered?;
     Ok(entered)
+}
+
+/// A turn that judges an entry whose path was searched for beside the client's copy, and takes it in where it is fresh and
+/// its record has room. What came since the copy's front is told apart where it clashes.
+pub fn try_entry<R: Wait, D: Disk>(
+    rt: &R,
+    alloc: Global,
+    gate: &Gate<Book<D>>,
+    pass: &mut Pass<Book<D>>,
+    client: &mut Client,
+    entry: Entry,
+) -> Result<Tried, Halt>
+    requires ready { IsReady gate.now pass.old }
+    requires budget { 1 ≤ turns_left pass.old }
+    requires knows { Knows (timetable_at gate.now) client.old (view pass.old).seen }
+    requires range { IsInRange (timetable_at gate.now) entry }
+    ensures ready { IsReady gate.now pass.new }
+    ensures name { client.new.name ≡ client.old.name }
+    ensures knows { Knows (timetable_at gate.now) client.new (view pass.new).seen }
+    ensures budget { turns_left pass.new + 1 ≡ turns_left pass.old }
+    ensures tried { IfOk result (λ tried. HasTried (timetable_at gate.now) entry client.old.front
+        tried (view pass.old) (view pass.new)) }
+    ensures copy { IfOk result (λ _.
+        IsCopyOf (timetable_at gate.now) client.new (view pass.new).found.list) }
+    ensures stopped { IfErr result (λ halt.
+        IsStopped (timetable_at gate.now) entry halt None (view pass.old) (view pass.new)) }
+{
+    let searched = client.front;
+    let mut held = open_turn(rt, gate, pass, client, None)?;
+    let tried = try_in(alloc, held.book(), entry, searched);
+    gate.leave(pass, held);
+    let tried = tried?;
+    Ok(tried)
 }

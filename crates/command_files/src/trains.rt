@@ -1,8 +1,9 @@
 //! The train file.
 
-ghost use Rattle.std.specs.Prelude.{◌≡◌};
+ghost use Rattle.std.specs.Prelude.{◌≡◌, IfOk};
 ghost use Rattle.command_files.specs.Files.{TellsTrains, TrainsSay, TrainStep};
 ghost use Rattle.file_rounds.specs.Scenes.{scene};
+ghost use Rattle.train_file.specs.Trains.{AreTrains};
 
 use crate::files::{FileKind, bytes_of};
 use command_reports::Refusal;
@@ -20,6 +21,7 @@ pub fn read_train_file<O: Outside>(
 ) -> Result<Trains, Refusal>
     ensures step { TrainStep O.Src.Source name.now (scene O.Outside outside.old)
         (scene O.Outside outside.new) result }
+    ensures sound { IfOk result AreTrains }
 {
     let bytes = bytes_of(alloc, FileKind::Trains, name, outside)?;
     let trains = trains_of_bytes(alloc, &bytes)?;
@@ -29,6 +31,7 @@ pub fn read_train_file<O: Outside>(
 // The trains that a file's bytes tell.
 fn trains_of_bytes(alloc: Global, bytes: &[u8]) -> Result<Trains, Refusal>
     ensures says { TrainsSay bytes.now result }
+    ensures sound { IfOk result AreTrains }
 {
     match read_trains(alloc, bytes) {
         Ok(trains) => Ok(trains),

@@ -2,16 +2,20 @@
 use Rattle.std.proofs.Common.{◌≡◌, ◌∙◌, ℕ, true, false, List, [], ◌∷◌, Option, None, Some, refl, sym, codes}
 use Rattle.std.specs.Str.{bytes_eq}
 use Rattle.option_words.specs.Spelling.{are_among, at_most_one, Setting, values_under}
-use Rattle.command_words.specs.Orders.{Agree, Asks, settings_of}
+use Rattle.client_words.specs.declared.clients.ClientWord.{ClientWord}
+use Rattle.command_words.specs.Orders.{Agree, Asks, IsWithinLimits, settings_of}
 use Rattle.command_words.specs.declared.orders.Order.{Order}
-use Rattle.command_words.specs.declared.orders.Order.TheVariants.{Tables, Init}
+use Rattle.command_words.specs.declared.orders.Order.TheVariants.{Tables, Init, Stairs, Capacity, Serve}
 use Rattle.command_words.proofs.Agreeing.{agree_by, differ}
 
 pub list_order : (settings : List Setting) (order : Order) → Asks (codes "list") settings order → (network : List ℕ) × (out : List ℕ) × Agree settings (settings_of (Tables network out))
 list_order settings (Tables network out) asks = (network, out, asks.agree)
 list_order settings (Init network base journal from) asks = absurd (differ (codes "list") (codes "init") refl asks.command_is)
+list_order settings (Stairs network base journal entry out) asks = absurd (differ (codes "list") (codes "stairs") refl asks.command_is)
+list_order settings (Capacity network base journal first last from to out) asks = absurd (differ (codes "list") (codes "capacity") refl asks.command_is)
+list_order settings (Serve network trains base journal clients) asks = absurd (differ (codes "list") (codes "serve") refl asks.command_is)
 
--- the names of an order to begin a journal
+-- the parts of an order to begin a journal
 pub record IsInit (settings : List Setting) : Type 0 where
   pub network : List ℕ
   pub base : List ℕ
@@ -28,11 +32,98 @@ init_order settings (Init network base journal from) asks = record {
   from = from;
   agree = asks.agree;
 }
+init_order settings (Stairs network base journal entry out) asks = absurd (differ (codes "init") (codes "stairs") refl asks.command_is)
+init_order settings (Capacity network base journal first last from to out) asks = absurd (differ (codes "init") (codes "capacity") refl asks.command_is)
+init_order settings (Serve network trains base journal clients) asks = absurd (differ (codes "init") (codes "serve") refl asks.command_is)
+
+-- the parts of an order to write a stairway
+pub record IsStairs (settings : List Setting) : Type 0 where
+  pub network : List ℕ
+  pub base : List ℕ
+  pub journal : List ℕ
+  pub entry : ℕ
+  pub out : List ℕ
+  pub agree : Agree settings (settings_of (Stairs network base journal entry out))
+  pub limits : IsWithinLimits (Stairs network base journal entry out)
+
+pub stairs_order : (settings : List Setting) (order : Order) → Asks (codes "stairs") settings order → IsStairs settings
+stairs_order settings (Tables network out) asks = absurd (differ (codes "stairs") (codes "list") refl asks.command_is)
+stairs_order settings (Init network base journal from) asks = absurd (differ (codes "stairs") (codes "init") refl asks.command_is)
+stairs_order settings (Stairs network base journal entry out) asks = record {
+  network = network;
+  base = base;
+  journal = journal;
+  entry = entry;
+  out = out;
+  agree = asks.agree;
+  limits = asks.limits;
+}
+stairs_order settings (Capacity network base journal first last from to out) asks = absurd (differ (codes "stairs") (codes "capacity") refl asks.command_is)
+stairs_order settings (Serve network trains base journal clients) asks = absurd (differ (codes "stairs") (codes "serve") refl asks.command_is)
+
+-- the parts of an order to write a capacity
+pub record IsCapacity (settings : List Setting) : Type 0 where
+  pub network : List ℕ
+  pub base : List ℕ
+  pub journal : List ℕ
+  pub first : ℕ
+  pub last : ℕ
+  pub from : ℕ
+  pub to : ℕ
+  pub out : List ℕ
+  pub agree : Agree settings (settings_of (Capacity network base journal first last from to out))
+  pub limits : IsWithinLimits (Capacity network base journal first last from to out)
+
+pub capacity_order : (settings : List Setting) (order : Order) → Asks (codes "capacity") settings order → IsCapacity settings
+capacity_order settings (Tables network out) asks = absurd (differ (codes "capacity") (codes "list") refl asks.command_is)
+capacity_order settings (Init network base journal from) asks = absurd (differ (codes "capacity") (codes "init") refl asks.command_is)
+capacity_order settings (Stairs network base journal entry out) asks = absurd (differ (codes "capacity") (codes "stairs") refl asks.command_is)
+capacity_order settings (Capacity network base journal first last from to out) asks = record {
+  network = network;
+  base = base;
+  journal = journal;
+  first = first;
+  last = last;
+  from = from;
+  to = to;
+  out = out;
+  agree = asks.agree;
+  limits = asks.limits;
+}
+capacity_order settings (Serve network trains base journal clients) asks = absurd (differ (codes "capacity") (codes "serve") refl asks.command_is)
+
+-- the parts of an order to serve clients
+pub record IsServe (settings : List Setting) : Type 0 where
+  pub network : List ℕ
+  pub trains : List ℕ
+  pub base : List ℕ
+  pub journal : List ℕ
+  pub clients : List ClientWord
+  pub agree : Agree settings (settings_of (Serve network trains base journal clients))
+  pub limits : IsWithinLimits (Serve network trains base journal clients)
+
+pub serve_order : (settings : List Setting) (order : Order) → Asks (codes "serve") settings order → IsServe settings
+serve_order settings (Tables network out) asks = absurd (differ (codes "serve") (codes "list") refl asks.command_is)
+serve_order settings (Init network base journal from) asks = absurd (differ (codes "serve") (codes "init") refl asks.command_is)
+serve_order settings (Stairs network base journal entry out) asks = absurd (differ (codes "serve") (codes "stairs") refl asks.command_is)
+serve_order settings (Capacity network base journal first last from to out) asks = absurd (differ (codes "serve") (codes "capacity") refl asks.command_is)
+serve_order settings (Serve network trains base journal clients) asks = record {
+  network = network;
+  trains = trains;
+  base = base;
+  journal = journal;
+  clients = clients;
+  agree = asks.agree;
+  limits = asks.limits;
+}
 
 -- a word that is none of the command words asks for nothing
-pub no_order : (command : List ℕ) (settings : List Setting) (order : Order) → bytes_eq command (codes "list") ≡ false → bytes_eq command (codes "init") ≡ false → Asks command settings order → ⊥
-no_order command settings (Tables network out) list begin asks = differ command (codes "list") list asks.command_is
-no_order command settings (Init network base journal from) list begin asks = differ command (codes "init") begin asks.command_is
+pub no_order : (command : List ℕ) (settings : List Setting) (order : Order) → bytes_eq command (codes "list") ≡ false → bytes_eq command (codes "init") ≡ false → bytes_eq command (codes "stairs") ≡ false → bytes_eq command (codes "capacity") ≡ false → bytes_eq command (codes "serve") ≡ false → Asks command settings order → ⊥
+no_order command settings (Tables network out) list begin stairs capacity serve asks = differ command (codes "list") list asks.command_is
+no_order command settings (Init network base journal from) list begin stairs capacity serve asks = differ command (codes "init") begin asks.command_is
+no_order command settings (Stairs network base journal entry out) list begin stairs capacity serve asks = differ command (codes "stairs") stairs asks.command_is
+no_order command settings (Capacity network base journal first last from to out) list begin stairs capacity serve asks = differ command (codes "capacity") capacity asks.command_is
+no_order command settings (Serve network trains base journal clients) list begin stairs capacity serve asks = differ command (codes "serve") serve asks.command_is
 
 -- the options of an order to begin a journal are of these kinds
 pub init_among : (network base journal : List ℕ) (from : Option (List ℕ)) → are_among (codes "network" ∷ codes "base" ∷ codes "journal" ∷ codes "from" ∷ []) (settings_of (Init network base journal from)) ≡ true

@@ -1,3 +1,6 @@
 pub mod Canon
+pub mod Parsed
 pub mod Agreeing
 pub mod Commands
+pub mod Errors
+pub mod Repeated

@@ -1,8 +1,12 @@
 -- The orders that words spell.
-use Rattle.std.specs.Prelude.{◌≡◌, ℕ, List, [], ◌∷◌, Option, None, Some, codes}
+use Rattle.std.specs.Prelude.{◌≡◌, ⊤, ℕ, ◌^◌, ◌<◌, ◌≤◌, pos, List, [], ◌∷◌, Option, None, Some, codes, decimal, map}
+use Rattle.rail_types.specs.Limits.{IsTick}
+use Rattle.rail_types.specs.declared.limits.TheConstants.{MAX_NUMBER}
 use Rattle.option_words.specs.Spelling.{Setting, Spell, values_under, Word}
+use Rattle.client_words.specs.Clients.{AreClients, client_text}
+use Rattle.client_words.specs.declared.clients.ClientWord.{ClientWord}
 use Rattle.command_words.specs.declared.orders.Order.{Order}
-use Rattle.command_words.specs.declared.orders.Order.TheVariants.{Tables, Init}
+use Rattle.command_words.specs.declared.orders.Order.TheVariants.{Tables, Init, Stairs, Capacity, Serve}
 
 -- an option with this value
 abbrev pub setting : List ℕ → List ℕ → Setting
@@ -12,11 +16,22 @@ setting option value = record { option = option; value = value }
 abbrev pub command_of : Order → Word
 command_of (Tables network out) = codes "list"
 command_of (Init network base journal from) = codes "init"
+command_of (Stairs network base journal entry out) = codes "stairs"
+command_of (Capacity network base journal first last from to out) = codes "capacity"
+command_of (Serve network trains base journal clients) = codes "serve"
 
 -- an option that may be left out
 abbrev pub if_given : List ℕ → Option (List ℕ) → List Setting
 if_given option None = []
 if_given option (Some value) = setting option value ∷ []
+
+-- an option whose value is a number
+abbrev pub numbered : List ℕ → ℕ → Setting
+numbered option number = setting option (decimal number)
+
+-- a client as an option
+abbrev pub client_setting : ClientWord → Setting
+client_setting word = setting (codes "client") (client_text word)
 
 -- the options of an order, each with its value
 abbrev pub settings_of : Order → List Setting
@@ -25,15 +40,48 @@ settings_of (Tables network out) =
 settings_of (Init network base journal from) =
     setting (codes "network") network ∷ setting (codes "base") base
     ∷ setting (codes "journal") journal ∷ if_given (codes "from") from
+settings_of (Stairs network base journal entry out) =
+    setting (codes "network") network ∷ setting (codes "base") base
+    ∷ setting (codes "journal") journal ∷ numbered (codes "entry") entry
+    ∷ setting (codes "out") out ∷ []
+settings_of (Capacity network base journal first last from to out) =
+    setting (codes "network") network ∷ setting (codes "base") base
+    ∷ setting (codes "journal") journal ∷ numbered (codes "first") first
+    ∷ numbered (codes "last") last ∷ numbered (codes "from") from ∷ numbered (codes "to") to
+    ∷ setting (codes "out") out ∷ []
+settings_of (Serve network trains base journal clients) =
+    setting (codes "network") network ∷ setting (codes "trains") trains
+    ∷ setting (codes "base") base ∷ setting (codes "journal") journal
+    ∷ map client_setting clients
+
+-- zones, the first to the last, each of 32 bits
+pub record AreZones (first last : ℕ) : Type 0 where
+  pub ordered : first ≤ last
+  pub small : last < 2 ^ 32
+
+-- ticks from 0 on, at least one
+pub record AreTicks (from to : ℕ) : Type 0 where
+  pub ordered : from < to
+  pub within : IsTick (pos to)
+
+-- the numbers and the clients of an order are within their limits
+abbrev pub IsWithinLimits : Order → Type 0
+IsWithinLimits (Tables network out) = ⊤
+IsWithinLimits (Init network base journal from) = ⊤
+IsWithinLimits (Stairs network base journal entry out) = entry ≤ MAX_NUMBER
+IsWithinLimits (Capacity network base journal first last from to out) =
+    AreZones first last × AreTicks from to
+IsWithinLimits (Serve network trains base journal clients) = AreClients clients
 
 -- each option has the same values in the same order
 abbrev pub Agree : List Setting → List Setting → Type 0
 Agree some others = (option : List ℕ) → values_under option some ≡ values_under option others
 
--- the command word is the order's, and the options, which stand in any order, are the order's
+-- the command word and the options, which stand in any order, are those of an order within its limits
 pub record Asks (command : Word) (settings : List Setting) (order : Order) : Type 0 where
   pub command_is : command ≡ command_of order
   pub agree : Agree settings (settings_of order)
+  pub limits : IsWithinLimits order
 
 -- the words are a command word and options, each in one of its two forms, which ask for the order
 pub record AreWords (words : List Word) (order : Order) : Type 0 where

@@ -1,14 +1,15 @@
-//! The options that stand once, parsed by `clap`.
+//! The options that stand once, command by command, parsed by `clap`.
 
-ghost use Rattle.std.specs.Prelude.{◌≡◌, true, false, Some, IfOk, is_some, map, string_bytes};
-ghost use Rattle.option_words.specs.Spelling.{joined as joined_word};
-ghost use Rattle.clap.specs.Words.{app_of, first_of, found_of, matches_of, rows_of, rule_of, takes};
-ghost use Rattle.command_words.specs.Canonical.{init_app, list_app, move_app, required_rule};
-ghost use Rattle.command_words.specs.Orders.{setting};
+ghost use Rattle.std.specs.Prelude.{◌≡◌, IfOk, map, string_bytes};
+ghost use Rattle.clap.specs.Words.{app_of};
+ghost use Rattle.command_words.specs.Canonical.{canonical_capacity, capacity_app, journal_app, list_app, move_app, serve_app, stairs_app};
 
-use crate::texts::Text;
-use clap::{Arg, ArgAction, ArgMatches, Command};
+use crate::capacities::StretchWords;
+use crate::file_names::FileNames;
+use crate::parsing::{joined, parse, required, value_of};
+use clap::Command;
 use no_memory::NoMemory;
+use option_words::Text;
 use std::alloc::Global;
 
 /// The values of the options of `list` that stand once.
@@ -55,7 +56,7 @@ pub(crate) fn parse_init(
     ensures base { IfOk result (λ texts. texts.base ≡ base.now) }
     ensures journal { IfOk result (λ texts. texts.journal ≡ journal.now) }
 {
-    let command = init_command(alloc)?;
+    let command = journal_command(alloc, "init")?;
     let words = [
         String::from_str(alloc, "init")?,
         joined(alloc, "network", network)?,
@@ -109,6 +110,156 @@ pub(crate) fn parse_move(
     })
 }
 
+/// The values of the options of `stairs`.
+#[derive(Debug, Drop)]
+pub(crate) struct StairsTexts {
+    pub network: Text,
+    pub base: Text,
+    pub journal: Text,
+    pub entry: Text,
+    pub out: Text,
+}
+
+/// Hands `stairs` with these options to `clap`, and takes its values back.
+pub(crate) fn parse_stairs(
+    alloc: Global,
+    network: &str,
+    base: &str,
+    journal: &str,
+    entry: &str,
+    out: &str,
+) -> Result<StairsTexts, NoMemory>
+    ensures network { IfOk result (λ texts. texts.network ≡ network.now) }
+    ensures base { IfOk result (λ texts. texts.base ≡ base.now) }
+    ensures journal { IfOk result (λ texts. texts.journal ≡ journal.now) }
+    ensures entry { IfOk result (λ texts. texts.entry ≡ entry.now) }
+    ensures out { IfOk result (λ texts. texts.out ≡ out.now) }
+{
+    let command = stairs_command(alloc)?;
+    let words = [
+        String::from_str(alloc, "stairs")?,
+        joined(alloc, "network", network)?,
+        joined(alloc, "base", base)?,
+        joined(alloc, "journal", journal)?,
+        joined(alloc, "entry", entry)?,
+        joined(alloc, "out", out)?,
+    ];
+    let matches = parse(command, words.as_slice())?;
+    Ok(StairsTexts {
+        network: value_of(alloc, &matches, "network")?,
+        base: value_of(alloc, &matches, "base")?,
+        journal: value_of(alloc, &matches, "journal")?,
+        entry: value_of(alloc, &matches, "entry")?,
+        out: value_of(alloc, &matches, "out")?,
+    })
+}
+
+/// The values of the options of `capacity`.
+#[derive(Debug, Drop)]
+pub(crate) struct CapacityTexts {
+    pub network: Text,
+    pub base: Text,
+    pub journal: Text,
+    pub first: Text,
+    pub last: Text,
+    pub from: Text,
+    pub to: Text,
+    pub out: Text,
+}
+
+/// Hands `capacity` with these options to `clap`, and takes its values back.
+pub(crate) fn parse_capacity(
+    alloc: Global,
+    names: &FileNames<'_>,
+    stretch: &StretchWords<'_>,
+    out: &str,
+) -> Result<CapacityTexts, NoMemory>
+    ensures network { IfOk result (λ texts. texts.network ≡ names.now.network.now) }
+    ensures base { IfOk result (λ texts. texts.base ≡ names.now.base.now) }
+    ensures journal { IfOk result (λ texts. texts.journal ≡ names.now.journal.now) }
+    ensures first { IfOk result (λ texts. texts.first ≡ stretch.now.first.now) }
+    ensures last { IfOk result (λ texts. texts.last ≡ stretch.now.last.now) }
+    ensures from { IfOk result (λ texts. texts.from ≡ stretch.now.from.now) }
+    ensures to { IfOk result (λ texts. texts.to ≡ stretch.now.to.now) }
+    ensures out { IfOk result (λ texts. texts.out ≡ out.now) }
+{
+    let command = capacity_command(alloc)?;
+    let words = capacity_words(alloc, names, stretch, out)?;
+    let matches = parse(command, words.as_slice())?;
+    Ok(CapacityTexts {
+        network: value_of(alloc, &matches, "network")?,
+        base: value_of(alloc, &matches, "base")?,
+        journal: value_of(alloc, &matches, "journal")?,
+        first: value_of(alloc, &matches, "first")?,
+        last: value_of(alloc, &matches, "last")?,
+        from: value_of(alloc, &matches, "from")?,
+        to: value_of(alloc, &matches, "to")?,
+        out: value_of(alloc, &matches, "out")?,
+    })
+}
+
+// The canonical words of `capacity`.
+fn capacity_words(
+    alloc: Global,
+    names: &FileNames<'_>,
+    stretch: &StretchWords<'_>,
+    out: &str,
+) -> Result<[String; 9], NoMemory>
+    ensures { IfOk result (λ words. map string_bytes words ≡ canonical_capacity
+        names.now.network.now names.now.base.now names.now.journal.now
+        stretch.now.first.now stretch.now.last.now stretch.now.from.now stretch.now.to.now
+        out.now) }
+{
+    Ok([
+        String::from_str(alloc, "capacity")?,
+        joined(alloc, "network", names.network)?,
+        joined(alloc, "base", names.base)?,
+        joined(alloc, "journal", names.journal)?,
+        joined(alloc, "first", stretch.first)?,
+        joined(alloc, "last", stretch.last)?,
+        joined(alloc, "from", stretch.from)?,
+        joined(alloc, "to", stretch.to)?,
+        joined(alloc, "out", out)?,
+    ])
+}
+
+/// The values of the options of `serve` that stand once.
+#[derive(Debug, Drop)]
+pub(crate) struct ServeTexts {
+    pub network: Text,
+    pub base: Text,
+    pub journal: Text,
+    pub trains: Text,
+}
+
+/// Hands `serve` with these options to `clap`, and takes its values back.
+pub(crate) fn parse_serve(
+    alloc: Global,
+    names: &FileNames<'_>,
+    trains: &str,
+) -> Result<ServeTexts, NoMemory>
+    ensures network { IfOk result (λ texts. texts.network ≡ names.now.network.now) }
+    ensures base { IfOk result (λ texts. texts.base ≡ names.now.base.now) }
+    ensures journal { IfOk result (λ texts. texts.journal ≡ names.now.journal.now) }
+    ensures trains { IfOk result (λ texts. texts.trains ≡ trains.now) }
+{
+    let command = serve_command(alloc)?;
+    let words = [
+        String::from_str(alloc, "serve")?,
+        joined(alloc, "network", names.network)?,
+        joined(alloc, "base", names.base)?,
+        joined(alloc, "journal", names.journal)?,
+        joined(alloc, "trains", trains)?,
+    ];
+    let matches = parse(command, words.as_slice())?;
+    Ok(ServeTexts {
+        network: value_of(alloc, &matches, "network")?,
+        base: value_of(alloc, &matches, "base")?,
+        journal: value_of(alloc, &matches, "journal")?,
+        trains: value_of(alloc, &matches, "trains")?,
+    })
+}
+
 // The command `list`.
 fn list_command<'a>(alloc: Global) -> Result<Command<'a>, NoMemory>
     ensures { IfOk result (λ command. app_of command ≡ list_app) }
@@ -122,14 +273,14 @@ fn list_command<'a>(alloc: Global) -> Result<Command<'a>, NoMemory>
     Ok(command)
 }
 
-// The command `init` of a new journal.
-fn init_command<'a>(alloc: Global) -> Result<Command<'a>, NoMemory>
-    ensures { IfOk result (λ command. app_of command ≡ init_app) }
+// A command over a network, a base timetable and a journal.
+fn journal_command<'a>(alloc: Global, name: &'a str) -> Result<Command<'a>, NoMemory>
+    ensures { IfOk result (λ command. app_of command ≡ journal_app name.now) }
 {
     let network = required(alloc, "network");
     let base = required(alloc, "base");
     let journal = required(alloc, "journal");
-    let command = Command::new(alloc, "init")
+    let command = Command::new(alloc, name)
         .disable_help_flag(true)
         .arg(network)?
         .arg(base)?
@@ -142,52 +293,43 @@ fn move_command<'a>(alloc: Global) -> Result<Command<'a>, NoMemory>
     ensures { IfOk result (λ command. app_of command ≡ move_app) }
 {
     let from = required(alloc, "from");
-    let command = init_command(alloc)?.arg(from)?;
+    let command = journal_command(alloc, "init")?.arg(from)?;
     Ok(command)
 }
 
-// Parses words that the command takes.
-fn parse<'a>(command: Command<'a>, words: &'a [String]) -> Result<ArgMatches<'a>, NoMemory>
-    requires taken { takes (app_of command) (map string_bytes words.now) ≡ true }
-    ensures { IfOk result (λ matches. rows_of (found_of matches)
-        ≡ matches_of (app_of command.entry) (map string_bytes words.now)) }
+// The command `stairs`.
+fn stairs_command<'a>(alloc: Global) -> Result<Command<'a>, NoMemory>
+    ensures { IfOk result (λ command. app_of command ≡ stairs_app) }
 {
-    match command.try_get_matches_from(words) {
-        Ok(matches) => Ok(matches),
-        Err(_) => Err(NoMemory),
-    }
+    let entry = required(alloc, "entry");
+    let out = required(alloc, "out");
+    let command = journal_command(alloc, "stairs")?.arg(entry)?.arg(out)?;
+    Ok(command)
 }
 
-// The value of an option that has one.
-fn value_of(alloc: Global, matches: &ArgMatches<'_>, option: &str) -> Result<Text, NoMemory>
-    requires some { is_some (first_of option.now (rows_of (found_of matches.now))) ≡ true }
-    ensures { IfOk result (λ value. first_of option.now (rows_of (found_of matches.now))
-        ≡ Some value) }
+// The command `capacity`.
+fn capacity_command<'a>(alloc: Global) -> Result<Command<'a>, NoMemory>
+    ensures { IfOk result (λ command. app_of command ≡ capacity_app) }
 {
-    match matches.get_str(option) {
-        Some(value) => Text::from_str(alloc, value),
-        None => unreachable!(),
-    }
+    let first = required(alloc, "first");
+    let last = required(alloc, "last");
+    let from = required(alloc, "from");
+    let to = required(alloc, "to");
+    let out = required(alloc, "out");
+    let command = journal_command(alloc, "capacity")?
+        .arg(first)?
+        .arg(last)?
+        .arg(from)?
+        .arg(to)?
+        .arg(out)?;
+    Ok(command)
 }
 
-// An option that must stand once, with a value.
-fn required<'a>(alloc: Global, option: &'a str) -> Arg<'a>
-    ensures rule { rule_of result ≡ required_rule option.now }
-    ensures local { result.global ≡ false }
+// The command `serve`.
+fn serve_command<'a>(alloc: Global) -> Result<Command<'a>, NoMemory>
+    ensures { IfOk result (λ command. app_of command ≡ serve_app) }
 {
-    Arg::new(alloc, option)
-        .long(option)
-        .required(true)
-        .action(ArgAction::Set)
-}
-
-// An option and its value in one word.
-fn joined(alloc: Global, option: &str, value: &str) -> Result<String, NoMemory>
-    ensures { IfOk result (λ word. string_bytes word ≡ joined_word (setting option.now value.now)) }
-{
-    let mut word = String::from_str(alloc, "--")?;
-    word.push_str(option)?;
-    word.push('=')?;
-    word.push_str(value)?;
-    Ok(word)
+    let trains = required(alloc, "trains");
+    let command = journal_command(alloc, "serve")?.arg(trains)?;
+    Ok(command)
 }

@@ -2,11 +2,15 @@
 #![tactic(auto)]
 
 mod canonical;
+mod capacities;
+mod file_names;
+mod grants;
 mod orders;
+mod parsing;
 mod reading;
-mod texts;
+mod serves;
 
-pub use option_words::WordsFault;
+pub use client_words::ClientWord;
+pub use option_words::{Text, WordsFault};
 pub use orders::Order;
 pub use reading::read_words;
-pub use texts::Text;

@@ -1,6 +1,8 @@
 //! What the server can be asked to do.
 
-use crate::texts::Text;
+use client_words::ClientWord;
+use option_words::Text;
+use rail_types::List;
 
 /// An order to the server.
 #[derive(Debug, Drop)]
@@ -17,5 +19,36 @@ pub enum Order {
         base: Text,
         journal: Text,
         from: Option<Text>,
+    },
+    /// Write the stairway of a grant: the names of the network's, the base timetable's and the journal's file, the
+    /// grant's position in the history, at most `MAX_NUMBER`, and the name of the table's file.
+    Stairs {
+        network: Text,
+        base: Text,
+        journal: Text,
+        entry: u64,
+        out: Text,
+    },
+    /// Write how much of a window the trains on some zones take up: the names of the network's, the base timetable's and
+    /// the journal's file, the first and the last zone, the window's first tick and the tick at which it ends, both 0 to
+    /// `MAX_TICK`, and the name of the text's file.
+    Capacity {
+        network: Text,
+        base: Text,
+        journal: Text,
+        first: u32,
+        last: u32,
+        from: u32,
+        to: u32,
+        out: Text,
+    },
+    /// Answer the lines of clients: the names of the network's, the trains', the base timetable's and the journal's file,
+    /// and the clients, 1 to `MAX_CLIENTS`, with names and streams of their own.
+    Serve {
+        network: Text,
+        trains: Text,
+        base: Text,
+        journal: Text,
+        clients: List<ClientWord>,
     },
 }

@@ -5,7 +5,10 @@ ghost use Rattle.command_words.specs.Orders.{Asks, AreWords};
 ghost use Rattle.command_words.specs.declared.orders.Order.{Order as order_type};
 
 use crate::canonical::{parse_init, parse_list, parse_move};
+use crate::capacities::read_capacity;
+use crate::grants::read_stairs;
 use crate::orders::Order;
+use crate::serves::read_serve;
 use no_memory::NoMemory;
 use option_words::{Setting, WordsFault, has_only, optional_value, read_settings, single_value};
 use std::alloc::Global;
@@ -36,6 +39,15 @@ fn read_order(alloc: Global, command: &str, settings: &[Setting<'_>]) -> Result<
     }
     if command == "init" {
         return read_init(alloc, settings);
+    }
+    if command == "stairs" {
+        return read_stairs(alloc, settings);
+    }
+    if command == "capacity" {
+        return read_capacity(alloc, settings);
+    }
+    if command == "serve" {
+        return read_serve(alloc, settings);
     }
     Err(WordsFault::NotUnderstood)
 }

@@ -1,26 +1,23 @@
 -- The turn of a call, and the reply that it gives.
-use Rattle.std.proofs.Common.{◌≡◌, ◌≢◌, ◌⊎◌, ℕ, ◌+◌, ◌-◌, ◌<◌, ◌≤◌, true, false, Bool, All, Contains, List, [], ◌∷◌, ◌++◌, length, take, ap, sym, ◌∙◌, subst, refl, arith, length-append}
+use Rattle.std.proofs.Common.{◌≡◌, ◌≢◌, ℕ, ◌+◌, ◌-◌, ◌≤◌, true, false, Bool, All, List, [], ◌∷◌, ◌++◌, length, take, ap, sym, ◌∙◌, subst, refl, arith, length-append}
 use Rattle.std.proofs.lemmas.Bool.{cases_lt}
 use Rattle.std.proofs.lemmas.List.{append-nil, length_push, take_at, take_all}
 use Rattle.std.proofs.lemmas.List.Elements.{All-nil, All-push}
 use mathlib.Core.Logic.{inl, inr, ⊎_elim}
 use Rattle.book_gate.specs.declared.views.Turn.{Turn}
-use Rattle.book_gate.specs.Views.{StartsWith, turn, positions, own}
+use Rattle.book_gate.specs.Views.{StartsWith, turn, positions}
 use Rattle.grant_journal.specs.declared.journals.Stage.TheVariants.{Record, Gate}
 use Rattle.grant_log.specs.Verdict.{takes}
 use Rattle.grant_log.specs.Legal.{Joins}
 use Rattle.outside_io.specs.Faults.{Rose}
-use Rattle.plan_core.specs.declared.events.Event.{Event}
 use Rattle.plan_core.specs.declared.events.Event.TheVariants as event
-use Rattle.plan_core.specs.Pairs.{IsEventOfPair, Pair}
+use Rattle.plan_core.specs.Pairs.{Pair}
 use Rattle.rail_types.specs.declared.entries.Entry.{Entry}
 use Rattle.reply_texts.specs.declared.replies.Reply.{Reply}
 use Rattle.reply_texts.specs.declared.replies.Reply.TheVariants as reply
-use Rattle.client_turns.specs.declared.halts.Halt.{Halt}
-use Rattle.client_turns.specs.declared.halts.Halt.TheVariants as halt
 use Rattle.client_turns.specs.Turns.{CannotBegin, CannotSettle, IsAdded, Looks, Sight, TakesTurn}
 use Rattle.line_answers.specs.Answers.{Caller, GivesLine}
-use Rattle.line_answers.specs.Calls.{Answers, AnswersBetween, EndInFault, FirstFound, HasTurns, IsEventOf, IsOf, IsSettled, IsToldIn, IsTurnOf, LastFound, Settle, TakesEvent, TakesEvents, pair}
+use Rattle.line_answers.specs.Calls.{AnswersBetween, EndInFault, HasTurns, IsOf, IsSettled, IsToldIn, IsTurnOf, Settle, TakesEvent, TakesEvents, pair}
 use Rattle.line_answers.specs.Points.{added, unsettled_by}
 
 pub starts_refl : {X : Type 0} (a : List X) → StartsWith a a
@@ -117,23 +114,23 @@ module _ (caller : Caller) (entry : Entry) (is_of : IsOf caller entry) (found le
 
 -- ---- a call of one turn
 
-positions_none : (g left : List Entry) → left ≡ g → positions (length g) (length left - length g) ≡ []
+pub positions_none : (g left : List Entry) → left ≡ g → positions (length g) (length left - length g) ≡ []
 positions_none g left e =
     let same : length left - length g ≡ 0 = let long = ap length e in omega arith in
     ap (positions (length g)) same
 
-positions_one : (g left : List Entry) (entry : Entry) → left ≡ g ++ entry ∷ []
+pub positions_one : (g left : List Entry) (entry : Entry) → left ≡ g ++ entry ∷ []
     → positions (length g) (length left - length g) ≡ length g ∷ []
 positions_one g left entry more =
     let same : length left - length g ≡ 1 = let long = ap length more ∙ length_push g entry in omega arith in
     ap (positions (length g)) same
 
 module _ (caller : Caller) (bytes : List ℕ) (v w : Sight) where
-  abbrev its_turn : ℕ → Turn
+  abbrev pub its_turn : ℕ → Turn
   its_turn settled =
       turn w.ticket w.found (record { list = w.seen; settled = settled; count = w.count })
 
-  is_turn : (settled : ℕ) → TakesTurn v w settled
+  pub is_turn : (settled : ℕ) → TakesTurn v w settled
       → ((client : ℕ) → TakesEvents caller client (pair w.found.list w.found.settled) (pair w.seen settled))
       → IsTurnOf caller w.seen (its_turn settled)
   is_turn settled taken event =

@@ -1,5 +1,5 @@
 -- A reply that added nothing, and whose text could not be made.
-use Rattle.std.proofs.Common.{◌≡◌, ℕ, All, IfErr, List, [], Result, Ok, Err, ap, sym, ◌∙◌, subst, refl}
+use Rattle.std.proofs.Common.{◌≡◌, ℕ, All, IfErr, List, [], Result, Ok, Err, ◌∙◌, subst, refl}
 use Rattle.book_gate.specs.declared.views.Turn.{Turn}
 use Rattle.rail_types.specs.declared.entries.Entry.{Entry}
 use Rattle.reply_texts.specs.declared.replies.Reply.{Reply}

@@ -1,26 +1,21 @@
 -- What a line is told by what its turn did.
-use Rattle.std.proofs.Common.{◌≡◌, ◌≢◌, ◌⊎◌, ℕ, ◌<◌, ◌≤◌, All, List, [], ◌∷◌, ◌++◌, Option, Some, None, length, slice_get, ap, sym, ◌∙◌, subst, refl}
+use Rattle.std.proofs.Common.{◌≡◌, ◌≢◌, ◌⊎◌, ℕ, ◌<◌, ◌≤◌, All, List, [], ◌∷◌, Option, Some, None, length, slice_get, sym, ◌∙◌, subst, refl}
 use Rattle.std.proofs.lemmas.List.Elements.{All-nil}
 use Rattle.std.proofs.lemmas.Option.{slice_get_cases}
 use mathlib.Core.Logic.{inl, inr, ⊎_elim}
-use Rattle.blocking_time.specs.declared.rules.Broken.{Broken}
 use Rattle.book_gate.specs.declared.views.Turn.{Turn}
 use Rattle.client_lines.specs.Cuts.{fields_of}
 use Rattle.client_lines.specs.Forms.{Spells}
 use Rattle.client_lines.specs.Lines.{a_line}
 use Rattle.client_lines.specs.Reading.{RefusesFirst}
-use Rattle.client_lines.specs.declared.asks.Ask.{Ask}
 use Rattle.client_lines.specs.declared.asks.Ask.TheVariants as asks
 use Rattle.client_lines.specs.declared.asks.Line.{Line}
 use Rattle.client_lines.specs.declared.faults.LineFault.{LineFault}
 use Rattle.client_lines.specs.declared.faults.LineFault.TheVariants as fault
-use Rattle.grant_log.specs.declared.verdicts.Verdict.{Verdict}
 use Rattle.grant_log.specs.declared.verdicts.Verdict.TheVariants as verdict
 use Rattle.grant_log.specs.Live.{freed_by}
-use Rattle.grant_log.specs.Verdict.{verdict_on}
 use Rattle.rail_types.specs.declared.entries.Deed.{Deed}
 use Rattle.rail_types.specs.declared.entries.Entry.{Entry}
-use Rattle.rail_types.specs.declared.trains.Request.{Request}
 use Rattle.reply_texts.specs.Rooms.{IsBehindEntry}
 use Rattle.reply_texts.specs.declared.replies.Reply.{Reply}
 use Rattle.reply_texts.specs.declared.replies.Reply.TheVariants as reply
@@ -30,7 +25,7 @@ use Rattle.client_turns.specs.declared.told.Entered.TheVariants.{Settled, Unsett
 use Rattle.client_turns.specs.declared.told.Refusal.{Refusal}
 use Rattle.client_turns.specs.declared.told.Refusal.TheVariants as refusal
 use Rattle.client_turns.specs.Turns.{HasEntered, IsAdded, IsFullIn, IsHalted, IsRefusedIn, IsStopped, Looks, Sight}
-use Rattle.line_answers.specs.Answers.{Adds, Caller, GivesLine, IsAllowed, IsDeedOf, IsEntryOf, IsHold, IsNarrowLine, IsPin, IsReached, IsSought, IsTold, Leaves, MayBegin, entry_of, number_of, word_at}
+use Rattle.line_answers.specs.Answers.{Adds, Caller, GivesLine, IsAllowed, IsDeedOf, IsEntryOf, IsHold, IsNarrowLine, IsPin, IsReached, Leaves, entry_of, number_of}
 use Rattle.line_answers.specs.Callers.{AnswersLine}
 use Rattle.line_answers.specs.Calls.{AnswersBetween, HasTurns, IsOf, IsSettled, Settle}
 use Rattle.line_answers.specs.Points.{added}
@@ -260,21 +255,6 @@ pub unread_line : (caller : Caller) (bytes : List ℕ) (v : Sight) (told : LineF
     → RefusesFirst (a_line caller.known) (fields_of bytes) told
     → AnswersBetween caller bytes (fault_reply told) v v
 unread_line caller bytes v (fault.Bad field) wrong =
-    untaken caller bytes (reply.Bad field) v (inl wrong, refl) refl (All-nil IsSettled) refl
+    untaken caller bytes (reply.Bad field) v (wrong, refl) refl (All-nil IsSettled) refl
 unread_line caller bytes v fault.Memory wrong =
     untaken caller bytes reply.NoMemory v refl refl (All-nil IsSettled) tt
-
-pub not_served_line : (caller : Caller) (line : Line) (v : Sight) (field number : ℕ) (request : Request)
-    → line.ask ≡ asks.Path number request → field ≡ word_at line.after
-    → AnswersLine caller line (reply.Bad field) v v
-not_served_line caller line v field number request asked word bytes spells =
-    untaken caller bytes (reply.Bad field) v (
-      inr (record {
-        line = line;
-        spells = spells;
-        request = request;
-        sought = subst (λ (ask : Ask). IsSought ask request) (sym asked) refl;
-        word = word;
-      }),
-      refl,
-    ) refl (All-nil IsSettled) refl

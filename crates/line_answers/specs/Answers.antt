@@ -1,6 +1,5 @@
 -- What a line is answered.
-use Rattle.std.specs.Prelude.{◌≡◌, ◌≢◌, ◌⊎◌, ℕ, ◌+◌, ◌<◌, ◌≤◌, List, [], ◌∷◌, ◌++◌, length, Option, Some, None, slice_get}
-use Rattle.blocking_time.specs.declared.rules.Broken.{Broken}
+use Rattle.std.specs.Prelude.{◌≡◌, ◌⊎◌, ℕ, ◌+◌, ◌<◌, ◌≤◌, List, [], ◌∷◌, ◌++◌, length, Option, Some, None, slice_get}
 use Rattle.client_lines.specs.Cuts.{fields_of}
 use Rattle.client_lines.specs.Forms.{IsFirstWrong, Spells}
 use Rattle.client_lines.specs.Lines.{a_line}
@@ -28,7 +27,7 @@ use Rattle.reply_texts.specs.declared.replies.Reply.{Reply}
 use Rattle.reply_texts.specs.declared.replies.Reply.TheVariants as reply
 use Rattle.rule_names.specs.declared.RuleName.{RuleName}
 use Rattle.tail_states.specs.Listed.{HasMoreThan}
-use Rattle.line_answers.specs.Searched.{AreMissed, FitsAt, IsPossibleAt}
+use Rattle.ask_turns.specs.Searched.{AreMissed, FitsAt, IsPossibleAt}
 
 -- Who sends a line: what the line may name, the timetable by which it is judged, the client's name, the number of the
 -- line in its session, and the first of the client's rules that says no to the line at a history.
@@ -248,26 +247,11 @@ Gives caller line (reply.Unsettled number at front) h g left =
 Gives caller line reply.DiskFault h g left = left ≡ g
 Gives caller line reply.NoMemory h g left = left ≡ g
 
--- where the word of a line stands that names a front, or none
-abbrev pub word_at : Option ℕ → ℕ
-word_at None = 1
-word_at (Some after) = 3
-
--- The line seeks a path, and searches are not served: it is told its own word as wrong. (No line is answered so once they
--- are served.)
-pub record IsNotServed (caller : Caller) (bytes : List ℕ) (field : ℕ) : Type 0 where
-  pub line : Line
-  pub spells : Spells (a_line caller.known) (fields_of bytes) line
-  pub request : Request
-  pub sought : IsSought line.ask request
-  pub word : field ≡ word_at line.after
-
 -- the bytes of a line spell what is asked, and it is answered so; or its first wrong field is told, or memory was wanted
 -- before it was read
 abbrev pub GivesLine : Caller → List ℕ → Reply → List Entry → List Entry → List Entry → Type 0
 GivesLine caller bytes (reply.Bad field) h g left =
-    (IsFirstWrong (a_line caller.known) (fields_of bytes) field ⊎ IsNotServed caller bytes field)
-    × (left ≡ g)
+    IsFirstWrong (a_line caller.known) (fields_of bytes) field × (left ≡ g)
 GivesLine caller bytes reply.NoMemory h g left = left ≡ g
 GivesLine caller bytes told h g left =
     (line : Line) × Spells (a_line caller.known) (fields_of bytes) line

@@ -4,7 +4,6 @@ use Rattle.client_lines.specs.Cuts.{fields_of}
 use Rattle.client_lines.specs.Forms.{Spells}
 use Rattle.client_lines.specs.Lines.{a_line}
 use Rattle.client_lines.specs.declared.asks.Line.{Line}
-use Rattle.path_commit.specs.Ledgers.{Ledger}
 use Rattle.reply_texts.specs.declared.replies.Reply.{Reply}
 use Rattle.client_turns.specs.Turns.{Sight, timetable_at}
 use Rattle.line_answers.specs.Answers.{Caller}

@@ -7,7 +7,6 @@ use Rattle.plan_core.specs.declared.events.Event.{Event}
 use Rattle.plan_core.specs.declared.events.Event.TheVariants as event
 use Rattle.plan_core.specs.Pairs.{IsEventOfPair, Pair}
 use Rattle.rail_types.specs.declared.entries.Entry.{Entry}
-use Rattle.rail_types.specs.Timetables.{Timetable}
 use Rattle.reply_texts.specs.declared.replies.Reply.{Reply}
 use Rattle.reply_texts.specs.declared.replies.Reply.TheVariants as reply
 use Rattle.client_turns.specs.Turns.{Sight}

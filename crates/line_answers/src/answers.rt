@@ -1,19 +1,21 @@
 //! One line, answered.
 ghost use Rattle.std.specs.Prelude.{◌≡◌, ◌⊎◌, ◌+◌, ◌++◌, ◌≤◌, IfErr, IfOk, OnErr, length};
 ghost use Rattle.book_gate.specs.Passes.{turns_left, view};
-ghost use Rattle.client_lines.specs.Within.{AreSound, IsAskWithin};
+ghost use Rattle.client_lines.specs.Within.{IsAskWithin};
 ghost use Rattle.client_lines.specs.declared.lines.TheConstants.{MAX_LINE_BYTES};
 ghost use Rattle.rail_types.specs.Limits.{IsClientName};
 ghost use Rattle.reply_texts.specs.Replies.{reply_text as text_of};
-ghost use Rattle.reply_texts.specs.Rooms.{IsBehindEntry};
+ghost use Rattle.reply_texts.specs.Rooms.{room_for};
 ghost use Rattle.reply_texts.specs.declared.replies.Reply.TheVariants.{NoMemory as no_memory};
 ghost use Rattle.client_turns.specs.Clients.{Knows};
 ghost use Rattle.client_turns.specs.Turns.{IsReady, timetable_at};
-ghost use Rattle.line_answers.specs.Answers.{word_at};
+ghost use Rattle.line_answers.specs.Asked.{HasRoomIn};
 ghost use Rattle.line_answers.specs.Calls.{AnswersBetween};
 ghost use Rattle.line_answers.specs.Callers.{AnswersLine, caller_of};
+ghost use Rattle.line_answers.specs.Sharing.{IsShared};
 ghost use Rattle.line_answers.specs.Tells.{AddsNothing};
 
+use crate::asks::ask;
 use crate::replies::unread;
 use crate::shared::Shared;
 use crate::words::{free, front, hold, pin, show_entry};
@@ -22,7 +24,7 @@ use byte_fields::Buffer;
 use client_lines::{Ask, Line, lines_are_within_limits, read_line};
 use client_turns::Client;
 use no_memory::NoMemory;
-use outside_io::Disk;
+use outside_io::{Between, Disk};
 use path_commit::Book;
 use reply_texts::{Reply, replies_have_room, reply_room, reply_text};
 use std::alloc::Global;
@@ -30,8 +32,8 @@ use std::sync::Wait;
 
 /// Answers one line of a client, of so many bytes without its end, in at most four turns: the reply, whose text comes
 /// behind what stood in the buffer. For want of memory for the text nothing comes there, and nothing was added to the
-/// history.
-pub fn answer_one<R: Wait, D: Disk>(
+/// history. `between` is called behind each search that found a path.
+pub fn answer_one<R: Wait, D: Disk, B: Between>(
     rt: &R,
     alloc: Global,
     shared: &Shared<D>,
@@ -40,12 +42,12 @@ pub fn answer_one<R: Wait, D: Disk>(
     line_number: u32,
     line: &[u8],
     text: &mut Buffer,
+    between: &mut B,
 ) -> Result<Reply, NoMemory>
     requires ready { IsReady shared.now.gate pass.old }
     requires budget { 4 ≤ turns_left pass.old }
     requires knows { Knows (timetable_at shared.now.gate) client.old (view pass.old).seen }
-    requires known { AreSound shared.now.known }
-    requires network { shared.now.known.railway.network ≡ (timetable_at shared.now.gate).net }
+    requires shared { IsShared shared.now }
     requires name { IsClientName client.old.name }
     requires line { length line.now ≤ MAX_LINE_BYTES }
     ensures ready { IsReady shared.now.gate pass.new }
@@ -64,13 +66,23 @@ pub fn answer_one<R: Wait, D: Disk>(
     replies_have_room();
     // Room for the reply of a line that adds an entry is made before any turn.
     text.reserve(reply_room(0))?;
-    let reply = answer_bytes(rt, alloc, shared, pass, client, line_number, line);
+    let reply = answer_bytes(
+        rt,
+        alloc,
+        shared,
+        pass,
+        client,
+        line_number,
+        line,
+        text,
+        between,
+    );
     reply_text(&reply, text)?;
     Ok(reply)
 }
 
-// Reads a line and answers it. The reply is short, or tells of no entry that was added and of no fault.
-fn answer_bytes<R: Wait, D: Disk>(
+// Reads a line and answers it. There is room for the reply, or it tells of no entry that was added and of no fault.
+fn answer_bytes<R: Wait, D: Disk, B: Between>(
     rt: &R,
     alloc: Global,
     shared: &Shared<D>,
@@ -78,31 +90,44 @@ fn answer_bytes<R: Wait, D: Disk>(
     client: &mut Client,
     line_number: u32,
     line: &[u8],
+    text: &mut Buffer,
+    between: &mut B,
 ) -> Reply
     requires ready { IsReady shared.now.gate pass.old }
-    requires budget { 1 ≤ turns_left pass.old }
+    requires budget { 4 ≤ turns_left pass.old }
     requires knows { Knows (timetable_at shared.now.gate) client.old (view pass.old).seen }
-    requires known { AreSound shared.now.known }
-    requires network { shared.now.known.railway.network ≡ (timetable_at shared.now.gate).net }
+    requires shared { IsShared shared.now }
     requires name { IsClientName client.old.name }
     requires line { length line.now ≤ MAX_LINE_BYTES }
+    requires spare { room_for 0 ≤ text.old.spare }
     ensures ready { IsReady shared.now.gate pass.new }
-    ensures budget { turns_left pass.old ≤ turns_left pass.new + 1 }
+    ensures budget { turns_left pass.old ≤ turns_left pass.new + 4 }
     ensures name { client.new.name ≡ client.old.name }
     ensures knows { Knows (timetable_at shared.now.gate) client.new (view pass.new).seen }
     ensures answers { AnswersBetween (caller_of shared.now client.old.name line_number) line.now
         result (view pass.old) (view pass.new) }
-    ensures short { IsBehindEntry 0 result ⊎ AddsNothing result }
+    ensures held { text.new.held ≡ text.old.held }
+    ensures room { HasRoomIn text.new result ⊎ AddsNothing result }
 {
     lines_are_within_limits();
     match read_line(alloc, line, &shared.known) {
-        Ok(line) => answer_line(rt, alloc, shared, pass, client, line_number, line),
+        Ok(line) => answer_line(
+            rt,
+            alloc,
+            shared,
+            pass,
+            client,
+            line_number,
+            line,
+            text,
+            between,
+        ),
         Err(fault) => unread(fault),
     }
 }
 
 // Answers a line that was read, by its word.
-fn answer_line<R: Wait, D: Disk>(
+fn answer_line<R: Wait, D: Disk, B: Between>(
     rt: &R,
     alloc: Global,
     shared: &Shared<D>,
@@ -110,22 +135,27 @@ fn answer_line<R: Wait, D: Disk>(
     client: &mut Client,
     line_number: u32,
     line: Line,
+    text: &mut Buffer,
+    between: &mut B,
 ) -> Reply
     requires ready { IsReady shared.now.gate pass.old }
-    requires budget { 1 ≤ turns_left pass.old }
+    requires budget { 4 ≤ turns_left pass.old }
     requires knows { Knows (timetable_at shared.now.gate) client.old (view pass.old).seen }
     requires name { IsClientName client.old.name }
+    requires shared { IsShared shared.now }
     requires within { IsAskWithin (timetable_at shared.now.gate).net line.ask }
+    requires spare { room_for 0 ≤ text.old.spare }
     ensures ready { IsReady shared.now.gate pass.new }
-    ensures budget { turns_left pass.old ≤ turns_left pass.new + 1 }
+    ensures budget { turns_left pass.old ≤ turns_left pass.new + 4 }
     ensures name { client.new.name ≡ client.old.name }
     ensures knows { Knows (timetable_at shared.now.gate) client.new (view pass.new).seen }
     ensures answers { AnswersLine (caller_of shared.now client.old.name line_number) line result
         (view pass.old) (view pass.new) }
-    ensures short { IsBehindEntry 0 result ⊎ AddsNothing result }
+    ensures held { text.new.held ≡ text.old.held }
+    ensures room { HasRoomIn text.new result ⊎ AddsNothing result }
 {
-    let Line { after, ask } = line;
-    match ask {
+    let Line { after, ask: asked } = line;
+    match asked {
         Ask::Hold(number, claims, reason) => hold(
             rt,
             alloc,
@@ -149,10 +179,19 @@ fn answer_line<R: Wait, D: Disk>(
             number,
             path,
         ),
-        // Searches are not served.
-        Ask::Path(_number, _request) => Reply::Bad {
-            field: word_place(after),
-        },
+        Ask::Path(number, request) => ask(
+            rt,
+            alloc,
+            shared,
+            pass,
+            client,
+            line_number,
+            after,
+            number,
+            request,
+            text,
+            between,
+        ),
         Ask::Free(number, freed) => free(
             rt,
             alloc,
@@ -166,15 +205,5 @@ fn answer_line<R: Wait, D: Disk>(
         ),
         Ask::Show(at) => show_entry(rt, alloc, shared, pass, client, line_number, after, at),
         Ask::Front => front(rt, shared, pass, client, line_number, after),
-    }
-}
-
-// Which field the word of a line is, counted from 1.
-fn word_place(after: Option<u64>) -> u32
-    ensures { result ≡ word_at after }
-{
-    match after {
-        None => 1,
-        Some(_) => 3,
     }
 }

@@ -2,6 +2,7 @@
 #![tactic(auto)]
 
 mod answers;
+mod asks;
 mod entries;
 mod replies;
 mod shared;

@@ -1,10 +1,17 @@
 //! Replies by what a turn told.
-ghost use Rattle.std.specs.Prelude.{◌≡◌};
-ghost use Rattle.line_answers.specs.Tells.{IsFreeTold, IsHoldTold, IsPinTold, TellsFree, TellsHold, TellsPin, fault_reply, halt_reply};
+ghost use Rattle.std.specs.Prelude.{◌≡◌, ◌≤◌, ◌⊎◌};
+ghost use Rattle.ask_turns.specs.Finds.{HasRoomFor, HasRoomOf};
+ghost use Rattle.ask_turns.specs.Tries.{IsOfNumber, IsRefusedByNumber};
+ghost use Rattle.byte_fields.specs.Buffered.{Buffered};
+ghost use Rattle.reply_texts.specs.Rooms.{room_for};
+ghost use Rattle.line_answers.specs.Asked.{HasRoomIn, IsOutcomeTold, TellsAsk, TellsPath};
+ghost use Rattle.line_answers.specs.Tells.{AddsNothing, IsFreeTold, IsHoldTold, IsPinTold, TellsAgain, TellsFree, TellsHold, TellsPin, fault_reply, halt_reply};
 
+use ask_turns::Outcome;
 use client_lines::LineFault;
-use client_turns::{Halt, Refusal};
+use client_turns::{Entered, Halt, Refusal};
 use grant_log::Verdict;
+use rail_types::{List, Run};
 use reply_texts::Reply;
 
 // What a line is told that was not read.
@@ -140,5 +147,76 @@ pub(crate) fn free_refused(number: u64, freed: u64, told: Refusal, front: u64) -
             front,
         },
         _ => unreachable!(),
+    }
+}
+
+// What is told of a number that stands already.
+pub(crate) fn number_told(number: u64, told: Refusal, front: u64) -> Reply
+    requires { IsOfNumber told }
+    ensures tells { TellsAgain number front told result }
+    ensures adds { AddsNothing result }
+{
+    match told {
+        Refusal::Kept(entry, deed) => Reply::Kept {
+            number,
+            entry,
+            front,
+            deed,
+        },
+        Refusal::Other(Verdict::Gone(entry, freed_by)) => Reply::Gone {
+            number,
+            entry,
+            freed_by,
+            front,
+        },
+        Refusal::Other(Verdict::Other(entry)) => Reply::Other {
+            number,
+            entry,
+            front,
+        },
+        _ => unreachable!(),
+    }
+}
+
+// What is told of a path that was sought.
+pub(crate) fn ask_told(number: u64, outcome: Outcome, front: u64) -> Reply
+    requires { IsOutcomeTold outcome }
+    ensures tells { TellsAsk number front outcome result }
+    ensures room { (text : Buffered) → HasRoomFor text outcome → room_for 0 ≤ text.spare
+        → HasRoomIn text result ⊎ AddsNothing result }
+{
+    match outcome {
+        Outcome::Entered(entered, runs) => path_told(number, entered, runs, front),
+        Outcome::NoPath => Reply::NoPath { number, front },
+        Outcome::Again { entry, searched } => Reply::Again {
+            number,
+            entry,
+            searched,
+            front,
+        },
+    }
+}
+
+// What is told of a path that was found, which has these runs.
+fn path_told(number: u64, entered: Entered, runs: List<Run>, front: u64) -> Reply
+    requires { IsRefusedByNumber entered }
+    ensures tells { TellsPath number front entered runs result }
+    ensures room { (text : Buffered) → HasRoomOf text runs → room_for 0 ≤ text.spare
+        → HasRoomIn text result ⊎ AddsNothing result }
+{
+    match entered {
+        Entered::Settled { at, front } => Reply::Granted {
+            number,
+            entry: at,
+            front,
+            runs,
+        },
+        Entered::Unsettled { at, front } => Reply::Unsettled {
+            number,
+            entry: at,
+            front,
+        },
+        Entered::Refused(told) => number_told(number, told, front),
+        Entered::Full => Reply::Full { number, front },
     }
 }

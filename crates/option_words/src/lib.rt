@@ -2,9 +2,13 @@
 #![tactic(auto)]
 
 mod faults;
+mod numbers;
 mod settings;
+mod texts;
 mod values;
 
 pub use faults::WordsFault;
+pub use numbers::{read_number, read_small_number};
 pub use settings::{Setting, read_settings};
+pub use texts::Text;
 pub use values::{has_only, optional_value, single_value, values_of};

@@ -6,10 +6,14 @@ use Rattle.outside_io.specs.declared.sinks.Sink.{Ghosts as Sinks}
 use Rattle.outside_io.specs.declared.sources.Source.{Ghosts as Sources}
 use Rattle.file_rounds.specs.Scenes.{Scene}
 use Rattle.command_words.specs.declared.orders.Order.{Order}
-use Rattle.command_words.specs.declared.orders.Order.TheVariants.{Tables, Init}
+use Rattle.command_words.specs.declared.orders.Order.TheVariants.{Tables, Init, Stairs, Capacity, Serve}
 use Rattle.command_reports.specs.Works.{Runs}
+use Rattle.capacity_command.specs.Capacities.{stretch_of, TellsCapacity}
 use Rattle.init_command.specs.Works.{BeginOver, init_calls, IsDone, move_calls, MoveOver, ReadsBoth}
+use Rattle.journal_files.specs.Steps.{IsPrinted, print_calls, Prints}
 use Rattle.list_command.specs.Works.{IsListed, list_calls, ListWorks}
+use Rattle.serve_command.specs.Runs.{IsServed, RunsServe}
+use Rattle.stairs_command.specs.Tables.{TellsStairs}
 
 -- an order was carried out, step by step
 abbrev pub OrderSays : {Src Snk Dsk : Type 0} → Sources Src → Sinks Snk → Disks Dsk → Order
@@ -22,6 +26,15 @@ OrderSays source sink disk (Init network base journal None) old new status =
 OrderSays source sink disk (Init network base journal (Some from)) old new status =
     Runs sink (move_calls network base journal from)
     (ReadsBoth source network base (MoveOver disk journal from)) old new status
+OrderSays source sink disk (Stairs network base journal entry out) old new status =
+    Runs sink (print_calls network base journal out)
+    (Prints source sink disk network base journal out (TellsStairs entry)) old new status
+OrderSays source sink disk (Capacity network base journal first last from to out) old new status =
+    Runs sink (print_calls network base journal out)
+    (Prints source sink disk network base journal out
+    (TellsCapacity (stretch_of first last from to))) old new status
+OrderSays source sink disk (Serve network trains base journal clients) old new status =
+    RunsServe source sink disk network base trains journal clients old new status
 
 -- all that an order asks for was done
 abbrev pub OrderIsDone : {Src Snk Dsk : Type 0} → Sources Src → Sinks Snk → Disks Dsk → Order
@@ -32,9 +45,27 @@ OrderIsDone source sink disk (Init network base journal None) old new =
     IsDone source network base (BeginOver disk journal) old new
 OrderIsDone source sink disk (Init network base journal (Some from)) old new =
     IsDone source network base (MoveOver disk journal from) old new
+OrderIsDone source sink disk (Stairs network base journal entry out) old new =
+    IsPrinted source sink disk network base journal out (TellsStairs entry) old new
+OrderIsDone source sink disk (Capacity network base journal first last from to out) old new =
+    IsPrinted source sink disk network base journal out
+    (TellsCapacity (stretch_of first last from to)) old new
+OrderIsDone source sink disk (Serve network trains base journal clients) old new =
+    IsServed source sink disk network base trains journal clients old new
 
 -- the order has no disk of this name
 abbrev pub NamesNoDisk : Order → List ℕ → Type 0
 NamesNoDisk (Tables network out) name = ⊤
 NamesNoDisk (Init network base journal None) name = name ≢ journal
 NamesNoDisk (Init network base journal (Some from)) name = (name ≢ journal) × (name ≢ from)
+NamesNoDisk (Stairs network base journal entry out) name = name ≢ journal
+NamesNoDisk (Capacity network base journal first last from to out) name = name ≢ journal
+NamesNoDisk (Serve network trains base journal clients) name = name ≢ journal
+
+-- the order serves no clients
+abbrev pub HasNoClients : Order → Type 0
+HasNoClients (Tables network out) = ⊤
+HasNoClients (Init network base journal from) = ⊤
+HasNoClients (Stairs network base journal entry out) = ⊤
+HasNoClients (Capacity network base journal first last from to out) = ⊤
+HasNoClients (Serve network trains base journal clients) = ⊥

@@ -3,7 +3,6 @@
 
 mod orders;
 mod runs;
-mod sessions;
 #[cfg(test)]
 mod tests;
 

@@ -3,29 +3,43 @@
 ghost use Rattle.std.specs.Prelude.{◌≡◌, ◌≢◌, ℕ, List};
 ghost use Rattle.outside_io.specs.Openings.{Undisturbed};
 ghost use Rattle.outside_io.specs.Places.{Untouched};
+ghost use Rattle.command_words.specs.Orders.{IsWithinLimits};
 ghost use Rattle.file_rounds.specs.Scenes.{scene};
-ghost use Rattle.osrd_stdcm.specs.Orders.{NamesNoDisk, OrderIsDone, OrderSays};
+ghost use Rattle.osrd_stdcm.specs.Orders.{HasNoClients, NamesNoDisk, OrderIsDone, OrderSays};
 
+use capacity_command::run_capacity;
 use command_words::Order;
 use exit_status::Status;
 use init_command::{run_init, run_move};
 use list_command::run_list;
 use outside_io::Outside;
-use std::alloc::Global;
+use serve_command::run_serve;
+use stairs_command::run_stairs;
+use std::alloc::AllocGlobal;
+use std::sync::Wait;
+use std::thread::Threads;
 
 /// Carries out an order.
-pub(crate) fn obey<O: Outside>(alloc: Global, order: Order, outside: &mut O) -> Status
+pub(crate) fn obey<R: AllocGlobal + Threads + Wait + Sync, O: Outside>(
+    rt: &R,
+    order: Order,
+    outside: &mut O,
+) -> Status
+    requires limits { IsWithinLimits order }
     ensures says { OrderSays O.Src.Source O.Snk.Sink O.Dsk.Disk order
         (scene O.Outside outside.old) (scene O.Outside outside.new) result }
     ensures done { result ≡ Status.Done → OrderIsDone O.Src.Source O.Snk.Sink O.Dsk.Disk order
         (scene O.Outside outside.old) (scene O.Outside outside.new) }
-    ensures clean { result ≢ Status.Done → result ≢ Status.Report
+    ensures clean { HasNoClients order → result ≢ Status.Done → result ≢ Status.Report
         → Untouched (O.sinks outside.old) (O.sinks outside.new) }
+    ensures refused { result ≢ Status.Done → result ≢ Status.ClientEnd → result ≢ Status.Report
+        → result ≢ Status.Memory → Untouched (O.sinks outside.old) (O.sinks outside.new) }
     ensures words { result ≢ Status.Words }
     ensures back { Undisturbed (O.standing outside.old) (O.standing outside.new) }
     ensures disks { (name : List ℕ) → NamesNoDisk order name
         → O.disks outside.new name ≡ O.disks outside.old name }
 {
+    let alloc = rt.alloc();
     match order {
         Order::Tables { network, out } => run_list(alloc, network.as_str(), out.as_str(), outside),
         Order::Init {
@@ -50,5 +64,56 @@ pub(crate) fn obey<O: Outside>(alloc: Global, order: Order, outside: &mut O) -> 
                 outside,
             ),
         },
+        Order::Stairs {
+            network,
+            base,
+            journal,
+            entry,
+            out,
+        } => run_stairs(
+            alloc,
+            network.as_str(),
+            base.as_str(),
+            journal.as_str(),
+            entry,
+            out.as_str(),
+            outside,
+        ),
+        Order::Capacity {
+            network,
+            base,
+            journal,
+            first,
+            last,
+            from,
+            to,
+            out,
+        } => run_capacity(
+            alloc,
+            network.as_str(),
+            base.as_str(),
+            journal.as_str(),
+            first,
+            last,
+            from,
+            to,
+            out.as_str(),
+            outside,
+        ),
+        Order::Serve {
+            network,
+            trains,
+            base,
+            journal,
+            clients,
+        } => run_serve(
+            rt,
+            network.as_str(),
+            trains.as_str(),
+            base.as_str(),
+            journal.as_str(),
+            clients.as_slice(),
+            outside,
+        ),
     }
 }

@@ -4,15 +4,16 @@ ghost use Rattle.std.specs.Prelude.{◌≡◌, ◌≢◌, ◌⊎◌, ℕ, List, 
 ghost use Rattle.outside_io.specs.Openings.{Undisturbed};
 ghost use Rattle.outside_io.specs.Places.{Untouched};
 ghost use Rattle.file_rounds.specs.Scenes.{scene};
-ghost use Rattle.hold_session.specs.Words.{AskNothing as AskNoHolds};
-ghost use Rattle.osrd_stdcm.specs.Runs.{AskNoDisk, AskNothing, IsDone, RunSays};
+ghost use Rattle.osrd_stdcm.specs.Runs.{AskNoClients, AskNoDisk, AskNothing, IsDone, RunSays, TellsWords};
 
 use crate::orders::obey;
-use crate::sessions::hold_or_refuse;
 use command_reports::{Refusal, finish};
 use command_words::{WordsFault, read_words};
 use exit_status::Status;
 use outside_io::Outside;
+use std::alloc::{AllocGlobal, Global};
+use std::sync::Wait;
+use std::thread::Threads;
 
 /// Runs the command that the words ask for.
 ///
@@ -20,10 +21,19 @@ use outside_io::Outside;
 ///
 /// `init --network F --base F --journal F` begins a journal; with `--from G` the entries of an old journal are moved to it.
 ///
-/// `serve --zones Z --client NAME=IN:OUT` answers the hold lines of one client.
+/// `serve --network F --trains F --base F --journal F --client NAME=IN:OUT`, with 1 to 16 clients, answers the lines of all
+/// clients at once, over the journal.
+///
+/// `stairs --network F --base F --journal F --entry I --out F` writes the stairway table of a grant.
+///
+/// `capacity --network F --base F --journal F --first A --last B --from T --to T --out F` writes how full a stretch is.
 ///
 /// Any other words are not understood, and this is reported.
-pub fn run<R: AllocGlobal, O: Outside>(rt: &R, words: &[String], outside: &mut O) -> Status
+pub fn run<R: AllocGlobal + Threads + Wait + Sync, O: Outside>(
+    rt: &R,
+    words: &[String],
+    outside: &mut O,
+) -> Status
     // All that is done, by the status and the report.
     ensures says { RunSays O.Src.Source O.Snk.Sink O.Dsk.Disk (map string_bytes words.now)
         (scene O.Outside outside.old) (scene O.Outside outside.new) result }
@@ -34,8 +44,10 @@ pub fn run<R: AllocGlobal, O: Outside>(rt: &R, words: &[String], outside: &mut O
     // At Done all that was asked for was done.
     ensures done { result ≡ Status.Done → IsDone O.Src.Source O.Snk.Sink O.Dsk.Disk
         (map string_bytes words.now) (scene O.Outside outside.old) (scene O.Outside outside.new) }
-    // At a refusal no sink gained anything, unless a client's hold lines were answered.
-    ensures clean { AskNoHolds (map string_bytes words.now) → result ≢ Status.Done
+    // At a refusal no sink gained anything: whatever the words, and at want of memory too where they serve no clients.
+    ensures refused { result ≢ Status.Done → result ≢ Status.ClientEnd → result ≢ Status.Report
+        → result ≢ Status.Memory → Untouched (O.sinks outside.old) (O.sinks outside.new) }
+    ensures clean { AskNoClients (map string_bytes words.now) → result ≢ Status.Done
         → result ≢ Status.Report → Untouched (O.sinks outside.old) (O.sinks outside.new) }
     // Whatever the status, all that was opened is put back, and no disk is touched but those that the words name.
     ensures back { Undisturbed (O.standing outside.old) (O.standing outside.new) }
@@ -43,8 +55,17 @@ pub fn run<R: AllocGlobal, O: Outside>(rt: &R, words: &[String], outside: &mut O
         → O.disks outside.new name ≡ O.disks outside.old name }
 {
     match read_words(rt.alloc(), words) {
-        Ok(order) => obey(rt.alloc(), order, outside),
-        Err(WordsFault::NotUnderstood) => hold_or_refuse(rt, words, outside),
+        Ok(order) => obey(rt, order, outside),
+        Err(WordsFault::NotUnderstood) => refuse_words(rt.alloc(), outside),
         Err(WordsFault::Memory) => finish(Err(Refusal::Memory), outside),
     }
+}
+
+// Reports that the words are not understood.
+fn refuse_words<O: Outside>(alloc: Global, outside: &mut O) -> Status
+    ensures { TellsWords O.Snk.Sink (scene O.Outside outside.old) (scene O.Outside outside.new)
+        result }
+{
+    let refusal = Refusal::with(alloc, Status::Words, b"words not understood", b"");
+    finish(Err(refusal), outside)
 }

@@ -135,11 +135,11 @@ apart_alike f g xs zs same apart =
 abbrev pub shared_callers : {D : Type 0} → Shared D → List ℕ → Callers
 shared_callers shared = callers_of shared.known (timetable_at shared.gate)
 
-module _ {D Src Snk : Type 0} (shared : Shared D) (streams : Streams Src Snk) where
-  abbrev pub talk_in : (old new : Job D Src Snk) → WasServed streams old new → Talk
+module _ {D Src Snk Btw : Type 0} (shared : Shared D) (streams : Streams Src Snk) where
+  abbrev pub talk_in : (old new : Job D Src Snk Btw) → WasServed streams old new → Talk
   talk_in old new was = record { name = old.session.name; traffic = was.ends.traffic }
 
-  one_done : (old new : Job D Src Snk) → IsReadyJob shared old → (was : WasServed streams old new)
+  one_done : (old new : Job D Src Snk Btw) → IsReadyJob shared old → (was : WasServed streams old new)
       → IsDoneJob (shared_callers shared) shared streams (plan_of old) new (talk_in old new was)
   one_done old new ready was =
       let told : List Told = was.ends.traffic.told in
@@ -162,8 +162,8 @@ module _ {D Src Snk : Type 0} (shared : Shared D) (streams : Streams Src Snk) wh
       }
 
   -- where each was served, all are done
-  pub all_done : (olds news : List (Job D Src Snk)) → length news ≡ length olds → All (IsReadyJob shared) olds
-      → ((k : ℕ) (d : Job D Src Snk) → k < length olds → WasServed streams (get_or olds k d) (get_or news k d))
+  pub all_done : (olds news : List (Job D Src Snk Btw)) → length news ≡ length olds → All (IsReadyJob shared) olds
+      → ((k : ℕ) (d : Job D Src Snk Btw) → k < length olds → WasServed streams (get_or olds k d) (get_or news k d))
       → (talks : List Talk) × AreMatched (IsDoneJob (shared_callers shared) shared streams) (map plan_of olds) news talks
   all_done [] [] long ready each = ([], tt)
   all_done [] (new ∷ news) long ready each = absurd (omega arith)
@@ -176,9 +176,9 @@ module _ {D Src Snk : Type 0} (shared : Shared D) (streams : Streams Src Snk) wh
   -- ---- passes that are taken in
 
   -- some clients, from the last job on, were taken in
-  pub record Joining (plans : List (Plan Src Snk)) (talks : List Talk) (jobs : List (Job D Src Snk)) (sessions : List (Session Src Snk)) (v : Sight) : Type 0 where
-    pub plans_in : List (Plan Src Snk)
-    pub plans_out : List (Plan Src Snk)
+  pub record Joining (plans : List (Plan Src Snk Btw)) (talks : List Talk) (jobs : List (Job D Src Snk Btw)) (sessions : List (Session Src Snk)) (v : Sight) : Type 0 where
+    pub plans_in : List (Plan Src Snk Btw)
+    pub plans_out : List (Plan Src Snk Btw)
     pub talks_in : List Talk
     pub talks_out : List Talk
     pub plans_are : plans ≡ plans_in ++ plans_out
@@ -187,7 +187,7 @@ module _ {D Src Snk : Type 0} (shared : Shared D) (streams : Streams Src Snk) wh
     pub out : AreMatched (IsDoneJob (shared_callers shared) shared streams) plans_out (reverse jobs) talks_out
     pub joined : AreJoined (shared_callers shared) v talks_in
 
-  pub joining_none : (plans : List (Plan Src Snk)) (talks : List Talk) (jobs : List (Job D Src Snk)) (v : Sight)
+  pub joining_none : (plans : List (Plan Src Snk Btw)) (talks : List Talk) (jobs : List (Job D Src Snk Btw)) (v : Sight)
       → AreMatched (IsDoneJob (shared_callers shared) shared streams) plans (reverse jobs) talks → v.turns ≡ []
       → Joining plans talks jobs [] v
   joining_none plans talks jobs v all none = record {
@@ -202,7 +202,7 @@ module _ {D Src Snk : Type 0} (shared : Shared D) (streams : Streams Src Snk) wh
     joined = joined_none (shared_callers shared) v none;
   }
 
-  pub joining_more : (plans : List (Plan Src Snk)) (talks : List Talk) (rest : List (Job D Src Snk)) (job : Job D Src Snk) (sessions : List (Session Src Snk)) (v new : Sight)
+  pub joining_more : (plans : List (Plan Src Snk Btw)) (talks : List Talk) (rest : List (Job D Src Snk Btw)) (job : Job D Src Snk Btw) (sessions : List (Session Src Snk)) (v new : Sight)
       → Joining plans talks (rest ++ job ∷ []) sessions v → new ≡ joining v (view job.seat.pass)
       → IsPermutation (v.turns ++ (view job.seat.pass).turns) new.turns
       → IsPermutation (own v.turns ++ own (view job.seat.pass).turns) (own new.turns)
@@ -224,7 +224,7 @@ module _ {D Src Snk : Type 0} (shared : Shared D) (streams : Streams Src Snk) wh
         joined = joined_more (shared_callers shared) v (view job.seat.pass) new j.talks_in f.z j.joined f.one.replies f.one.own_entries f.one.counts f.one.told_so same turns entries rise;
       }
 
-  pub joining_all : (plans : List (Plan Src Snk)) (talks : List Talk) (jobs : List (Job D Src Snk)) (sessions : List (Session Src Snk)) (v : Sight)
+  pub joining_all : (plans : List (Plan Src Snk Btw)) (talks : List Talk) (jobs : List (Job D Src Snk Btw)) (sessions : List (Session Src Snk)) (v : Sight)
       → Joining plans talks jobs sessions v → length jobs ≡ 0
       → AreMatched (IsServed streams) plans sessions talks × AreJoined (shared_callers shared) v talks
   joining_all plans talks jobs sessions v j empty =

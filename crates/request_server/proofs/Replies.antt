@@ -146,16 +146,16 @@ serving_more v u w callers one told number so is a =
     }
 
 -- what a whole session of a seat says
-pub record Seated {D : Type 0} (old new : Seat D) (callers : Callers) (told : List Told) : Type 0 where
+pub record Seated {D Btw : Type 0} (old new : Seat D Btw) (callers : Callers) (told : List Told) : Type 0 where
   pub shared : new.shared ≡ old.shared
   pub name : new.client.name ≡ old.client.name
   pub serving : Serving (view old.pass) (view new.pass) callers told
 
 -- the callers of a seat's lines
-abbrev pub seat_callers : {D : Type 0} → Seat D → Callers
+abbrev pub seat_callers : {D Btw : Type 0} → Seat D Btw → Callers
 seat_callers seat = λ number. caller_of seat.shared.now seat.client.name number
 
-seated_more : {D : Type 0} (old mid new : Seat D) (before told : List Told) (number : ℕ) → Seated old mid (seat_callers old) before
+seated_more : {D Btw : Type 0} (old mid new : Seat D Btw) (before told : List Told) (number : ℕ) → Seated old mid (seat_callers old) before
     → number ≡ 1 + length before → AreAnswered AnswersAt number told mid new → Seated old new (seat_callers old) (before ++ told)
 seated_more old mid new before [] number so is same =
     subst (λ s. Seated old s (seat_callers old) (before ++ [])) (sym same)
@@ -175,7 +175,7 @@ seated_more old mid new before (one ∷ told) number so is all =
     (seated_more old all.0 new (before ++ one ∷ []) told (number + 1) next (omega (arith, is)) all.2)
 
 -- the answers of a seat, from its first line on, are a session over what its pass has seen at the end
-pub seated_all : {D : Type 0} (old new : Seat D) (told : List Told) → AreAnswered AnswersAt 1 told old new → Seated old new (seat_callers old) told
+pub seated_all : {D Btw : Type 0} (old new : Seat D Btw) (told : List Told) → AreAnswered AnswersAt 1 told old new → Seated old new (seat_callers old) told
 seated_all old new told all =
     seated_more old old new [] told 1 (record { shared = refl; name = refl; serving = serving_none (view old.pass) (seat_callers old) }) refl all
 

@@ -14,12 +14,18 @@ use Rattle.request_server.specs.Seats.{AnswersAt, IsSeated}
 use Rattle.request_server.specs.Talks.{AreBelowEnd, Callers, faults, IsTalk, printed, Talk, unsettled}
 
 -- the plan of a client that is not served yet
-abbrev pub plan_of : {D Src Snk : Type 0} → Job D Src Snk → Plan Src Snk
+abbrev pub plan_of : {D Src Snk Btw : Type 0} → Job D Src Snk Btw → Plan Src Snk Btw
 plan_of job =
-    record { name = job.session.name; source = job.session.source; sink = job.session.sink }
+    record {
+      name = job.session.name;
+      source = job.session.source;
+      sink = job.session.sink;
+      between = job.seat.between;
+    }
 
 -- the client may be served: it has the turns that its lines may take, and none of them was taken
-pub record IsReadyJob {D Src Snk : Type 0} (shared : Shared D) (job : Job D Src Snk) : Type 0 where
+pub record IsReadyJob {D Src Snk Btw : Type 0} (shared : Shared D) (job : Job D Src Snk Btw)
+    : Type 0 where
   pub shared_is : job.seat.shared.now ≡ shared
   pub seated : IsSeated job.seat
   pub name : job.seat.client.name ≡ job.session.name
@@ -28,8 +34,8 @@ pub record IsReadyJob {D Src Snk : Type 0} (shared : Shared D) (job : Job D Src 
   pub budget : turns_left job.seat.pass ≡ 400000
 
 -- the client's lines were answered by its seat
-pub record WasServed {D Src Snk : Type 0} (streams : Streams Src Snk) (old new : Job D Src Snk)
-    : Type 0 where
+pub record WasServed {D Src Snk Btw : Type 0} (streams : Streams Src Snk)
+    (old new : Job D Src Snk Btw) : Type 0 where
   pub seated : IsSeated new.seat
   pub name : new.session.name ≡ old.session.name
   pub ends : Ends AnswersAt streams new.session.ended
@@ -37,13 +43,14 @@ pub record WasServed {D Src Snk : Type 0} (streams : Streams Src Snk) (old new :
       (scene new.seat new.session.source new.session.sink)
 
 -- the client's pass may be taken in again
-pub record IsBack {D Src Snk : Type 0} (shared : Shared D) (job : Job D Src Snk) : Type 0 where
+pub record IsBack {D Src Snk Btw : Type 0} (shared : Shared D) (job : Job D Src Snk Btw)
+    : Type 0 where
   pub ready : IsReady shared.gate job.seat.pass
   pub share : (view job.seat.pass).share ≡ 400000
 
 -- what a client's pass keeps of a session in which this passed
-pub record IsDoneJob {D Src Snk : Type 0} (callers : List ℕ → Callers) (shared : Shared D)
-    (streams : Streams Src Snk) (plan : Plan Src Snk) (job : Job D Src Snk) (talk : Talk)
+pub record IsDoneJob {D Src Snk Btw : Type 0} (callers : List ℕ → Callers) (shared : Shared D)
+    (streams : Streams Src Snk) (plan : Plan Src Snk Btw) (job : Job D Src Snk Btw) (talk : Talk)
     : Type 0 where
   pub served : IsServed streams plan job.session talk
   pub back : IsBack shared job

@@ -61,7 +61,7 @@ pub record IsRun {D : Type 0} (disk_faults : D → ℕ) (known : Names) (found l
 -- ---- the clients
 
 -- the client of this plan was served so: this passed in its session, whose end its streams show
-pub record IsServed {Src Snk : Type 0} (streams : Streams Src Snk) (plan : Plan Src Snk)
+pub record IsServed {Src Snk Btw : Type 0} (streams : Streams Src Snk) (plan : Plan Src Snk Btw)
     (session : Session Src Snk) (talk : Talk) : Type 0 where
   pub name : session.name ≡ plan.name
   pub talk_name : talk.name ≡ plan.name
@@ -80,8 +80,8 @@ AreMatched R (x ∷ xs) (y ∷ ys) [] = ⊥
 AreMatched R (x ∷ xs) (y ∷ ys) (z ∷ zs) = R x y z × AreMatched R xs ys zs
 
 -- The clients of these plans were served, each in its session, and were told one history.
-pub record WereServed {D Src Snk : Type 0} (disk_faults : D → ℕ) (streams : Streams Src Snk)
-    (known : Names) (found left : Ledger D) (plans : List (Plan Src Snk))
+pub record WereServed {D Src Snk Btw : Type 0} (disk_faults : D → ℕ) (streams : Streams Src Snk)
+    (known : Names) (found left : Ledger D) (plans : List (Plan Src Snk Btw))
     (sessions : List (Session Src Snk)) : Type 0 where
   pub talks : List Talk
   pub served : AreMatched (IsServed streams) plans sessions talks

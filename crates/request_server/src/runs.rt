@@ -11,8 +11,9 @@ ghost use Rattle.path_commit.specs.Ledgers.{settled_of};
 ghost use Rattle.rail_types.specs.Limits.{IsClientName};
 ghost use Rattle.request_server.specs.Jobs.{AreJoined, IsBack, IsDoneJob, IsReadyJob, plan_of, WasServed};
 ghost use Rattle.request_server.specs.Runs.{AreMatched, callers_of, IsServed, WereServed};
-ghost use Rattle.request_server.specs.Seats.{IsShared};
+ghost use Rattle.line_answers.specs.Sharing.{IsShared};
 ghost use Rattle.request_server.specs.Talks.{Talk as talk_type};
+ghost use Rattle.tail_states.specs.Following.{AreFollowers};
 
 use crate::plans::{Job, Plan, Session};
 use crate::seats::Seat;
@@ -22,12 +23,14 @@ use client_turns::Client;
 use line_answers::Shared;
 use line_sessions::{Ended, Why, serve_lines};
 use no_memory::NoMemory;
-use outside_io::{Disk, Sink, Source};
+use outside_io::{Between, Disk, Sink, Source};
 use path_commit::Book;
+use rail_types::networks_without_flaws;
 use std::alloc::Global;
 use std::sync::Wait;
 use std::thread;
 use std::thread::Threads;
+use tail_states::Followers;
 
 // Each line takes at most four turns, and a client has at most 100,000 lines.
 const TURNS: u64 = 400_000;
@@ -39,13 +42,14 @@ pub fn serve_clients<
     D: Disk + Send,
     S: Source + Send + Drop,
     T: Sink + Send + Drop,
+    B: Between + Send + Drop,
 >(
     rt: &R,
     alloc: Global,
     book: Book<D>,
     known: Known,
-    plans: Vec<Plan<S, T>>,
-) -> Result<(Book<D>, Vec<Session<S, T>>), (Book<D>, Vec<Plan<S, T>>, NoMemory)>
+    plans: Vec<Plan<S, T, B>>,
+) -> Result<(Book<D>, Vec<Session<S, T>>), (Book<D>, Vec<Plan<S, T, B>>, NoMemory)>
     requires some { 1 ≤ length plans.items }
     requires few { length plans.items ≤ 16 }
     requires named { All (λ p. IsClientName p.name) plans.items }
@@ -67,18 +71,29 @@ pub fn serve_clients<
     let Ok(sessions) = Vec::with_capacity(alloc, plans.len()) else {
         return Err((book, plans, NoMemory));
     };
+    let Ok(followers) = followers_of(alloc, &known) else {
+        return Err((book, plans, NoMemory));
+    };
+    let settings = *book.history().settings();
     let count = plans.len() as u64;
     let (gate, mut pass) = match Gate::new(alloc, book, count * TURNS + 1) {
         Ok(made) => made,
         Err((book, refused)) => return Err((book, plans, refused)),
     };
-    let shared = Shared { gate, known };
+    let shared = Shared {
+        gate,
+        known,
+        settings,
+        followers,
+    };
     let jobs = split_all(&shared, &mut pass, plans, clients, jobs);
     let jobs = serve_all(rt, alloc, &shared, jobs);
     let sessions = join_all(&shared, &mut pass, jobs, sessions);
     let Shared {
         gate,
         known: _known,
+        settings: _settings,
+        followers: _followers,
     } = shared;
     let book = gate.close(pass);
     // The book tells that each of its entries is legal by those before it.
@@ -86,11 +101,21 @@ pub fn serve_clients<
     Ok((book, sessions))
 }
 
+// Which blocks follow one another in the network.
+fn followers_of(alloc: Global, known: &Known) -> Result<Followers, NoMemory>
+    requires { AreSound known.now }
+    ensures { IfOk result (AreFollowers known.now.railway.network) }
+{
+    networks_without_flaws();
+    let followers = Followers::new(alloc, &known.railway().network)?;
+    Ok(followers)
+}
+
 // A client for each plan, which knows the book as it stands.
-fn clients_of<D: Disk, S: Source + Drop, T: Sink + Drop>(
+fn clients_of<D: Disk, S: Source + Drop, T: Sink + Drop, B: Between + Drop>(
     alloc: Global,
     book: &Book<D>,
-    plans: &[Plan<S, T>],
+    plans: &[Plan<S, T, B>],
 ) -> Result<Vec<Client>, NoMemory>
     ensures names { IfOk result (λ clients.
         map (λ c. c.name) clients.items ≡ map (λ p. p.name) plans.now) }
@@ -107,13 +132,13 @@ fn clients_of<D: Disk, S: Source + Drop, T: Sink + Drop>(
 }
 
 // Gives each client a pass, with the turns that its lines may take. The clients come out in the other order.
-fn split_all<'a, D: Disk, S: Source + Drop, T: Sink + Drop>(
+fn split_all<'a, D: Disk, S: Source + Drop, T: Sink + Drop, B: Between + Drop>(
     shared: &'a Shared<D>,
     pass: &mut Pass<Book<D>>,
-    mut plans: Vec<Plan<S, T>>,
+    mut plans: Vec<Plan<S, T, B>>,
     mut clients: Vec<Client>,
-    mut jobs: Vec<Job<'a, D, S, T>>,
-) -> Vec<Job<'a, D, S, T>>
+    mut jobs: Vec<Job<'a, D, S, T, B>>,
+) -> Vec<Job<'a, D, S, T, B>>
     requires shared { IsShared shared.now }
     requires ready { IsReady shared.now.gate pass.old }
     requires left { (view pass.old).share ≡ length plans.items * 400000 + 1 }
@@ -135,12 +160,18 @@ fn split_all<'a, D: Disk, S: Source + Drop, T: Sink + Drop>(
     while let Some(plan) = plans.pop() {
         let client = last_of(&mut clients);
         let pass = shared.gate.split(pass, TURNS);
+        let Plan {
+            name,
+            source,
+            sink,
+            between,
+        } = plan;
         let seat = Seat {
             shared,
             pass,
             client,
+            between,
         };
-        let Plan { name, source, sink } = plan;
         let session = Session {
             name,
             source,
@@ -172,12 +203,13 @@ fn serve_all<
     D: Disk + Send,
     S: Source + Send + Drop,
     T: Sink + Send + Drop,
+    B: Between + Send + Drop,
 >(
     rt: &R,
     alloc: Global,
     shared: &Shared<D>,
-    mut jobs: Vec<Job<'a, D, S, T>>,
-) -> Vec<Job<'a, D, S, T>>
+    mut jobs: Vec<Job<'a, D, S, T, B>>,
+) -> Vec<Job<'a, D, S, T, B>>
     requires { All (IsReadyJob shared.now) jobs.items }
     ensures back { All (IsBack shared.now) result.items }
     ensures count { length result.items ≡ length jobs.entry.items }
@@ -196,7 +228,8 @@ fn serve_each<
     D: Disk + Send,
     S: Source + Send + Drop,
     T: Sink + Send + Drop,
->(rt: &R, alloc: Global, shared: &Shared<D>, jobs: &mut [Job<'a, D, S, T>])
+    B: Between + Send + Drop,
+>(rt: &R, alloc: Global, shared: &Shared<D>, jobs: &mut [Job<'a, D, S, T, B>])
     requires { All (IsReadyJob shared.now) jobs.old }
     ensures { (k : ℕ) (d : _) → k < length jobs.old
         → WasServed (streams S.left S.faults T.held T.faults)
@@ -210,11 +243,11 @@ fn serve_each<
     );
 }
 
-fn serve_job<'a, R: Wait, D: Disk, S: Source + Drop, T: Sink + Drop>(
+fn serve_job<'a, R: Wait, D: Disk, S: Source + Drop, T: Sink + Drop, B: Between + Drop>(
     rt: &R,
     alloc: Global,
     shared: &Shared<D>,
-    job: &mut Job<'a, D, S, T>,
+    job: &mut Job<'a, D, S, T, B>,
 )
     requires { IsReadyJob shared.now job.old }
     ensures { WasServed (streams S.left S.faults T.held T.faults) job.old job.new }
@@ -225,10 +258,10 @@ fn serve_job<'a, R: Wait, D: Disk, S: Source + Drop, T: Sink + Drop>(
 }
 
 // Takes the passes in again. The sessions come out in the other order.
-fn join_all<'a, D: Disk, S: Source + Drop, T: Sink + Drop>(
+fn join_all<'a, D: Disk, S: Source + Drop, T: Sink + Drop, B: Between + Drop>(
     shared: &Shared<D>,
     pass: &mut Pass<Book<D>>,
-    mut jobs: Vec<Job<'a, D, S, T>>,
+    mut jobs: Vec<Job<'a, D, S, T, B>>,
     mut sessions: Vec<Session<S, T>>,
 ) -> Vec<Session<S, T>>
     requires ready { IsReady shared.now.gate pass.old }
@@ -253,6 +286,7 @@ fn join_all<'a, D: Disk, S: Source + Drop, T: Sink + Drop>(
             pass: other,
             shared: _shared,
             client: _client,
+            between: _between,
         } = seat;
         shared.gate.join(pass, other);
         sessions.push_reserved(session);

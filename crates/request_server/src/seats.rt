@@ -10,22 +10,23 @@ use client_turns::Client;
 use line_answers::{Shared, answer_one};
 use line_sessions::Desk;
 use no_memory::NoMemory;
-use outside_io::Disk;
+use outside_io::{Between, Disk};
 use path_commit::Book;
 use reply_texts::Reply;
 use std::alloc::Global;
 use std::sync::Wait;
 
-/// A client with its pass at the gate that it shares.
+/// A client with its pass at the gate that it shares, and what happens between its searches.
 #[derive(Drop)]
-pub(crate) struct Seat<'a, D: Disk> {
+pub(crate) struct Seat<'a, D: Disk, B: Between> {
     pub(crate) shared: &'a Shared<D>,
     pub(crate) pass: Pass<Book<D>>,
     pub(crate) client: Client,
+    pub(crate) between: B,
 }
 
 /// Each line takes at most four turns.
-impl<'a, D: Disk> Desk for Seat<'a, D> {
+impl<'a, D: Disk, B: Between> Desk for Seat<'a, D, B> {
     ghost answers = { λ old number line told new. AnswersAt old number line told new };
 
     ghost lines_left = { λ seat. turns_left seat.pass / 4 };
@@ -49,6 +50,7 @@ impl<'a, D: Disk> Desk for Seat<'a, D> {
             line_number,
             line,
             text,
+            &mut self.between,
         )
     }
 }

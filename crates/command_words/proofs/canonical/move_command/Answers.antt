@@ -3,4 +3,4 @@ use Rattle.clap.specs.Words.{with_rule}
 use Rattle.command_words.proofs.canonical.move_command.Goals as goal
 
 pub returns : goal.returns
-returns c = c.in_ok-command.ensures.shape c.required-from.ensures.local ∙ ap₂ with_rule c.in_ok-init_command.ensures c.required-from.ensures.rule
+returns c = c.in_ok-command.ensures.shape c.required-from.ensures.local ∙ ap₂ with_rule c.in_ok-journal_command.ensures c.required-from.ensures.rule

@@ -1,8 +1,9 @@
-use Rattle.std.proofs.Common.{◌≡◌, ◌∙◌, List, ℕ, [], ◌∷◌, Result, Err, codes, refl, sym, subst}
+use Rattle.std.proofs.Common.{◌∙◌, List, ℕ, [], ◌∷◌, codes, refl, sym, subst}
 use Rattle.command_words.specs.Orders.{Asks, settings_of}
 use Rattle.command_words.specs.declared.orders.Order.{Order}
 use Rattle.command_words.specs.declared.orders.Order.TheVariants.{Init}
 use Rattle.command_words.proofs.Agreeing.{refuse_others}
+use Rattle.command_words.proofs.Errors.{err_over}
 use Rattle.command_words.proofs.Commands.{init_agrees, init_among, init_from, init_order}
 use Rattle.command_words.proofs.reading.read_init.Goals as goal
 
@@ -14,10 +15,6 @@ returns-then-not-has_only-clause-refused c is order asks =
     let got = init_order c.args.settings.now order asks in
     refuse_others options c.args.settings.now _ c.has_only.ensures c.if-not-has_only.true (settings_of (Init got.network got.base got.journal got.from)) (init_among got.network got.base got.journal got.from) got.agree
 
--- an error is the same whatever stands beside it
-err_over : {A B E : Type 0} (e f : E) → ◌≡◌ {A = Result A E} (Err e) (Err f) → ◌≡◌ {A = Result B E} (Err e) (Err f)
-err_over e f same = let is : e ≡ f = cc in rw is refl
-
 pub returns-in-Err-optional_value-clause-refused : goal.returns-in-Err-optional_value-clause-refused
 returns-in-Err-optional_value-clause-refused c is order asks =
     let got = init_order c.args.settings.now order asks in
@@ -28,4 +25,5 @@ returns-in-Ok-init_order-clause-understood c = subst (λ (order : Order). Asks (
   command_is = refl;
   agree = init_agrees c.args.settings.now c.in-Ok.network.now c.in-Ok-single_value.base.now c.in-Ok-single_value-2.journal.now _ (sym c.has_only.ensures ∙ c.if-not-has_only.false)
       c.in-Ok.ensures.once c.in-Ok-single_value.ensures.once c.in-Ok-single_value-2.ensures.once c.in-Ok-optional_value.ensures.once;
+  limits = tt;
 })

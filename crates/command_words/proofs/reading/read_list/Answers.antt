@@ -18,4 +18,5 @@ returns-in-Ok-parse_list-clause-understood c = rw (c.in-Ok-parse_list.ensures.ne
   command_is = refl;
   agree = agree_by options c.args.settings.now (settings_of (Tables c.in-Ok.network.now c.in-Ok-single_value.out.now)) (sym c.has_only.ensures ∙ c.if-not-has_only.false) refl
       (c.in-Ok.ensures.once, (c.in-Ok-single_value.ensures.once, tt));
+  limits = tt;
 })

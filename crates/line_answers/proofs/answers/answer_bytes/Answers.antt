@@ -1,4 +1,4 @@
-use Rattle.std.proofs.Common.{◌≡◌, sym, subst}
+use Rattle.std.proofs.Common.{sym, subst}
 use Rattle.book_gate.specs.Passes.{view}
 use Rattle.reply_texts.specs.declared.replies.Reply.{Reply}
 use Rattle.client_turns.specs.Turns.{Sight}

@@ -1,18 +1,17 @@
-use Rattle.std.proofs.Common.{◌≡◌, ◌≤◌, refl, sym, ◌∙◌, subst, arith}
-use Rattle.std.proofs.lemmas.List.Elements.{All-nil}
-use mathlib.Core.Logic.{inl, inr, ⊎_elim}
-use Rattle.book_gate.specs.Passes.{view}
-use Rattle.reply_texts.specs.declared.replies.Reply.TheVariants as reply
-use Rattle.client_turns.specs.Turns.{Sight}
-use Rattle.line_answers.specs.Answers.{Caller}
-use Rattle.line_answers.specs.Callers.{caller_of}
-use Rattle.line_answers.specs.Calls.{IsSettled}
-use Rattle.line_answers.proofs.Rows.{not_served_line}
+use Rattle.line_answers.proofs.Rooms.{short_room}
 use Rattle.line_answers.proofs.answers.answer_line.Goals as goal
 
-pub returns-in-Path-clause-answers : goal.returns-in-Path-clause-answers
-returns-in-Path-clause-answers g c =
-    let caller : Caller = caller_of c.args.shared.now c.args.client.now.name c.args.line_number in
-    let v : Sight = view c.args.pass.now in
-    not_served_line caller c.args.line v c.word_place.result c.in-Path._number c.in-Path._request
-    c.in-Path.is c.word_place.ensures
+pub returns-in-Hold-clause-room : goal.returns-in-Hold-clause-room
+returns-in-Hold-clause-room g c = short_room c.args.text.now c.hold.result c.requires.spare c.hold.ensures.short
+
+pub returns-in-Pin-clause-room : goal.returns-in-Pin-clause-room
+returns-in-Pin-clause-room g c = short_room c.args.text.now c.pin.result c.requires.spare c.pin.ensures.short
+
+pub returns-in-Free-clause-room : goal.returns-in-Free-clause-room
+returns-in-Free-clause-room g c = short_room c.args.text.now c.free.result c.requires.spare c.free.ensures.short
+
+pub returns-in-Show-clause-room : goal.returns-in-Show-clause-room
+returns-in-Show-clause-room g c = short_room c.args.text.now c.show_entry.result c.requires.spare c.show_entry.ensures.short
+
+pub returns-in-Front-clause-room : goal.returns-in-Front-clause-room
+returns-in-Front-clause-room g c = short_room c.args.text.now c.front.result c.requires.spare c.front.ensures.short

@@ -1,6 +1,6 @@
-use Rattle.std.proofs.Common.{◌≡◌, ◌≤◌, true, false, refl, arith}
+use Rattle.std.proofs.Common.{◌≡◌, true, false, refl, arith}
 use Rattle.std.proofs.lemmas.List.Elements.{All-nil}
-use mathlib.Core.Logic.{inl, inr, ⊎_elim}
+use mathlib.Core.Logic.{⊎_elim}
 use Rattle.book_gate.specs.Passes.{view}
 use Rattle.reply_texts.specs.declared.replies.Reply.TheVariants as reply
 use Rattle.client_turns.specs.Turns.{Sight}
@@ -23,11 +23,11 @@ returns-in_err-reply_text-clause-wanted g c =
     let caller : Caller = caller_of c.args.shared.now c.args.client.now.name c.args.line_number in
     let v : Sight = view c.args.pass.now in let w : Sight = view c.answer_bytes-reply.new.pass in
     let told = c.answer_bytes-reply.result in
-    let had = c.in_ok-reserve.ensures.ok in let sized = c.reply_room.ensures in
     if_err _ c.from_residual-in_err-reply_text.result
     (⊎_elim
-    (λ behind.
-    let few = c.replies_have_room.ensures 0 told behind in
+    (λ room.
+    let few = c.replies_have_room.ensures room.0 told room.1 in
+    let spare = room.2 in
     let ok = c.in_err-reply_text.ensures.room (omega arith) in absurd (let wrong : false ≡ true = ok in cc))
     (λ adds. untold caller c.args.line.now told v w adds c.answer_bytes-reply.ensures.answers)
-    c.answer_bytes-reply.ensures.short)
+    c.answer_bytes-reply.ensures.room)

@@ -1,4 +1,4 @@
-use Rattle.std.proofs.Common.{◌≡◌, refl, sym, ◌∙◌, subst}
+use Rattle.std.proofs.Common.{refl, sym, ◌∙◌, subst}
 use Rattle.book_gate.specs.Passes.{view}
 use Rattle.client_lines.specs.declared.asks.Line.{Line}
 use Rattle.client_lines.specs.declared.asks.Ask.TheVariants as asks

@@ -8,12 +8,12 @@ use Rattle.request_server.proofs.runs.clients_of.Goals as goal
 
 pub loop-plan-preserved : goal.loop-plan-preserved
 loop-plan-preserved g c =
-    let S = g.row.S.Denot in let T = g.row.T.Denot in
-    let nc : Client → List ℕ = λ x. x.name in let np : Plan S T → List ℕ = λ x. x.name in
+    let S = g.row.S.Denot in let T = g.row.T.Denot in let B = g.row.B.Denot in
+    let nc : Client → List ℕ = λ x. x.name in let np : Plan S T B → List ℕ = λ x. x.name in
     let now = c.loop-plan.invariant in let i : ℕ = c.loop-plan.plan-index in
     let before : List Client = c.loop-plan.clients.items in
-    let client : Client = c.in_ok-client.client in let plan : Plan S T = c.plan-item.result in
-    let plans : List (Plan S T) = c.args.plans.now in
+    let client : Client = c.in_ok-client.client in let plan : Plan S T B = c.plan-item.result in
+    let plans : List (Plan S T B) = c.args.plans.now in
     let here : get_or plans i plan ≡ plan = search rules in
     let pushed : c.push.new.self.items ≡ before ++ client ∷ [] = c.in_ok-push.ensures.items in
     let named : client.name ≡ plan.name = c.in_ok-client.ensures.name ∙ c.in_ok-name.ensures in record {

@@ -22,9 +22,9 @@ loop-job-init g c = record {
 
 pub loop-job-preserved : goal.loop-job-preserved
 loop-job-preserved g c =
-    let D = g.row.D.Denot in let S = g.row.S.Denot in let T = g.row.T.Denot in
+    let D = g.row.D.Denot in let S = g.row.S.Denot in let T = g.row.T.Denot in let B = g.row.B.Denot in
     let now = c.loop-job.invariant in
-    let job : Job D S T = c.in-Some.job in let rest : List (Job D S T) = c.pop.new.self.items in
+    let job : Job D S T B = c.in-Some.job in let rest : List (Job D S T B) = c.pop.new.self.items in
     let items = c.in-Some.ensures.items in
     let popped = All-pop (IsBack c.args.shared.now) c.loop-job.jobs.items rest (Some job) items now.jobs in
     let back = popped.1 in
@@ -45,7 +45,7 @@ loop-job-preserved g c =
 
 pub join-requires-clause-other_own : goal.join-requires-clause-other_own
 join-requires-clause-other_own g c =
-    let D = g.row.D.Denot in let S = g.row.S.Denot in let T = g.row.T.Denot in
+    let D = g.row.D.Denot in let S = g.row.S.Denot in let T = g.row.T.Denot in let B = g.row.B.Denot in
     let popped = All-pop (IsBack c.args.shared.now) c.loop-job.jobs.items c.pop.new.self.items (Some c.in-Some.job) c.in-Some.ensures.items c.loop-job.invariant.jobs in
     popped.1.ready.0
 

@@ -10,8 +10,8 @@ use Rattle.request_server.proofs.runs.serve_all.Goals as goal
 
 pub returns-clause-back : goal.returns-clause-back
 returns-clause-back g c =
-    let D = g.row.D.Denot in let S = g.row.S.Denot in let T = g.row.T.Denot in
-    let was : List (Job D S T) = c.as_mut_slice.result.now in let now : List (Job D S T) = c.serve_each.new.jobs in
+    let D = g.row.D.Denot in let S = g.row.S.Denot in let T = g.row.T.Denot in let B = g.row.B.Denot in
+    let was : List (Job D S T B) = c.as_mut_slice.result.now in let now : List (Job D S T B) = c.serve_each.new.jobs in
     let value = c.as_mut_slice.ensures.value in let long = c.serve_each.auto.jobs in
     let all = take_at now (drop (length now) c.args.jobs.items) c.args.jobs.len (long ∙ ap length value ∙ sym c.args.jobs.ok.0) in
     let R = IsDoneJob (shared_callers c.args.shared.now) c.args.shared.now (streams g.S.Source.left g.S.Source.faults g.T.Sink.held g.T.Sink.faults) in
@@ -23,16 +23,16 @@ returns-clause-back g c =
 
 pub returns-clause-count : goal.returns-clause-count
 returns-clause-count g c =
-    let D = g.row.D.Denot in let S = g.row.S.Denot in let T = g.row.T.Denot in
-    let was : List (Job D S T) = c.as_mut_slice.result.now in let now : List (Job D S T) = c.serve_each.new.jobs in
+    let D = g.row.D.Denot in let S = g.row.S.Denot in let T = g.row.T.Denot in let B = g.row.B.Denot in
+    let was : List (Job D S T B) = c.as_mut_slice.result.now in let now : List (Job D S T B) = c.serve_each.new.jobs in
     let value = c.as_mut_slice.ensures.value in let long = c.serve_each.auto.jobs in
     let all = take_at now (drop (length now) c.args.jobs.items) c.args.jobs.len (long ∙ ap length value ∙ sym c.args.jobs.ok.0) in
     ap length all ∙ long ∙ ap length value
 
 pub returns-clause-done : goal.returns-clause-done
 returns-clause-done g c =
-    let D = g.row.D.Denot in let S = g.row.S.Denot in let T = g.row.T.Denot in
-    let was : List (Job D S T) = c.as_mut_slice.result.now in let now : List (Job D S T) = c.serve_each.new.jobs in
+    let D = g.row.D.Denot in let S = g.row.S.Denot in let T = g.row.T.Denot in let B = g.row.B.Denot in
+    let was : List (Job D S T B) = c.as_mut_slice.result.now in let now : List (Job D S T B) = c.serve_each.new.jobs in
     let value = c.as_mut_slice.ensures.value in let long = c.serve_each.auto.jobs in
     let all = take_at now (drop (length now) c.args.jobs.items) c.args.jobs.len (long ∙ ap length value ∙ sym c.args.jobs.ok.0) in
     let R = IsDoneJob (shared_callers c.args.shared.now) c.args.shared.now (streams g.S.Source.left g.S.Source.faults g.T.Sink.held g.T.Sink.faults) in

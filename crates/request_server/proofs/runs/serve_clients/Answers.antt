@@ -27,14 +27,19 @@ split_all-jobs-requires-clause-copies g c =
 
 pub returns-clause-served : goal.returns-clause-served
 returns-clause-served g c =
-    let D = g.row.D.Denot in let S = g.row.S.Denot in let T = g.row.T.Denot in
+    let D = g.row.D.Denot in let S = g.row.S.Denot in let T = g.row.T.Denot in let B = g.row.B.Denot in
     let faults = g.D.Disk.faults in
     let book : Ledger D = c.args.book in let left : Ledger D = c.close-book.result in let was : Ledger D = opened c.in-Ok-new.made.0 in
     let is = c.in-Ok-new.ensures.book in
-    let shared : Shared D = record { gate = c.in-Ok-new.made.0; known = c.args.known } in
+    let shared : Shared D = record {
+      gate = c.in-Ok-new.made.0;
+      known = c.args.known;
+      settings = c.settings-settings.result.now;
+      followers = c.in-Ok-followers_of.followers;
+    } in
     let v = view c.join_all-sessions.new.pass in
-    let plans : List (Plan S T) = c.args.plans.items in
-    let jobs : List (Job D S T) = c.serve_all-jobs.result.items in
+    let plans : List (Plan S T B) = c.args.plans.items in
+    let jobs : List (Job D S T B) = c.serve_all-jobs.result.items in
     let sessions : List (Session S T) = c.join_all-sessions.result.items in
     let R = IsDoneJob (shared_callers shared) shared (streams g.S.Source.left g.S.Source.faults g.T.Sink.held g.T.Sink.faults) in
     let done = c.serve_all-jobs.ensures.done in
@@ -48,8 +53,8 @@ returns-clause-served g c =
       served = both.0;
       run = run_is faults c.args.known book left (mark_of (stands was)) (mark_of (stands left)) v talks
           (subst (λ (b : Ledger D). AreJoined (callers_of c.args.known b.timetable) v talks) is both.1)
-          (apart_alike (λ (p : Plan S T). p.name) (λ (t : Talk). t.name) plans talks
-          (matched_map (IsServed (streams g.S.Source.left g.S.Source.faults g.T.Sink.held g.T.Sink.faults)) (λ (p : Plan S T). p.name) (λ (t : Talk). t.name) (λ p s t one. one.talk_name) plans sessions talks both.0) c.requires.names)
+          (apart_alike (λ (p : Plan S T B). p.name) (λ (t : Talk). t.name) plans talks
+          (matched_map (IsServed (streams g.S.Source.left g.S.Source.faults g.T.Sink.held g.T.Sink.faults)) (λ (p : Plan S T B). p.name) (λ (t : Talk). t.name) (λ p s t one. one.talk_name) plans sessions talks both.0) c.requires.names)
           (subst (λ (b : Ledger D). StartsWith left.entries b.entries) is c.close-book.ensures.list)
           c.close-book.ensures.joined
           (subst (λ (b : Ledger D). own v.turns ≡ positions (length b.entries) (length left.entries - length b.entries)) is c.close-book.ensures.own_entries)

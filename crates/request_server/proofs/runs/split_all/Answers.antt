@@ -18,36 +18,36 @@ use Rattle.request_server.proofs.runs.split_all.Goals as goal
 
 pub loop-plan-smaller : goal.loop-plan-smaller
 loop-plan-smaller g c =
-    let S = g.row.S.Denot in let T = g.row.T.Denot in
-    let plan : Plan S T = c.in-Some.plan in let rest : List (Plan S T) = c.pop.new.self.items in
+    let S = g.row.S.Denot in let T = g.row.T.Denot in let B = g.row.B.Denot in
+    let plan : Plan S T B = c.in-Some.plan in let rest : List (Plan S T B) = c.pop.new.self.items in
     let long = ap length c.in-Some.ensures.items ∙ length-append rest (plan ∷ []) in omega arith
 
 pub loop-plan-preserved : goal.loop-plan-preserved
 loop-plan-preserved g c =
-    let D = g.row.D.Denot in let S = g.row.S.Denot in let T = g.row.T.Denot in
+    let D = g.row.D.Denot in let S = g.row.S.Denot in let T = g.row.T.Denot in let B = g.row.B.Denot in
     let now = c.loop-plan.invariant in
-    let plan : Plan S T = c.in-Some.plan in let rest : List (Plan S T) = c.pop.new.self.items in
+    let plan : Plan S T B = c.in-Some.plan in let rest : List (Plan S T B) = c.pop.new.self.items in
     let items = c.in-Some.ensures.items in
     let client : Client = c.last_of-client.result in let others : List Client = c.last_of-client.new.clients.items in
     let taken = c.last_of-client.ensures in
-    let nc : Client → List ℕ = λ x. x.name in let np : Plan S T → List ℕ = λ x. x.name in
+    let nc : Client → List ℕ = λ x. x.name in let np : Plan S T B → List ℕ = λ x. x.name in
     let both : map nc others ++ client.name ∷ [] ≡ map np rest ++ plan.name ∷ [] =
     sym (map-append nc others (client ∷ [])) ∙ ap (map nc) (sym taken) ∙ now.names ∙ ap (map np) items ∙ map-append np rest (plan ∷ []) in
     let same = snoc_same (map nc others) (map np rest) client.name plan.name both in
     let seen : List Entry = (view c.loop-plan.pass).seen in
     let table = timetable_at c.args.shared.now.gate in
-    let named = All-pop (λ (p : Plan S T). IsClientName p.name) c.loop-plan.plans.items rest (Some plan) items now.named in
+    let named = All-pop (λ (p : Plan S T B). IsClientName p.name) c.loop-plan.plans.items rest (Some plan) items now.named in
     let copies = All-pop (λ (x : Client). IsCopyOf table x seen) c.loop-plan.clients.items others (Some client) taken now.copies in
     let giving = c.split-pass.ensures.giving in let given = c.split-pass.ensures.given in
-    let job : Job D S T = record {
-      seat = record { shared = c.args.shared; pass = c.split-pass.result; client = client };
+    let job : Job D S T B = record {
+      seat = record { shared = c.args.shared; pass = c.split-pass.result; client = client; between = plan.between };
       session = record { name = plan.name; source = plan.source; sink = plan.sink; ended = record { lines = 0; why = Memory } };
     } in
-    let before : List (Job D S T) = c.loop-plan.jobs.items in
+    let before : List (Job D S T B) = c.loop-plan.jobs.items in
     let pushed = c.push_reserved.ensures.items in
     let long = ap length items ∙ length-append rest (plan ∷ []) in
     let longer = ap length pushed ∙ length-append before (job ∷ []) in
-    let f : Job D S T → Plan S T = λ j. plan_of j in record {
+    let f : Job D S T B → Plan S T B = λ j. plan_of j in record {
       ready = search rules;
       share = let shares = ap (λ v. v.share) giving in let was = now.share in omega arith;
       left = let shares = ap (λ v. v.share) giving in let budget = c.split-pass.ensures.budget in let was = now.share in let left = now.left in omega arith;
@@ -76,9 +76,9 @@ loop-plan-preserved g c =
 
 pub last_of-client-requires : goal.last_of-client-requires
 last_of-client-requires g c =
-    let S = g.row.S.Denot in let T = g.row.T.Denot in
-    let nc : Client → List ℕ = λ x. x.name in let np : Plan S T → List ℕ = λ x. x.name in
-    let plan : Plan S T = c.in-Some.plan in let rest : List (Plan S T) = c.pop.new.self.items in
+    let S = g.row.S.Denot in let T = g.row.T.Denot in let B = g.row.B.Denot in
+    let nc : Client → List ℕ = λ x. x.name in let np : Plan S T B → List ℕ = λ x. x.name in
+    let plan : Plan S T B = c.in-Some.plan in let rest : List (Plan S T B) = c.pop.new.self.items in
     let long = ap length c.in-Some.ensures.items ∙ length-append rest (plan ∷ []) in
     let same = sym (length-map c.loop-plan.clients.items nc) ∙ ap length c.loop-plan.invariant.names ∙ length-map c.loop-plan.plans.items np in
     omega arith

@@ -1,0 +1,4 @@
+pub mod Copies
+pub mod Judged
+pub mod Searching
+pub mod Short

@@ -1,0 +1,101 @@
+use Rattle.std.proofs.Common.{◌≡◌, ℕ, suc, ◌+◌, List, sym, ◌∙◌, subst, arith}
+use Rattle.book_gate.specs.Passes.{view}
+use Rattle.path_labels.specs.Answers.{claims_held}
+use Rattle.rail_types.specs.Limits.{IsClientName}
+use Rattle.rail_types.specs.Timetables.{Timetable}
+use Rattle.client_turns.specs.declared.clients.Client.{Client}
+use Rattle.client_turns.specs.declared.told.Tried.{Tried}
+use Rattle.client_turns.specs.Clients.{IsCopyOf}
+use Rattle.client_turns.specs.Turns.{HasTried, Sight, timetable_at}
+use Rattle.ask_turns.specs.declared.asks.Ask.{Ask}
+use Rattle.ask_turns.specs.declared.asks.Found.{Found}
+use Rattle.ask_turns.specs.Finds.{IsFoundBeside}
+use Rattle.ask_turns.specs.Tries.{HaveMissed}
+use Rattle.ask_turns.proofs.Searching.{beside_none, found_fits, in_range, judged, misses, none_fits}
+use Rattle.ask_turns.proofs.tries.try_searches.Goals as goal
+
+pub returns-in_default-clause-searched : goal.returns-in_default-clause-searched
+returns-in_default-clause-searched g c =
+    let now = c.loop-search.invariant in let timetable : Timetable = timetable_at c.args.gate.now in
+    let net = c.args.net.now in let settings = c.args.settings.now in let ask : Ask = c.args.ask.now in
+    let client : Client = c.loop-search.client in let u : Sight = view c.loop-search.pass in (
+      record {
+        count = c.loop-search.search;
+        few = c.loop-search-test.true;
+        at = c.loop-search.missed;
+        front = c.loop-search.front;
+        missed = now.missed;
+      },
+      none_fits timetable net settings c.requires.net c.requires.settings client u.seen now.copy ask
+          (beside_none timetable net settings c.requires.net c.requires.settings client ask
+          c.in_ok-found.field-0 c.in_default.not-Some c.in_ok-found.ensures.found),
+    )
+
+pub try_entry-requires-clause-range : goal.try_entry-requires-clause-range
+try_entry-requires-clause-range g c =
+    let now = c.loop-search.invariant in let timetable : Timetable = timetable_at c.args.gate.now in
+    let net = c.args.net.now in let settings = c.args.settings.now in let ask : Ask = c.args.ask.now in
+    let client : Client = c.loop-search.client in
+    let found = subst (IsFoundBeside net settings client ask) c.in-Some.is c.in_ok-found.ensures.found in
+    in_range timetable net settings c.requires.net c.requires.settings c.found_paths_are_short.ensures ask
+    c.requires.may client.name (subst IsClientName (sym now.name) c.requires.name) (claims_held client.copy)
+    c.in-Some.found found.0 found.1
+
+pub returns-in-Entered-clause-searched : goal.returns-in-Entered-clause-searched
+returns-in-Entered-clause-searched g c =
+    let now = c.loop-search.invariant in let timetable : Timetable = timetable_at c.args.gate.now in
+    let net = c.args.net.now in let settings = c.args.settings.now in let ask : Ask = c.args.ask.now in
+    let client : Client = c.loop-search.client in
+    let u : Sight = view c.loop-search.pass in let w : Sight = view c.try_entry.new.pass in
+    let it : Found = c.in-Some.found in
+    let found = subst (IsFoundBeside net settings client ask) c.in-Some.is c.in_ok-found.ensures.found in
+    let told = subst (λ (t : Tried). HasTried timetable it.entry client.front t u w) c.in-Entered.is c.in_ok-tried.ensures.tried in (
+      u,
+      record {
+        count = c.loop-search.search;
+        few = c.loop-search-test.true;
+        at = c.loop-search.missed;
+        front = c.loop-search.front;
+        missed = now.missed;
+      },
+      judged c.found_paths_are_judged.ensures timetable c.args.client.now.name ask client u w found.0 now.name now.copy
+          (c.copies_have_ticks.ensures timetable u.seen now.copy)
+          (found_fits timetable net settings c.requires.net c.requires.settings client u.seen now.copy ask found.0 found.1.can)
+          it.entry found.1.entry_is
+          (c.copies_have_ticks-in-loop-search.ensures timetable w.found.list c.in_ok-tried.ensures.copy)
+          it.runs found.1.runs_are c.in-Entered.entered told,
+    )
+
+pub loop-search-preserved : goal.loop-search-preserved
+loop-search-preserved g c =
+    let now = c.loop-search.invariant in let timetable : Timetable = timetable_at c.args.gate.now in
+    let net = c.args.net.now in let settings = c.args.settings.now in let ask : Ask = c.args.ask.now in
+    let client : Client = c.loop-search.client in let owner : List ℕ = c.args.client.now.name in
+    let v : Sight = view c.args.pass.now in
+    let u : Sight = view c.loop-search.pass in let w : Sight = view c.try_entry.new.pass in
+    let it : Found = c.in-Some.found in let at : ℕ = c.in-Missed.at in let searched : ℕ = c.front-searched.result in
+    let found = subst (IsFoundBeside net settings client ask) c.in-Some.is c.in_ok-found.ensures.found in
+    let told = subst (λ (t : Tried). HasTried timetable it.entry client.front t u w) c.in-Missed.is c.in_ok-tried.ensures.tried in
+    let missed = misses c.found_paths_are_judged.ensures timetable owner ask client u w found.0 now.name now.copy
+    (c.copies_have_ticks.ensures timetable u.seen now.copy)
+    (found_fits timetable net settings c.requires.net c.requires.settings client u.seen now.copy ask found.0 found.1.can)
+    it.entry found.1.entry_is at told in
+    let next : suc c.loop-search.search ≡ c.loop-search.search + 1 = omega arith in record {
+      ready = c.in_ok-tried.ensures.ready;
+      left = let was = now.left in let budget = c.in_ok-tried.ensures.budget in omega arith;
+      name = c.in_ok-tried.ensures.name ∙ now.name;
+      copy = subst (IsCopyOf timetable c.try_entry.new.client) (sym missed.looks.same) c.in_ok-tried.ensures.copy;
+      missed = subst (λ n. HaveMissed timetable owner ask n at searched v w) next
+          (u, c.loop-search.missed, c.loop-search.front, now.missed, c.front-searched.ensures ∙ now.copy.front, missed);
+      held = c.in_ok-found.ensures.held ∙ now.held;
+      spare = let was = now.spare in let more = c.in_ok-found.ensures.spare in omega arith;
+    }
+
+pub returns-clause-searched : goal.returns-clause-searched
+returns-clause-searched g c =
+    let now = c.loop-search.invariant in let timetable : Timetable = timetable_at c.args.gate.now in
+    let v : Sight = view c.args.pass.now in let u : Sight = view c.loop-search.pass in
+    let end = c.loop-search.auto.search-end in let over = c.loop-search-test.false in
+    let three : c.loop-search.search ≡ 3 = omega arith in
+    subst (λ n. HaveMissed timetable c.args.client.now.name c.args.ask.now n c.loop-search.missed c.loop-search.front v u)
+    three now.missed

@@ -1,0 +1,69 @@
+-- Pairs of elements, lists side by side, and fronts of lists of calls.
+use Rattle.std.proofs.Common.{◌≡◌, ◌≤◌, ◌∙◌, ◌++◌, ℕ, zero, suc, List, [], ◌∷◌, All, AllPairs, Option, Some, None, get_or, length, map, take, drop, refl, sym, ap, subst, arith}
+use Rattle.std.proofs.lemmas.List.{append_assoc, get_or_append_left, length-append}
+use Rattle.std.proofs.lemmas.List.Elements.{All-cons, All-head, All-nil, All-tail}
+use Rattle.outside_io.specs.Openings.{Opening, Opens as CallsOf}
+use Rattle.request_server.specs.Runs.{AreMatched}
+
+module _ {X : Type 0} (P : X → Type 0) where
+  pub all_left : (xs ys : List X) → All P (xs ++ ys) → All P xs
+  all_left [] ys h = All-nil P
+  all_left (x ∷ xs) ys h = All-cons P x xs (All-head P x (xs ++ ys) h) (all_left xs ys (All-tail P x (xs ++ ys) h))
+
+  pub all_right : (xs ys : List X) → All P (xs ++ ys) → All P ys
+  all_right [] ys h = h
+  all_right (x ∷ xs) ys h = all_right xs ys (All-tail P x (xs ++ ys) h)
+
+module _ {X : Type 0} (R : X → X → Type 0) where
+  pub pairs_head : (x : X) (xs : List X) → AllPairs R (x ∷ xs) → All (R x) xs
+  pairs_head x xs h k d lt = h 0 (suc k) d (omega arith) (omega arith)
+
+  pub pairs_tail : (x : X) (xs : List X) → AllPairs R (x ∷ xs) → AllPairs R xs
+  pairs_tail x xs h i j d lt within = h (suc i) (suc j) d (omega arith) (omega arith)
+
+  pub pairs_front : (xs ys : List X) → AllPairs R (xs ++ ys) → AllPairs R xs
+  pairs_front xs ys h i j d lt within =
+      let long = length-append xs ys in
+      let one = get_or_append_left xs ys d i (omega arith) in
+      let other = get_or_append_left xs ys d j within in
+      let pair : R (get_or (xs ++ ys) i d) (get_or (xs ++ ys) j d) = h i j d lt (omega arith) in
+      subst (λ (x : X). R x (get_or xs j d)) one (subst (λ (y : X). R (get_or (xs ++ ys) i d) y) other pair)
+
+  pub pairs_last : (xs : List X) (y : X) (ys : List X) → AllPairs R (xs ++ y ∷ ys) → All (λ x. R x y) xs
+  pairs_last [] y ys h = All-nil (λ x. R x y)
+  pairs_last (x ∷ xs) y ys h =
+      All-cons (λ z. R z y) x xs (All-head (R x) y ys (all_right (R x) xs (y ∷ ys) (pairs_head x (xs ++ y ∷ ys) h)))
+      (pairs_last xs y ys (pairs_tail x (xs ++ y ∷ ys) h))
+
+-- lists of parts stand side by side as the lists that they are parts of
+pub matched_parts : {C X Y P Q : Type 0} (R : C → P → Q → Type 0) (f : X → P) (g : Y → Q) (cs : List C) (xs : List X) (ys : List Y) → AreMatched R cs (map f xs) (map g ys) → AreMatched (λ c x y. R c (f x) (g y)) cs xs ys
+matched_parts R f g [] [] [] all = all
+matched_parts R f g [] [] (y ∷ ys) all = all
+matched_parts R f g [] (x ∷ xs) [] all = all
+matched_parts R f g [] (x ∷ xs) (y ∷ ys) all = all
+matched_parts R f g (c ∷ cs) [] [] all = all
+matched_parts R f g (c ∷ cs) [] (y ∷ ys) all = all
+matched_parts R f g (c ∷ cs) (x ∷ xs) [] all = all
+matched_parts R f g (c ∷ cs) (x ∷ xs) (y ∷ ys) all = (all.0, matched_parts R f g cs xs ys all.1)
+
+-- some calls, and then others
+pub calls_both : (first next : List Opening) (old between new : Option (List Opening)) → CallsOf first old between → CallsOf next between new → CallsOf (first ++ next) old new
+calls_both first next old between None opens more = tt
+calls_both first next old between (Some now) opens more =
+    let here : CallsOf first old (Some more.0) = subst (CallsOf first old) more.1 opens in
+    (here.0, here.1, more.2 ∙ (ap (λ (front : List Opening). front ++ next) here.2 ∙ append_assoc here.0 first next))
+
+-- the first so many calls of a list are those of a longer one
+pub take_front : (count : ℕ) (first next : List Opening) → (more : ℕ) × (take more (first ++ next) ≡ take count first)
+take_front zero first next = (zero, refl)
+take_front (suc count) [] next = (zero, refl)
+take_front (suc count) (call ∷ first) next =
+    let rest = take_front count first next in
+    (suc rest.0, ap (λ (calls : List Opening). call ∷ calls) rest.1)
+
+-- a front of a list of calls is so many of its first
+pub front_taken : (first next : List Opening) → (count : ℕ) × (take count (first ++ next) ≡ first)
+front_taken [] next = (zero, refl)
+front_taken (call ∷ first) next =
+    let rest = front_taken first next in
+    (suc rest.0, ap (λ (calls : List Opening). call ∷ calls) rest.1)

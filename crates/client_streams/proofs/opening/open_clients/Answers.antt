@@ -1,0 +1,59 @@
+use Rattle.std.proofs.Common.{rules, ◌≡◌, ◌≢◌, ◌+◌, ◌<◌, ◌∙◌, ◌++◌, ◌∷◌, [], ℕ, suc, List, AllPairs, add-one, get_or, drop, length, map, take, ap, sym, subst, arith, length-append}
+use Rattle.std.proofs.lemmas.List.{map-append, take_more}
+use Rattle.std.proofs.Math.Seq.{split_at}
+use Rattle.file_rounds.specs.Scenes.{Scene, scene}
+use Rattle.outside_io.specs.declared.betweens.NoBetween.{NoBetween}
+use Rattle.request_server.specs.declared.plans.Plan.{Plan}
+use Rattle.client_streams.specs.Lending.{AreIn, AreOut, streams_of}
+use Rattle.client_streams.specs.Refusing.{IsStopped}
+use Rattle.client_words.specs.declared.clients.ClientWord.{ClientWord}
+use Rattle.client_streams.proofs.Nests.{out_more}
+use Rattle.client_streams.proofs.Stops.{stops_behind}
+use Rattle.client_streams.proofs.opening.open_clients.Goals as goal
+
+pub returns-in-Err-clause-stopped : goal.returns-in-Err-clause-stopped
+returns-in-Err-clause-stopped g c =
+    let Src = g.row.O-Src.Denot in let Snk = g.row.O-Snk.Denot in let Dsk = g.row.O-Dsk.Denot in
+    let s0 : Scene Src Snk Dsk = scene g.O.Outside c.args.outside.now in
+    let s1 : Scene Src Snk Dsk = scene g.O.Outside c.loop-client.outside in
+    let s2 : Scene Src Snk Dsk = scene g.O.Outside c.open_client.new.outside in
+    let s3 : Scene Src Snk Dsk = scene g.O.Outside c.put_back_plans.new.outside in
+    let clients : List ClientWord = c.args.clients.now in let client : ClientWord = c.client-item.result in
+    let i : ℕ = c.loop-client.client-index in
+    let front : List ClientWord = take i clients in let behind : List ClientWord = drop (suc i) clients in
+    let plans : List (Plan Src Snk NoBetween) = c.loop-client.plans.items in
+    let cut : clients ≡ front ++ client ∷ behind =
+    split_at clients i client c.loop-client-test.true ∙ ap (λ (x : ClientWord). front ++ x ∷ behind) (sym c.client-item.is) in
+    let ins : AreIn front (map streams_of plans) s2 s3 =
+    subst (λ (n : ℕ). AreIn (take n clients) (map streams_of plans) s2 s3) c.loop-client.invariant.count c.put_back_plans.ensures.back in
+    subst (λ (cs : List ClientWord). IsStopped cs s0 s3 c.in-Err.refusal) (sym cut)
+    (stops_behind front client behind (map streams_of plans) s0 s1 s2 s3 c.in-Err.refusal
+    (subst (AllPairs (λ (one other : ClientWord). one.input ≢ other.input)) cut c.requires.clients.inputs)
+    (subst (AllPairs (λ (one other : ClientWord). one.output ≢ other.output)) cut c.requires.clients.outputs)
+    c.loop-client.invariant.out ins c.in-Err.ensures.stopped)
+
+pub loop-client-preserved : goal.loop-client-preserved
+loop-client-preserved g c =
+    let Src = g.row.O-Src.Denot in let Snk = g.row.O-Snk.Denot in let Dsk = g.row.O-Dsk.Denot in
+    let s0 : Scene Src Snk Dsk = scene g.O.Outside c.args.outside.now in
+    let s1 : Scene Src Snk Dsk = scene g.O.Outside c.loop-client.outside in
+    let s2 : Scene Src Snk Dsk = scene g.O.Outside c.open_client.new.outside in
+    let clients : List ClientWord = c.args.clients.now in let client : ClientWord = c.client-item.result in
+    let i : ℕ = c.loop-client.client-index in
+    let plans : List (Plan Src Snk NoBetween) = c.loop-client.plans.items in let plan : Plan Src Snk NoBetween = c.in-Ok-open_client.plan in
+    let now = c.loop-client.invariant in
+    let f : Plan Src Snk NoBetween → Src × Snk = λ one. streams_of one in
+    let n : Plan Src Snk NoBetween → List ℕ = λ one. one.name in let m : ClientWord → List ℕ = λ one. one.client in
+    let pushed : c.push_reserved.new.self.items ≡ plans ++ plan ∷ [] = c.push_reserved.ensures.items in
+    let more : take (i + 1) clients ≡ take i clients ++ client ∷ [] =
+    take_more clients i client c.loop-client-test.true ∙ ap (λ (x : ClientWord). take i clients ++ x ∷ []) (sym c.client-item.is) in
+    let streams : map f c.push_reserved.new.self.items ≡ map f plans ++ f plan ∷ [] = ap (map f) pushed ∙ map-append f plans (plan ∷ []) in
+    record {
+      out = subst (λ (cs : List ClientWord). AreOut cs (map f c.push_reserved.new.self.items) s0 s2) (sym more)
+          (subst (λ (l : List (Src × Snk)). AreOut (take i clients ++ client ∷ []) l s0 s2) (sym streams)
+          (out_more (take i clients) (map f plans) client (f plan) s0 s1 s2 now.out c.in-Ok-open_client.ensures.out));
+      names = ap (map n) pushed ∙ (map-append n plans (plan ∷ []) ∙ (ap (λ (l : List (List ℕ)). l ++ plan.name ∷ []) now.names
+          ∙ (ap (λ (x : List ℕ). map m (take i clients) ++ x ∷ []) c.in-Ok-open_client.ensures.name ∙ (sym (map-append m (take i clients) (client ∷ [])) ∙ ap (map m) (sym more)))));
+      count = ap length pushed ∙ (length-append plans (plan ∷ []) ∙ ap (λ (k : ℕ). k + 1) now.count);
+      room = let same = c.push_reserved.ensures.capacity in let was = now.room in omega arith;
+    }

@@ -1,0 +1,12 @@
+use Rattle.std.proofs.Common.{◌≡◌, ◌≤◌, length, map, take, vec_capacity}
+use Rattle.file_rounds.specs.Scenes.{scene}
+use Rattle.client_streams.specs.Lending.{AreOut, streams_of}
+use Rattle.client_streams.proofs.opening.open_clients.Given as goal
+
+abbrev pub invariant-loop-client : goal.invariant-loop-client
+invariant-loop-client g l = record {
+  out : AreOut (take l.client-index l.clients) (map streams_of l.plans.items) (scene g.O.Outside l.fn.outside) (scene g.O.Outside l.outside);
+  names : map (λ plan. plan.name) l.plans.items ≡ map (λ client. client.client) (take l.client-index l.clients);
+  count : length l.plans.items ≡ l.client-index;
+  room : length l.clients ≤ vec_capacity l.plans;
+}

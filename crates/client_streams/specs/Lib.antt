@@ -1,0 +1,3 @@
+pub mod Clients
+pub mod Lending
+pub mod Refusing

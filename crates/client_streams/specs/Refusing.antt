@@ -1,0 +1,77 @@
+-- A client whose streams were not opened.
+use Rattle.std.specs.Prelude.{◌≡◌, ◌⊎◌, ℕ, List, [], ◌∷◌, ◌++◌, All, codes, take}
+use Rattle.outside_io.specs.Faults.{Rose}
+use Rattle.outside_io.specs.Openings.{Opening, source_at, sink_at, the_report, disk_at, Standing}
+use Rattle.outside_io.specs.Openings.{Opens as CallsOf}
+use Rattle.exit_status.specs.declared.Status.TheVariants.{Opening as not_opened}
+use Rattle.file_rounds.specs.Scenes.{IsReady, IsShut, Scene}
+use Rattle.command_reports.specs.Refusals.{IsTold, line_with}
+use Rattle.command_reports.specs.declared.refusals.Refusal.{Refusal}
+use Rattle.command_reports.specs.declared.refusals.Refusal.TheVariants.{Memory}
+use Rattle.client_streams.specs.Clients.{client_calls}
+use Rattle.client_streams.specs.Lending.{IsAsBefore}
+use Rattle.client_words.specs.declared.clients.ClientWord.{ClientWord}
+
+-- the name that a call opens, and none for the report
+abbrev pub name_at : Opening → List ℕ
+name_at (source_at name) = name
+name_at (sink_at name) = name
+name_at the_report = []
+name_at (disk_at name) = name
+
+-- the call is told not to fail
+abbrev pub IsOpen : (Opening → Standing) → Opening → Type 0
+IsOpen standing call = IsShut (standing call) → ⊥
+
+-- Of these calls the first ones succeeded, and then one failed: it is told not to succeed, a fault was counted, and its
+-- name is reported.
+pub record CannotOpen (calls : List Opening) (standing : Opening → Standing)
+    (faults faults' : ℕ) (refusal : Refusal) : Type 0 where
+  pub before : List Opening
+  pub call : Opening
+  pub behind : List Opening
+  pub calls_are : calls ≡ before ++ call ∷ behind
+  pub opened : All (IsOpen standing) before
+  pub unready : IsReady (standing call) → ⊥
+  pub rose : Rose faults faults'
+  pub told : IsTold not_opened (line_with (codes "open: ") (name_at call)) refusal
+
+-- one of the calls failed, or memory was wanted
+abbrev pub WhyStopped : List Opening → (Opening → Standing) → ℕ → ℕ → Refusal → Type 0
+WhyStopped calls standing faults faults' refusal =
+    CannotOpen calls standing faults faults' refusal ⊎ (refusal ≡ Memory)
+
+-- the clients could not all be opened: the first so many of their calls were made, and all is as it was before
+pub record IsStopped {Src Snk Dsk : Type 0} (clients : List ClientWord)
+    (old new : Scene Src Snk Dsk) (refusal : Refusal) : Type 0 where
+  pub count : ℕ
+  pub opened : CallsOf (take count (client_calls clients)) old.opened new.opened
+  pub as_before : IsAsBefore old new
+  pub why : WhyStopped (client_calls clients) old.standing old.faults new.faults refusal
+
+-- *inside*: the source of a client could not be opened
+pub record SourceStops {Src Snk Dsk : Type 0} (client : ClientWord) (old new : Scene Src Snk Dsk)
+    (refusal : Refusal) : Type 0 where
+  pub unready : IsReady (old.standing (source_at client.input)) → ⊥
+  pub rose : Rose old.faults new.faults
+  pub told : IsTold not_opened (line_with (codes "open: ") client.input) refusal
+  pub opened : CallsOf (source_at client.input ∷ []) old.opened new.opened
+  pub as_before : IsAsBefore old new
+
+-- *inside*: the source of a client was opened, but its sink could not be
+pub record SinkStops {Src Snk Dsk : Type 0} (client : ClientWord) (old new : Scene Src Snk Dsk)
+    (refusal : Refusal) : Type 0 where
+  pub source : IsOpen old.standing (source_at client.input)
+  pub unready : IsReady (old.standing (sink_at client.output)) → ⊥
+  pub rose : Rose old.faults new.faults
+  pub told : IsTold not_opened (line_with (codes "open: ") client.output) refusal
+  pub opened : CallsOf (source_at client.input ∷ sink_at client.output ∷ [])
+      old.opened new.opened
+  pub as_before : IsAsBefore old new
+
+-- *inside*: why the streams of one client were not opened
+abbrev pub ClientStops : {Src Snk Dsk : Type 0} → ClientWord → Scene Src Snk Dsk
+    → Scene Src Snk Dsk → Refusal → Type 0
+ClientStops client old new refusal =
+    SourceStops client old new refusal
+    ⊎ (SinkStops client old new refusal ⊎ ((new ≡ old) × (refusal ≡ Memory)))

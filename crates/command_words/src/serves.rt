@@ -1,0 +1,50 @@
+//! The options of `serve`, read.
+
+ghost use Rattle.std.specs.Prelude.{codes, IfOk, IsErrOf};
+ghost use Rattle.command_words.specs.Orders.{Asks};
+ghost use Rattle.command_words.specs.declared.orders.Order.{Order as order_type};
+
+use crate::canonical::parse_serve;
+use crate::file_names::file_names;
+use crate::orders::Order;
+use client_words::read_clients;
+use no_memory::NoMemory;
+use option_words::{Setting, WordsFault, has_only, single_value, values_of};
+use std::alloc::Global;
+
+/// The order that options of `serve` ask for.
+pub(crate) fn read_serve(alloc: Global, settings: &[Setting<'_>]) -> Result<Order, WordsFault>
+    ensures understood { IfOk result (λ order. Asks (codes "serve") settings.now order) }
+    ensures refused { IsErrOf result WordsFault.NotUnderstood
+        → (order : order_type) → Asks (codes "serve") settings.now order → ⊥ }
+{
+    if !has_only(
+        &["network", "trains", "base", "journal", "client"],
+        settings,
+    ) {
+        return Err(WordsFault::NotUnderstood);
+    }
+    let names = match file_names(alloc, settings) {
+        Ok(names) => names,
+        Err(fault) => return Err(fault),
+    };
+    let trains = match single_value(alloc, "trains", settings) {
+        Ok(trains) => trains,
+        Err(fault) => return Err(fault),
+    };
+    let words = values_of(alloc, "client", settings)?;
+    let clients = match read_clients(alloc, words.as_slice()) {
+        Ok(clients) => clients,
+        Err(fault) => return Err(fault),
+    };
+    match parse_serve(alloc, &names, trains) {
+        Ok(texts) => Ok(Order::Serve {
+            network: texts.network,
+            trains: texts.trains,
+            base: texts.base,
+            journal: texts.journal,
+            clients,
+        }),
+        Err(NoMemory) => Err(WordsFault::Memory),
+    }
+}

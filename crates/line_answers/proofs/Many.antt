@@ -1,0 +1,245 @@
+-- A call of several turns: all but the last looked.
+use Rattle.std.proofs.Common.{◌≡◌, ◌≢◌, ℕ, ◌+◌, ◌-◌, ◌≤◌, All, List, [], ◌∷◌, ◌++◌, length, take, ap, sym, ◌∙◌, subst, refl, arith, append_assoc, length-append}
+use Rattle.std.proofs.lemmas.List.{length_push, take-append-le}
+use Rattle.std.proofs.lemmas.List.Elements.{All-nil, All-push, All-weaker}
+use mathlib.Core.Logic.{inl, inr}
+use Rattle.book_gate.specs.declared.views.Turn.{Turn}
+use Rattle.book_gate.specs.Views.{StartsWith, positions, own}
+use Rattle.book_gate.proofs.Turns.{own_push}
+use Rattle.outside_io.specs.Faults.{Rose}
+use Rattle.rail_types.specs.declared.entries.Entry.{Entry}
+use Rattle.reply_texts.specs.declared.replies.Reply.{Reply}
+use Rattle.reply_texts.specs.declared.replies.Reply.TheVariants as reply
+use Rattle.client_turns.specs.Turns.{CannotBegin, CannotSettle, IsAdded, Looks, Sight, TakesTurn}
+use Rattle.line_answers.specs.Answers.{Caller, GivesLine}
+use Rattle.line_answers.specs.Calls.{AnswersBetween, EndInFault, HasTurns, IsOf, IsSettled, IsToldIn, IsTurnOf, LastFound, Settle, TakesEvents, pair}
+use Rattle.line_answers.specs.Points.{added, unsettled_by}
+use Rattle.line_answers.proofs.Calls.{enters_event, fails_event, is_turn, its_turn, looks_event, pends_event, positions_none, positions_one, starts_refl}
+
+pub starts_trans : {X : Type 0} (a b c : List X) → StartsWith a b → StartsWith b c → StartsWith a c
+starts_trans a b c p q = (q.0 ++ p.0, p.1 ∙ ap (λ l. l ++ p.0) q.1 ∙ append_assoc c q.0 p.0)
+
+-- what is a turn over a history is one over any that goes on from it
+turn_longer : (caller : Caller) (long short : List Entry) → StartsWith long short → (t : Turn)
+    → IsTurnOf caller short t → IsTurnOf caller long t
+turn_longer caller long short more t is =
+    let rest : List Entry = more.0 in
+    let sum : length long ≡ length short + length rest = ap length more.1 ∙ length-append short rest in
+    let within = is.within in let grows = is.grows in
+    let same = λ (n : ℕ) (below : n ≤ length short).
+    let k : take n short ≡ take n long = sym (ap (take n) more.1 ∙ take-append-le n short rest below) in k in
+    record {
+      grows = grows;
+      within = omega arith;
+      event = λ client.
+          subst (λ l. TakesEvents caller client (pair l t.found.settled) (pair (take t.left.entries long) t.left.settled))
+          (same t.found.entries (omega arith))
+          (subst (λ l. TakesEvents caller client (pair (take t.found.entries short) t.found.settled) (pair l t.left.settled))
+          (same t.left.entries within) (is.event client));
+    }
+
+turns_longer : (caller : Caller) (long short : List Entry) (turns : List Turn) → StartsWith long short
+    → All (IsTurnOf caller short) turns → All (IsTurnOf caller long) turns
+turns_longer caller long short turns more =
+    All-weaker (IsTurnOf caller short) (IsTurnOf caller long) (turn_longer caller long short more) turns
+
+last_found_push : (turns : List Turn) (t : Turn) → LastFound (turns ++ t ∷ []) t.found.entries
+last_found_push [] t = refl
+last_found_push (u ∷ []) t = refl
+last_found_push (u ∷ w ∷ ws) t = last_found_push (w ∷ ws) t
+
+-- ---- so far
+
+-- The call took a first turn, which found h, and others, each of which looked: they left all settled, and added nothing.
+pub record SoFar (caller : Caller) (v u : Sight) (h : List Entry) : Type 0 where
+  pub first : Turn
+  pub others : List Turn
+  pub found : first.found.entries ≡ length h
+  pub last : LastFound (first ∷ others) (length u.seen)
+  pub taken : u.turns ≡ v.turns ++ (first ∷ others)
+  pub share : u.share ≡ v.share
+  pub goes_on : StartsWith h v.seen
+  pub later : StartsWith u.seen h
+  pub own_entries : own (first ∷ others) ≡ []
+  pub events : All (IsTurnOf caller u.seen) (first ∷ others)
+  pub settled : All IsSettled (first ∷ others)
+
+looked_turn : (caller : Caller) (bytes : List ℕ) (v w : Sight) → Looks v w
+    → IsTurnOf caller w.seen (its_turn caller bytes v w (length w.seen))
+looked_turn caller bytes v w looks =
+    is_turn caller bytes v w (length w.seen) looks.takes
+    (λ client. looks_event caller client w.found.list w.seen w.found.settled looks.takes.within looks.same)
+
+pub first_look : (caller : Caller) (v u : Sight) → Looks v u → SoFar caller v u u.found.list
+first_look caller v u looks =
+    let t : Turn = its_turn caller [] v u (length u.seen) in record {
+      first = t;
+      others = [];
+      found = refl;
+      last = ap length (sym looks.same);
+      taken = looks.takes.turns;
+      share = looks.takes.share;
+      goes_on = looks.takes.goes_on;
+      later = looks.takes.keeps;
+      own_entries = own_push [] t ∙ positions_none u.found.list u.seen looks.same;
+      events = All-push (IsTurnOf caller u.seen) [] t (All-nil (IsTurnOf caller u.seen)) (looked_turn caller [] v u looks);
+      settled = All-push IsSettled [] t (All-nil IsSettled) refl;
+    }
+
+pub next_look : (caller : Caller) (v u w : Sight) (h : List Entry) → SoFar caller v u h → Looks u w
+    → SoFar caller v w h
+next_look caller v u w h so looks =
+    let t : Turn = its_turn caller [] u w (length w.seen) in
+    let turns : List Turn = so.first ∷ so.others in
+    let more : StartsWith w.seen u.seen =
+    starts_trans w.seen w.found.list u.seen looks.takes.keeps looks.takes.goes_on in record {
+      first = so.first;
+      others = so.others ++ t ∷ [];
+      found = so.found;
+      last = subst (λ l. LastFound (turns ++ t ∷ []) (length l)) (sym looks.same) (last_found_push turns t);
+      taken = looks.takes.turns ∙ ap (λ ts. ts ++ t ∷ []) so.taken ∙ append_assoc v.turns turns (t ∷ []);
+      share = looks.takes.share ∙ so.share;
+      goes_on = so.goes_on;
+      later = starts_trans w.seen u.seen h more so.later;
+      own_entries = own_push turns t
+          ∙ ap (λ l. l ++ positions (length w.found.list) (length w.seen - length w.found.list)) so.own_entries
+          ∙ positions_none w.found.list w.seen looks.same;
+      events = All-push (IsTurnOf caller w.seen) turns t (turns_longer caller w.seen u.seen turns more so.events)
+          (looked_turn caller [] u w looks);
+      settled = All-push IsSettled turns t so.settled refl;
+    }
+
+some_turns : (first : Turn) (others : List Turn) → first ∷ others ≢ []
+some_turns first others none = let wrong = ap length none in absurd (omega arith)
+
+some_behind : (turns : List Turn) (t : Turn) → turns ++ t ∷ [] ≢ []
+some_behind turns t none = let wrong = sym (length_push turns t) ∙ ap length none in absurd (omega arith)
+
+-- ---- a reply without a turn more
+
+pub answered_now : (caller : Caller) (bytes : List ℕ) (v u : Sight) (h : List Entry) (told : Reply)
+    → SoFar caller v u h → GivesLine caller bytes told h u.seen u.seen → added told ≡ []
+    → ((ts : List Turn) → All IsSettled ts → Settle told ts)
+    → ((ts : List Turn) → ts ≢ [] → HasTurns told ts) → AnswersBetween caller bytes told v u
+answered_now caller bytes v u h told so gives none settles turns = record {
+  turns = so.first ∷ so.others;
+  h = h;
+  g = u.seen;
+  taken = so.taken;
+  share = so.share;
+  goes_on = so.goes_on;
+  keeps = starts_refl u.seen;
+  answers = record {
+    gives = gives;
+    first = so.found;
+    last = so.last;
+    later = so.later;
+    own_entries = so.own_entries ∙ sym none;
+    events = so.events;
+    in_step = All-weaker IsSettled (IsToldIn (unsettled_by told)) (λ t is. inl is) (so.first ∷ so.others) so.settled;
+    settle = settles (so.first ∷ so.others) so.settled;
+    turns_are = turns (so.first ∷ so.others) (some_turns so.first so.others);
+  };
+}
+
+-- ---- a last turn
+
+module _ (caller : Caller) (bytes : List ℕ) (v u w : Sight) (h : List Entry) (so : SoFar caller v u h) where
+  abbrev before : List Turn
+  before = so.first ∷ so.others
+
+  abbrev last : ℕ → Turn
+  last settled = its_turn caller bytes u w settled
+
+  answered : (told : Reply) (settled : ℕ) → TakesTurn u w settled
+      → GivesLine caller bytes told h w.found.list w.seen
+      → positions (length w.found.list) (length w.seen - length w.found.list) ≡ added told
+      → ((client : ℕ) → TakesEvents caller client (pair w.found.list w.found.settled) (pair w.seen settled))
+      → IsToldIn (unsettled_by told) (last settled) → Settle told (before ++ last settled ∷ [])
+      → HasTurns told (before ++ last settled ∷ []) → AnswersBetween caller bytes told v w
+  answered told settled takes gives mine event told_in settle turns =
+      let t : Turn = last settled in
+      let more : StartsWith w.seen u.seen = starts_trans w.seen w.found.list u.seen takes.keeps takes.goes_on in record {
+        turns = before ++ t ∷ [];
+        h = h;
+        g = w.found.list;
+        taken = takes.turns ∙ ap (λ ts. ts ++ t ∷ []) so.taken ∙ append_assoc v.turns before (t ∷ []);
+        share = takes.share ∙ so.share;
+        goes_on = so.goes_on;
+        keeps = takes.keeps;
+        answers = record {
+          gives = gives;
+          first = so.found;
+          last = last_found_push before t;
+          later = starts_trans w.found.list u.seen h takes.goes_on so.later;
+          own_entries = own_push before t
+              ∙ ap (λ l. l ++ positions (length w.found.list) (length w.seen - length w.found.list)) so.own_entries
+              ∙ mine;
+          events = All-push (IsTurnOf caller w.seen) before t (turns_longer caller w.seen u.seen before more so.events)
+              (is_turn caller bytes u w settled takes event);
+          in_step = All-push (IsToldIn (unsettled_by told)) before t
+              (All-weaker IsSettled (IsToldIn (unsettled_by told)) (λ t is. inl is) before so.settled) told_in;
+          settle = settle;
+          turns_are = turns;
+        };
+      }
+
+  all_settled : (settled : ℕ) → settled ≡ length w.seen → All IsSettled (before ++ last settled ∷ [])
+  all_settled settled is = All-push IsSettled before (last settled) so.settled is
+
+  in_fault : (settled : ℕ) → Rose w.found.count w.count → EndInFault (before ++ last settled ∷ [])
+  in_fault settled rose =
+      record { before = before; last = last settled; turns_are = refl; settled = so.settled; rose = rose }
+
+  pub looked_last : (told : Reply) → Looks u w → GivesLine caller bytes told h w.found.list w.seen
+      → added told ≡ [] → ((ts : List Turn) → All IsSettled ts → Settle told ts)
+      → ((ts : List Turn) → ts ≢ [] → HasTurns told ts) → AnswersBetween caller bytes told v w
+  looked_last told looks gives none settles turns =
+      answered told (length w.seen) looks.takes gives
+      (positions_none w.found.list w.seen looks.same ∙ sym none)
+      (λ client. looks_event caller client w.found.list w.seen w.found.settled looks.takes.within looks.same)
+      (inl refl)
+      (settles (before ++ last (length w.seen) ∷ []) (all_settled (length w.seen) refl))
+      (turns (before ++ last (length w.seen) ∷ []) (some_behind before (last (length w.seen))))
+
+  pub not_settled_last : GivesLine caller bytes reply.DiskFault h w.found.list w.seen
+      → CannotSettle u w → AnswersBetween caller bytes reply.DiskFault v w
+  not_settled_last gives fails =
+      answered reply.DiskFault w.found.settled fails.takes gives
+      (positions_none w.found.list w.seen fails.same)
+      (λ client. inr (inr (fails.pending, ap (λ l. pair l w.found.settled) fails.same)))
+      (inr (inl (refl, ap length fails.same)))
+      (in_fault w.found.settled fails.rose) (some_behind before (last w.found.settled))
+
+  module _ (entry : Entry) (is_of : IsOf caller entry) where
+    pub not_begun_last : GivesLine caller bytes reply.DiskFault h w.found.list w.seen
+        → CannotBegin caller.timetable entry u w → AnswersBetween caller bytes reply.DiskFault v w
+    not_begun_last gives fails =
+        answered reply.DiskFault (length w.seen) fails.takes gives
+        (positions_none w.found.list w.seen fails.same)
+        (λ client. fails_event caller entry is_of w.found.list w.seen w.found.settled fails.takes.within fails.may.joins client fails.same)
+        (inl refl) (in_fault (length w.seen) fails.rose) (some_behind before (last (length w.seen)))
+
+    pub entered_last : (told : Reply) (at front : ℕ) → TakesTurn u w (length w.seen)
+        → IsAdded caller.timetable entry at front w
+        → GivesLine caller bytes told h w.found.list w.seen → added told ≡ at ∷ []
+        → ((ts : List Turn) → All IsSettled ts → Settle told ts)
+        → ((ts : List Turn) → ts ≢ [] → HasTurns told ts) → AnswersBetween caller bytes told v w
+    entered_last told at front takes adds gives one settles turns =
+        answered told (length w.seen) takes gives
+        (positions_one w.found.list w.seen entry adds.left ∙ ap (λ n. n ∷ []) (sym adds.here) ∙ sym one)
+        (λ client. enters_event caller entry is_of w.found.list w.seen w.found.settled takes.within adds.may.joins client adds.left)
+        (inl refl)
+        (settles (before ++ last (length w.seen) ∷ []) (all_settled (length w.seen) refl))
+        (turns (before ++ last (length w.seen) ∷ []) (some_behind before (last (length w.seen))))
+
+    pub begun_last : (number at front : ℕ) → TakesTurn u w (length w.found.list)
+        → IsAdded caller.timetable entry at front w → Rose w.found.count w.count
+        → GivesLine caller bytes (reply.Unsettled number at front) h w.found.list w.seen
+        → AnswersBetween caller bytes (reply.Unsettled number at front) v w
+    begun_last number at front takes adds rose gives =
+        answered (reply.Unsettled number at front) (length w.found.list) takes gives
+        (positions_one w.found.list w.seen entry adds.left ∙ ap (λ n. n ∷ []) (sym adds.here))
+        (λ client. pends_event caller entry is_of w.found.list w.seen w.found.settled takes.within adds.may.joins client adds.left)
+        (inr (inr (refl, ap length adds.left ∙ length_push w.found.list entry, (0, omega arith, adds.here))))
+        (in_fault (length w.found.list) rose) (some_behind before (last (length w.found.list)))

@@ -1,0 +1,167 @@
+//! A path that is sought: what its number stands for, and then its searches.
+ghost use Rattle.std.specs.Prelude.{◌≡◌, ◌+◌, ◌⊎◌, ◌≤◌, IfOk};
+ghost use Rattle.book_gate.specs.Passes.{turns_left, view};
+ghost use Rattle.client_lines.specs.Within.{IsAskWithin};
+ghost use Rattle.client_lines.specs.declared.asks.Ask.TheVariants.{Path as path_of};
+ghost use Rattle.rail_types.specs.Limits.{IsClientName};
+ghost use Rattle.rail_types.specs.declared.entries.Deed.TheVariants.{Grant};
+ghost use Rattle.rail_types.specs.declared.entries.Wanted.TheVariants.{Asked};
+ghost use Rattle.rail_types.specs.declared.paths.Path.{Path as path_type};
+ghost use Rattle.reply_texts.specs.Rooms.{room_for};
+ghost use Rattle.client_turns.specs.Clients.{IsCopyOf, Knows};
+ghost use Rattle.client_turns.specs.Turns.{IsReady, timetable_at};
+ghost use Rattle.line_answers.specs.Asked.{AnswersBehind, HasRoomIn, asking};
+ghost use Rattle.line_answers.specs.Callers.{AnswersLine, caller_of};
+ghost use Rattle.line_answers.specs.Sharing.{IsShared};
+ghost use Rattle.line_answers.specs.Tells.{AddsNothing};
+
+use crate::replies::{ask_told, halted, number_told};
+use crate::shared::Shared;
+use ask_turns::{Ask, try_searches};
+use book_gate::Pass;
+use byte_fields::Buffer;
+use client_turns::{Client, find_again};
+use no_memory::NoMemory;
+use outside_io::{Between, Disk};
+use path_commit::Book;
+use rail_types::{Deed, List, Network, Path, Request, Wanted};
+use reply_texts::Reply;
+use std::alloc::Global;
+use std::sync::Wait;
+use tail_states::{PlacesFault, places, sound_networks_are_asked};
+
+// Seeks a path.
+pub(crate) fn ask<R: Wait, D: Disk, B: Between>(
+    rt: &R,
+    alloc: Global,
+    shared: &Shared<D>,
+    pass: &mut Pass<Book<D>>,
+    client: &mut Client,
+    line_number: u32,
+    after: Option<u64>,
+    number: u64,
+    request: Request,
+    text: &mut Buffer,
+    between: &mut B,
+) -> Reply
+    requires ready { IsReady shared.now.gate pass.old }
+    requires budget { 4 ≤ turns_left pass.old }
+    requires knows { Knows (timetable_at shared.now.gate) client.old (view pass.old).seen }
+    requires name { IsClientName client.old.name }
+    requires shared { IsShared shared.now }
+    requires within { IsAskWithin (timetable_at shared.now.gate).net (path_of number request) }
+    requires spare { room_for 0 ≤ text.old.spare }
+    ensures ready { IsReady shared.now.gate pass.new }
+    ensures budget { turns_left pass.old ≤ turns_left pass.new + 4 }
+    ensures name { client.new.name ≡ client.old.name }
+    ensures knows { Knows (timetable_at shared.now.gate) client.new (view pass.new).seen }
+    ensures answers { AnswersLine (caller_of shared.now client.old.name line_number)
+        (asking after number request) result (view pass.old) (view pass.new) }
+    ensures held { text.new.held ≡ text.old.held }
+    ensures room { HasRoomIn text.new result ⊎ AddsNothing result }
+{
+    let Ok(deed) = deed_of(alloc, &request) else {
+        return Reply::NoMemory;
+    };
+    match find_again(rt, alloc, &shared.gate, pass, client, after, number, &deed) {
+        Ok(None) => seek_path(
+            rt,
+            alloc,
+            shared,
+            pass,
+            client,
+            line_number,
+            number,
+            request,
+            text,
+            between,
+        ),
+        Ok(Some(told)) => number_told(number, told, client.front()),
+        Err(halt) => halted(halt),
+    }
+}
+
+// The grant of a path without runs for a request: of a path that is asked for the request alone counts.
+fn deed_of(alloc: Global, request: &Request) -> Result<Deed, NoMemory>
+    ensures { IfOk result (λ deed.
+        (path : path_type) × (deed ≡ Grant (Asked request.now) path)) }
+{
+    let path = Path {
+        train: request.train.copy(alloc)?,
+        runs: List::new(alloc),
+    };
+    let request = request.copy(alloc)?;
+    Ok(Deed::Grant(Wanted::Asked(request), path))
+}
+
+// Seeks a path behind a turn in which the number was new.
+fn seek_path<R: Wait, D: Disk, B: Between>(
+    rt: &R,
+    alloc: Global,
+    shared: &Shared<D>,
+    pass: &mut Pass<Book<D>>,
+    client: &mut Client,
+    line_number: u32,
+    number: u64,
+    request: Request,
+    text: &mut Buffer,
+    between: &mut B,
+) -> Reply
+    requires ready { IsReady shared.now.gate pass.old }
+    requires budget { 3 ≤ turns_left pass.old }
+    requires copy { IsCopyOf (timetable_at shared.now.gate) client.old (view pass.old).seen }
+    requires name { IsClientName client.old.name }
+    requires shared { IsShared shared.now }
+    requires within { IsAskWithin (timetable_at shared.now.gate).net (path_of number request) }
+    requires spare { room_for 0 ≤ text.old.spare }
+    ensures ready { IsReady shared.now.gate pass.new }
+    ensures budget { turns_left pass.old ≤ turns_left pass.new + 3 }
+    ensures name { client.new.name ≡ client.old.name }
+    ensures knows { Knows (timetable_at shared.now.gate) client.new (view pass.new).seen }
+    ensures answers { AnswersBehind (caller_of shared.now client.old.name line_number)
+        number request result (view pass.old) (view pass.new) }
+    ensures held { text.new.held ≡ text.old.held }
+    ensures room { HasRoomIn text.new result ⊎ AddsNothing result }
+{
+    sound_networks_are_asked();
+    let net = network_of(shared);
+    let places = match places(alloc, net, &shared.followers, &request) {
+        Ok(places) => places,
+        Err(PlacesFault::Wide { count: _count }) => {
+            return Reply::Wide {
+                number,
+                front: client.front(),
+            };
+        }
+        Err(PlacesFault::Memory) => return Reply::NoMemory,
+    };
+    let ask = Ask {
+        number,
+        line: line_number,
+        request,
+        places,
+    };
+    match try_searches(
+        rt,
+        alloc,
+        &shared.gate,
+        net,
+        &shared.settings,
+        pass,
+        client,
+        &ask,
+        text,
+        between,
+    ) {
+        Ok(outcome) => ask_told(number, outcome, client.front()),
+        Err(halt) => halted(halt),
+    }
+}
+
+// The network of the book.
+fn network_of<D: Disk>(shared: &Shared<D>) -> &Network
+    requires { IsShared shared.now }
+    ensures { result.now ≡ (timetable_at shared.now.gate).net }
+{
+    &shared.known.railway().network
+}

@@ -1,0 +1,5 @@
+pub mod Lists
+pub mod Nesting
+pub mod Disks
+pub mod Steps
+pub mod Ended

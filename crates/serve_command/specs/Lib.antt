@@ -1,0 +1,4 @@
+pub mod Runs
+pub mod Works
+pub mod Journals
+pub mod Serving

@@ -1,0 +1,72 @@
+-- The work of `serve`: the network, the base timetable and the trains are read, and then clients are served.
+use Rattle.std.specs.Prelude.{ℕ, All, List, ◌∷◌, Result}
+use Rattle.base_file.specs.Sound.{IsBaseOn}
+use Rattle.client_streams.specs.Clients.{client_calls}
+use Rattle.client_words.specs.declared.clients.ClientWord.{ClientWord}
+use Rattle.command_files.specs.Files.{BaseStep, NetworkStep, TrainStep}
+use Rattle.command_files.specs.declared.bases.BaseFile.{BaseFile}
+use Rattle.command_files.specs.declared.networks.NetworkFile.{NetworkFile}
+use Rattle.command_reports.specs.Works.{Follows}
+use Rattle.command_reports.specs.declared.refusals.Refusal.{Refusal}
+use Rattle.file_rounds.specs.Scenes.{Scene}
+use Rattle.named_network.specs.Named.{IsNamed}
+use Rattle.outside_io.specs.Openings.{Opening, source_at, disk_at}
+use Rattle.outside_io.specs.declared.disks.Disk.{Ghosts as Disks}
+use Rattle.outside_io.specs.declared.sinks.Sink.{Ghosts as Sinks}
+use Rattle.outside_io.specs.declared.sources.Source.{Ghosts as Sources}
+use Rattle.rail_types.specs.Limits.{IsTrainWithinLimits}
+use Rattle.rail_types.specs.Timetables.{IsTimetable}
+use Rattle.rail_types.specs.declared.trains.Train.{Train}
+use Rattle.serve_reports.specs.declared.ends.Ends.{Ends}
+use Rattle.serve_command.specs.Journals.{ServeStep, timetable_on}
+use Rattle.serve_command.specs.declared.works.Files.{Files}
+
+-- the files together
+abbrev pub files_of : NetworkFile → BaseFile → List Train → Files
+files_of network base trains = record { network = network; base = base; trains = trains }
+
+-- the trains are read, and then clients are served
+abbrev pub ReadsTrains : {Src Snk Dsk : Type 0} → Sources Src → Sinks Snk → Disks Dsk → List ℕ
+    → List ℕ → List ClientWord → NetworkFile → BaseFile → Scene Src Snk Dsk
+    → Scene Src Snk Dsk → Result Ends Refusal → Type 0
+ReadsTrains source sink disk trains journal clients network base old new result =
+    Follows (TrainStep source trains)
+    (λ (read : List Train).
+    ServeStep source sink disk (files_of network base read) journal clients) old new result
+
+-- the base timetable is read on the zones of the network, and then the trains
+abbrev pub ReadsBase : {Src Snk Dsk : Type 0} → Sources Src → Sinks Snk → Disks Dsk → List ℕ
+    → List ℕ → List ℕ → List ClientWord → NetworkFile → Scene Src Snk Dsk → Scene Src Snk Dsk
+    → Result Ends Refusal → Type 0
+ReadsBase source sink disk base trains journal clients network old new result =
+    Follows (BaseStep source network.named.network.zones base)
+    (λ (file : BaseFile). ReadsTrains source sink disk trains journal clients network file)
+    old new result
+
+-- the network is read, and then the base timetable
+abbrev pub ReadsNetwork : {Src Snk Dsk : Type 0} → Sources Src → Sinks Snk → Disks Dsk → List ℕ
+    → List ℕ → List ℕ → List ℕ → List ClientWord → Scene Src Snk Dsk → Scene Src Snk Dsk
+    → Result Ends Refusal → Type 0
+ReadsNetwork source sink disk network base trains journal clients old new result =
+    Follows (NetworkStep source network)
+    (λ (file : NetworkFile). ReadsBase source sink disk base trains journal clients file)
+    old new result
+
+-- the opening calls of `serve`, in order
+abbrev pub serve_calls : List ℕ → List ℕ → List ℕ → List ℕ → List ClientWord → List Opening
+serve_calls network base trains journal clients =
+    source_at network ∷ source_at base ∷ source_at trains ∷ disk_at journal
+    ∷ client_calls clients
+
+-- *inside*: what is known of files that were read
+abbrev pub IsNetworkRead : NetworkFile → Type 0
+IsNetworkRead network = IsNamed network.named
+
+pub record IsBaseRead (network : NetworkFile) (base : BaseFile) : Type 0 where
+  pub named : IsNamed network.named
+  pub sound : IsBaseOn network.named.network.zones base.base
+
+pub record AreFiles (files : Files) : Type 0 where
+  pub named : IsNamed files.network.named
+  pub timetable : IsTimetable (timetable_on files)
+  pub trains : All IsTrainWithinLimits files.trains

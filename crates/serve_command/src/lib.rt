@@ -1,0 +1,12 @@
+//! The command `serve`: the lines of 1 to 16 clients are answered at once, over one journal.
+#![tactic(auto)]
+
+mod books;
+mod journals;
+mod refusals;
+mod runs;
+mod works;
+
+pub use runs::run_serve;
+#[doc(hidden)]
+pub use works::Files;

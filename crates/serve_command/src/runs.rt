@@ -1,0 +1,65 @@
+//! The run of `serve`.
+
+ghost use Rattle.std.specs.Prelude.{◌≡◌, ◌≢◌, ℕ, List};
+ghost use Rattle.client_streams.specs.Clients.{AreClients};
+ghost use Rattle.file_rounds.specs.Scenes.{scene};
+ghost use Rattle.outside_io.specs.Openings.{Undisturbed};
+ghost use Rattle.outside_io.specs.Places.{Untouched};
+ghost use Rattle.serve_command.specs.Runs.{EndsRun, IsServed, RunsServe};
+
+use crate::works::serve;
+use client_words::ClientWord;
+use command_reports::{Refusal, finish};
+use exit_status::Status;
+use outside_io::Outside;
+use serve_reports::{Ends, tell_ends};
+use std::alloc::AllocGlobal;
+use std::sync::Wait;
+use std::thread::Threads;
+
+/// Runs `serve` over the names of a network's file, a train file, a base timetable's and a journal, and 1 to 16 clients.
+/// It reads the files, opens the journal, opens the source and the sink of each client, answers the lines of all clients at
+/// once, each in a thread where one can be made, puts all back, and reports how each client's session ended, or what
+/// refused.
+pub fn run_serve<R: AllocGlobal + Threads + Wait + Sync, O: Outside>(
+    rt: &R,
+    network: &str,
+    trains: &str,
+    base: &str,
+    journal: &str,
+    clients: &[ClientWord],
+    outside: &mut O,
+) -> Status
+    requires clients { AreClients clients.now }
+    // All that is done, by the status and the report.
+    ensures runs { RunsServe O.Src.Source O.Snk.Sink O.Dsk.Disk network.now base.now trains.now
+        journal.now clients.now (scene O.Outside outside.old) (scene O.Outside outside.new)
+        result }
+    // At Done each line of each client was answered, and a line for each client was reported.
+    ensures done { result ≡ Status.Done → IsServed O.Src.Source O.Snk.Sink O.Dsk.Disk network.now
+        base.now trains.now journal.now clients.now (scene O.Outside outside.old)
+        (scene O.Outside outside.new) }
+    // At a refusal no sink but the report gained anything.
+    ensures clean { result ≢ Status.Done → result ≢ Status.ClientEnd → result ≢ Status.Report
+        → result ≢ Status.Memory → Untouched (O.sinks outside.old) (O.sinks outside.new) }
+    // Names that are given are never refused as words.
+    ensures words { result ≢ Status.Words }
+    // Whatever the status, all that was opened is put back, and no other disk changed.
+    ensures back { Undisturbed (O.standing outside.old) (O.standing outside.new) }
+    ensures disks { (name : List ℕ) → name ≢ journal.now
+        → O.disks outside.new name ≡ O.disks outside.old name }
+{
+    let outcome = serve(rt, network, base, trains, journal, clients, outside);
+    end(outcome, outside)
+}
+
+// Reports how the clients ended, or what refused.
+fn end<O: Outside>(outcome: Result<Ends, Refusal>, outside: &mut O) -> Status
+    ensures ends { EndsRun O.Snk.Sink (scene O.Outside outside.old) (scene O.Outside outside.new)
+        outcome result }
+{
+    match outcome {
+        Ok(ends) => tell_ends(&ends, outside),
+        Err(refusal) => finish(Err(refusal), outside),
+    }
+}

@@ -1,0 +1,89 @@
+//! The work of `serve`: reads the three files, and then serves.
+
+ghost use Rattle.client_streams.specs.Clients.{AreClients};
+ghost use Rattle.file_rounds.specs.Scenes.{scene};
+ghost use Rattle.serve_command.specs.Works.{IsBaseRead, IsNetworkRead, ReadsBase, ReadsNetwork, ReadsTrains};
+
+use crate::journals::serve_files;
+use base_file::bases_make_timetables;
+use client_words::ClientWord;
+use command_files::{BaseFile, NetworkFile, read_base_file, read_network_file, read_train_file};
+use command_reports::Refusal;
+use outside_io::Outside;
+use serve_reports::Ends;
+use std::alloc::AllocGlobal;
+use std::sync::Wait;
+use std::thread::Threads;
+use train_file::Trains;
+
+/// The files of the command: for contracts.
+#[derive(Debug, Drop)]
+pub struct Files {
+    pub network: NetworkFile,
+    pub base: BaseFile,
+    pub trains: Trains,
+}
+
+/// The work of `serve`.
+pub(crate) fn serve<R: AllocGlobal + Threads + Wait + Sync, O: Outside>(
+    rt: &R,
+    network: &str,
+    base: &str,
+    trains: &str,
+    journal: &str,
+    clients: &[ClientWord],
+    outside: &mut O,
+) -> Result<Ends, Refusal>
+    requires clients { AreClients clients.now }
+    ensures works { ReadsNetwork O.Src.Source O.Snk.Sink O.Dsk.Disk network.now base.now trains.now
+        journal.now clients.now (scene O.Outside outside.old) (scene O.Outside outside.new)
+        result }
+{
+    let network = read_network_file(rt.alloc(), network, outside)?;
+    serve_network(rt, network, base, trains, journal, clients, outside)
+}
+
+// The same, once the network is read.
+fn serve_network<R: AllocGlobal + Threads + Wait + Sync, O: Outside>(
+    rt: &R,
+    network: NetworkFile,
+    base: &str,
+    trains: &str,
+    journal: &str,
+    clients: &[ClientWord],
+    outside: &mut O,
+) -> Result<Ends, Refusal>
+    requires clients { AreClients clients.now }
+    requires network { IsNetworkRead network }
+    ensures works { ReadsBase O.Src.Source O.Snk.Sink O.Dsk.Disk base.now trains.now journal.now
+        clients.now network (scene O.Outside outside.old) (scene O.Outside outside.new) result }
+{
+    let base = read_base_file(rt.alloc(), base, network.named.network.zones, outside)?;
+    serve_base(rt, network, base, trains, journal, clients, outside)
+}
+
+// The same, once the base timetable is read.
+fn serve_base<R: AllocGlobal + Threads + Wait + Sync, O: Outside>(
+    rt: &R,
+    network: NetworkFile,
+    base: BaseFile,
+    trains: &str,
+    journal: &str,
+    clients: &[ClientWord],
+    outside: &mut O,
+) -> Result<Ends, Refusal>
+    requires clients { AreClients clients.now }
+    requires base { IsBaseRead network base }
+    ensures works { ReadsTrains O.Src.Source O.Snk.Sink O.Dsk.Disk trains.now journal.now
+        clients.now network base (scene O.Outside outside.old) (scene O.Outside outside.new)
+        result }
+{
+    bases_make_timetables();
+    let trains = read_train_file(rt.alloc(), trains, outside)?;
+    let files = Files {
+        network,
+        base,
+        trains,
+    };
+    serve_files(rt, files, journal, clients, outside)
+}

@@ -1,0 +1,120 @@
+-- The report of a run's clients, and its status.
+use Rattle.std.specs.Prelude.{◌≡◌, ◌⊎◌, ℕ, Bool, true, false, List, ◌∷◌, [], ◌++◌, codes, decimal, flat_map, if◌then◌else◌, Option, None, Some, Result, Ok, Err}
+use Rattle.std.specs.List.{list_any}
+use Rattle.exit_status.specs.declared.Status.{Status}
+use Rattle.exit_status.specs.declared.Status.TheVariants.{Done, No, Words, Network, Base, Trains, Journal, Opening, DiskFault, ClientEnd, Report, Memory}
+use Rattle.outside_io.specs.declared.sinks.Sink.{Ghosts}
+use Rattle.line_sessions.specs.declared.sessions.Why.{Why}
+use Rattle.line_sessions.specs.declared.sessions.Why.TheVariants as why
+use Rattle.request_server.specs.declared.plans.Session.{Session}
+use Rattle.file_rounds.specs.Scenes.{ChangesOnlyReport, Scene}
+use Rattle.file_rounds.specs.Writing.{ReportSays}
+use Rattle.file_rounds.specs.declared.writing.OutFault.{OutFault}
+use Rattle.serve_reports.specs.declared.ends.Ends.{Ends}
+
+-- why a session ended, in words
+abbrev pub why_text : Why → List ℕ
+why_text why.Input = codes "input"
+why_text why.ReadFault = codes "read-fault"
+why_text why.WriteFault = codes "write-fault"
+why_text why.LongLine = codes "long-line"
+why_text why.LineCount = codes "line-count"
+why_text why.Memory = codes "memory"
+
+-- the line of a session: its client, how many of its lines were answered, and its end
+abbrev pub end_line : {Src Snk : Type 0} → Session Src Snk → List ℕ
+end_line session =
+    codes "client " ++ session.name ++ codes " lines " ++ decimal session.ended.lines
+    ++ codes " end " ++ why_text session.ended.why ++ 10 ∷ []
+
+-- the lines of all sessions, in order
+abbrev pub report_text : {Src Snk : Type 0} → List (Session Src Snk) → List ℕ
+report_text sessions = flat_map end_line sessions
+
+-- an end that is a fault of a source or a sink, a line that is too long or a line too many
+abbrev pub is_faulty : Why → Bool
+is_faulty why.Input = false
+is_faulty why.ReadFault = true
+is_faulty why.WriteFault = true
+is_faulty why.LongLine = true
+is_faulty why.LineCount = true
+is_faulty why.Memory = false
+
+-- an end that is want of memory
+abbrev pub is_wanting : Why → Bool
+is_wanting why.Input = false
+is_wanting why.ReadFault = false
+is_wanting why.WriteFault = false
+is_wanting why.LongLine = false
+is_wanting why.LineCount = false
+is_wanting why.Memory = true
+
+-- whether one of the sessions has such an end
+abbrev pub has_faulty : {Src Snk : Type 0} → List (Session Src Snk) → Bool
+has_faulty sessions = list_any (λ session. is_faulty session.ended.why) sessions
+
+abbrev pub has_wanting : {Src Snk : Type 0} → List (Session Src Snk) → Bool
+has_wanting sessions = list_any (λ session. is_wanting session.ended.why) sessions
+
+-- what the ends of sessions come to
+abbrev pub ends_status : {Src Snk : Type 0} → List (Session Src Snk) → Status
+ends_status sessions =
+    if has_faulty sessions then ClientEnd
+    else if has_wanting sessions then Memory else Done
+
+-- the status where memory was wanted for the report as well: a faulty end stands before it
+abbrev pub status_untold : Status → Status
+status_untold Done = Memory
+status_untold No = Memory
+status_untold Words = Memory
+status_untold Network = Memory
+status_untold Base = Memory
+status_untold Trains = Memory
+status_untold Journal = Memory
+status_untold Opening = Memory
+status_untold DiskFault = Memory
+status_untold ClientEnd = ClientEnd
+status_untold Report = Memory
+status_untold Memory = Memory
+
+-- the status where the report failed: a faulty end stands before it
+abbrev pub status_unreported : Status → Status
+status_unreported Done = Report
+status_unreported No = Report
+status_unreported Words = Report
+status_unreported Network = Report
+status_unreported Base = Report
+status_unreported Trains = Report
+status_unreported Journal = Report
+status_unreported Opening = Report
+status_unreported DiskFault = Report
+status_unreported ClientEnd = ClientEnd
+status_unreported Report = Report
+status_unreported Memory = Report
+
+-- these are the ends of the sessions: their status and the text of their report, or memory was wanted for the text
+abbrev pub IsEnds : {Src Snk : Type 0} → List (Session Src Snk) → Ends → Type 0
+IsEnds sessions ends =
+    (ends ≡ record { status = ends_status sessions; text = Some (report_text sessions) })
+    ⊎ (ends ≡ record { status = status_untold (ends_status sessions); text = None })
+
+-- the text that the report gains
+abbrev pub line_of : Ends → List ℕ
+line_of ends = text_or_none ends.text
+  where
+    text_or_none : Option (List ℕ) → List ℕ
+    text_or_none (Some text) = text
+    text_or_none None = codes "no memory" ++ 10 ∷ []
+
+-- the status behind a report
+abbrev pub status_behind : Status → Result (Unit {0}) OutFault → Status
+status_behind status (Ok _) = status
+status_behind status (Err _) = status_unreported status
+
+-- the ends were reported, and the status is theirs, where the report did not fail
+pub record EndsSay {Src Snk Dsk : Type 0} (sink : Ghosts Snk) (ends : Ends)
+    (old new : Scene Src Snk Dsk) (status : Status) : Type 0 where
+  pub result : Result (Unit {0}) OutFault
+  pub says : ReportSays sink (line_of ends) old new result
+  pub only : ChangesOnlyReport old new
+  pub status_is : status ≡ status_behind ends.status result
