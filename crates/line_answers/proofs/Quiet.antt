@@ -27,7 +27,7 @@ module _ (caller : Caller) (bytes : List ℕ) (h g left : List Entry) (turns : L
   quiet (reply.Front front) adds gives settle = record { same = gives.2.2.same; none = refl; told_none = refl; settled = settle }
   quiet (reply.Bad field) adds gives settle = record { same = gives.1; none = refl; told_none = refl; settled = settle }
   quiet (reply.Denied number rule front) adds gives settle = record { same = gives.2.5.same; none = refl; told_none = refl; settled = settle }
-  quiet (reply.Ahead after front) adds gives settle = record { same = gives.2.2.same; none = refl; told_none = refl; settled = settle }
+  quiet (reply.Ahead after front) adds gives settle = record { same = gives.2.3.same; none = refl; told_none = refl; settled = settle }
   quiet (reply.Other number at front) adds gives settle = record { same = gives.2.3.same; none = refl; told_none = refl; settled = settle }
   quiet (reply.Gone number at freer front) adds gives settle = record { same = gives.2.3.same; none = refl; told_none = refl; settled = settle }
   quiet (reply.Taken number zone owner front) adds gives settle = record { same = gives.2.5.same; none = refl; told_none = refl; settled = settle }

@@ -46,8 +46,11 @@ halted_line caller line v w halt.NoMemory looks bytes spells =
     looked caller bytes v w reply.NoMemory looks looks.same refl (λ ts all. all) (λ ts some. tt)
 halted_line caller line v w (halt.Ahead named front) ahead bytes spells =
     looked caller bytes v w (reply.Ahead named front) ahead.0
-    (line, spells, (ahead.1.asked, subst (λ n. n < named) ahead.1.stands ahead.1.beyond, leaves v w ahead.0 front ahead.1.stands))
+    (line, spells, (ahead.1.asked, below, below, leaves v w ahead.0 front ahead.1.stands))
     refl (λ ts all. all) (λ ts some. some)
+  where
+    below : length w.found.list < named
+    below = subst (λ n. n < named) ahead.1.stands ahead.1.beyond
 
 pub halt_short : (told : Halt) → IsBehindEntry 0 (halt_reply told) ⊎ AddsNothing (halt_reply told)
 halt_short halt.DiskFault = inl tt

@@ -199,7 +199,7 @@ Gives caller line (reply.Denied number rule front) h g left =
     IsReached line h × MayBeDenied line.ask × (number_of line.ask ≡ Some number)
     × IsNewNumber caller number h × (caller.denied h line ≡ Some rule) × Leaves g left front
 Gives caller line (reply.Ahead after front) h g left =
-    (line.after ≡ Some after) × (length h < after) × Leaves g left front
+    (line.after ≡ Some after) × (length h < after) × (length g < after) × Leaves g left front
 Gives caller line (reply.Other number at front) h g left =
     IsReached line h × (number_of line.ask ≡ Some number)
     × IsTold caller line.ask g (verdict.Other at) × Leaves g left front
