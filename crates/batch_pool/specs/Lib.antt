@@ -1,0 +1,3 @@
+pub mod Batches
+pub mod Hands
+pub mod Shifts

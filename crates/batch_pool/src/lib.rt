@@ -1,0 +1,18 @@
+//! A list of lines, answered by several workers at once: each line that is to do goes through a queue to one of them.
+#![tactic(auto)]
+
+mod batches;
+mod finishes;
+mod hands;
+mod jobs;
+mod puts;
+mod rooms;
+mod shifts;
+mod workers;
+
+pub use batches::run_batch;
+pub use workers::{Served, Worker};
+
+#[doc(hidden)]
+pub use hands::Hand;
+
