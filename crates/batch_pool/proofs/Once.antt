@@ -1,6 +1,6 @@
 -- Where every weight of the places to do is that of the places answered, each place was answered once, and no other.
-use Rattle.std.proofs.Common.{◌≡◌, ◌≢◌, ◌⊎◌, inl, inr, ℕ, zero, suc, ◌+◌, ◌<◌, ◌≤◌, All, AllPairs, Contains, Option, Some, None, List, [], ◌∷◌, length, map, sym, refl, ap, ◌∙◌, subst, ⊎_elim, arith}
-use Rattle.std.specs.Prelude.{option_and_then, slice_get, slice_index_or}
+use Rattle.std.proofs.Common.{◌≡◌, ◌≢◌, ℕ, zero, suc, ◌+◌, ◌<◌, ◌≤◌, AllPairs, Contains, Some, None, List, [], ◌∷◌, length, sym, refl, ap, ◌∙◌, ⊎_elim, arith}
+use Rattle.std.specs.Prelude.{slice_get, slice_index_or}
 use Rattle.batch_pool.specs.Batches.{AreAnsweredOnce, place_at, places}
 use Rattle.batch_pool.specs.Hands.{weigh}
 use Rattle.batch_pool.specs.Shifts.{weigh_all}

@@ -1,8 +1,8 @@
 -- What a worker may conclude from a place that it took, and how a step is put behind the others.
-use Rattle.std.proofs.Common.{◌≡◌, ℕ, zero, suc, ◌+◌, ◌<◌, ◌≤◌, ◌⊎◌, inl, inr, List, [], ◌∷◌, ◌++◌, All, length, map, sym, refl, ap, ◌∙◌, subst, ⊎_elim, arith}
+use Rattle.std.proofs.Common.{◌≡◌, ℕ, zero, suc, ◌+◌, ◌<◌, ◌≤◌, ◌⊎◌, inl, inr, List, [], ◌∷◌, ◌++◌, All, length, sym, refl, ap, subst, ⊎_elim, arith}
 use Rattle.std.specs.Prelude.{slice_index_or}
 use Rattle.batch_pool.specs.declared.hands.Hand.{Hand}
-use Rattle.batch_pool.specs.Hands.{hand, weigh, Took}
+use Rattle.batch_pool.specs.Hands.{weigh, Took}
 use Rattle.batch_pool.specs.Batches.{Leads, places}
 use Rattle.batch_pool.proofs.Totals.{weigh-append}
 

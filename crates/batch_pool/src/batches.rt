@@ -57,9 +57,7 @@ pub fn run_batch<R: Threads + Wait + Sync, W: Worker>(
     let Ok((line, pass)) = Line::ruled(alloc, todo.len()) else {
         return Err((workers, NoMemory));
     };
-    let served = answer_all(
-        rt, &line, lines, todo, pass, workers, rooms, jobs, served,
-    );
+    let served = answer_all(rt, &line, lines, todo, pass, workers, rooms, jobs, served);
     Ok(served)
 }
 

@@ -114,13 +114,7 @@ fn work_each<R: Threads + Wait + Sync, W: Worker>(
     thread::for_each_mut(rt, jobs, 16, &one);
 }
 
-fn work_one<R: Wait, W: Worker>(
-    rt: &R,
-    line: &Line,
-    lines: &[Name],
-    todo: &[u32],
-    job: &mut Job<W>,
-)
+fn work_one<R: Wait, W: Worker>(rt: &R, line: &Line, lines: &[Name], todo: &[u32], job: &mut Job<W>)
     requires texts { All W.is_line lines.now }
     requires below { All (λ at. at < length lines.now) todo.now }
     requires pass { IsPassOf line.now job.old.pass }

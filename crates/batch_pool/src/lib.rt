@@ -11,8 +11,9 @@ mod shifts;
 mod workers;
 
 pub use batches::run_batch;
-pub use workers::{Served, Worker};
-
 #[doc(hidden)]
 pub use hands::Hand;
+pub use workers::{Served, Worker};
 
+#[cfg(test)]
+mod tests;

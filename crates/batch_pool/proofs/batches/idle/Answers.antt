@@ -1,4 +1,4 @@
-use Rattle.std.proofs.Common.{◌≡◌, ◌+◌, ◌≤◌, ◌++◌, ◌∷◌, [], ℕ, List, Some, All, length, map, reverse, ap, sym, ◌∙◌, subst, refl, arith}
+use Rattle.std.proofs.Common.{◌≡◌, ◌++◌, [], List, All, length, map, reverse, ap, sym, ◌∙◌, subst, refl, arith}
 use Rattle.std.specs.Prelude.{slice_index_or}
 use Rattle.std.proofs.lemmas.List.{length-reverse, reverse-reverse}
 use Rattle.std.proofs.lemmas.List.Elements.{All-nil, All-push}

@@ -1,9 +1,9 @@
-use Rattle.std.proofs.Common.{◌≡◌, ◌+◌, ◌-◌, ◌<◌, ◌≤◌, ◌++◌, ◌∷◌, [], ℕ, List, Some, All, length, map, ap, sym, ◌∙◌, subst, refl, arith, length-append}
+use Rattle.std.proofs.Common.{◌≡◌, ◌+◌, ◌<◌, ◌++◌, ◌∷◌, [], List, Some, All, length, map, ap, sym, ◌∙◌, subst, arith, length-append}
 use Rattle.std.proofs.lemmas.List.{map-append}
 use Rattle.std.proofs.lemmas.List.Elements.{All-map, All-pop, All-push}
 use Rattle.crossbeam_queue.specs.Passes.{IsPassOf}
 use Rattle.batch_pool.specs.Batches.{AreMatched, IsServed, places}
-use Rattle.batch_pool.specs.Hands.{hand, knows, weigh}
+use Rattle.batch_pool.specs.Hands.{knows, weigh}
 use Rattle.batch_pool.specs.Shifts.{IsBack, served_of, weigh_all}
 use Rattle.batch_pool.specs.declared.hands.Hand.{Hand}
 use Rattle.batch_pool.specs.declared.jobs.Job.{Job}
@@ -75,7 +75,7 @@ work-requires-clause-counts g c =
     let back = (All-pop P c.args.jobs.items c.last_of-last.new.items.items (Some c.last_of-last.result) c.last_of-last.ensures c.requires.back).1 in
     let own = (knows c.last_of-last.result.pass).taken in
     let long : length (knows c.absorb.new.pass).taken ≡ length (knows c.gather-served.new.pass).taken + length own
-        = ap (λ (v : Hand). length v.taken) c.absorb.ensures.rule ∙ length-append (knows c.gather-served.new.pass).taken own in
+    = ap (λ (v : Hand). length v.taken) c.absorb.ensures.rule ∙ length-append (knows c.gather-served.new.pass).taken own in
     let counts = back.counts in omega arith
 
 pub work-requires-clause-room : goal.work-requires-clause-room
@@ -101,7 +101,7 @@ returns-clause-once g c h =
     let parts : (knows c.absorb.new.pass).parts ≡ all.parts + own.parts = ap (λ (v : Hand). v.parts) joined in
     let long = ap length c.last_of-last.ensures ∙ length_snoc c.last_of-last.new.items.items c.last_of-last.result in
     let whole : (knows c.absorb.new.pass).parts ≡ 1024 =
-        let e = ap (λ (v : Hand). v.parts) c.requires.parts in let few = c.requires.few in let a = c.gather-served.ensures.parts in let b = back.parts in omega arith in
+    let e = ap (λ (v : Hand). v.parts) c.requires.parts in let few = c.requires.few in let a = c.gather-served.ensures.parts in let b = back.parts in omega arith in
     let even = c.work.ensures.all whole h in
     let put = ap (weigh h) (c.work.ensures.put ∙ (ap (λ (v : Hand). v.put) joined ∙ (c.gather-served.ensures.put ∙ ap (λ (v : Hand). v.put) c.requires.parts))) in
     let taken : weigh h (knows c.absorb.new.pass).taken ≡ weigh h all.taken + weigh h own.taken = ap (λ (v : Hand). weigh h v.taken) joined ∙ weigh-append h all.taken own.taken in
@@ -109,7 +109,7 @@ returns-clause-once g c h =
     let none_yet = ap (λ (v : Hand). weigh h v.taken) c.requires.parts in let went = c.work.ensures.taken h in
     let one : Served W R = c.serve.result in
     let sums : weigh_all h c.push_reserved.new.self.items ≡ weigh_all h c.gather-served.result.items + weigh h (places one.answers)
-        = ap (weigh_all h) c.push_reserved.ensures.items ∙ weigh_all_snoc h c.gather-served.result.items one in
+    = ap (weigh_all h) c.push_reserved.ensures.items ∙ weigh_all_snoc h c.gather-served.result.items one in
     let last : weigh h (places one.answers) ≡ weigh h (places c.work.new.shift.answers.items) = ap (λ (s : Served W R). weigh h (places s.answers)) c.serve.ensures in
     omega arith
 
@@ -121,7 +121,7 @@ returns-clause-served g c workers matched =
     let last : Job W R = c.last_of-last.result in let rest : List (Job W R) = c.last_of-last.new.items.items in
     let was : map f c.args.jobs.items ≡ map f rest ++ f last ∷ [] = ap (map f) c.last_of-last.ensures ∙ map-append f rest (last ∷ []) in
     let is : c.push_reserved.new.self.items ≡ map f rest ++ c.serve.result ∷ []
-        = c.push_reserved.ensures.items ∙ ap (λ l. l ++ c.serve.result ∷ []) c.gather-served.ensures.served in
+    = c.push_reserved.ensures.items ∙ ap (λ l. l ++ c.serve.result ∷ []) c.gather-served.ensures.served in
     let went : (w : W) → S w (f last) → S w (served_of c.work.new.shift) = λ w i. record {
       leads = c.work.ensures.leads w i.leads;
       asked = let a = i.asked in let b = c.work.ensures.left in omega arith;
@@ -138,6 +138,6 @@ returns-clause-sound g c =
     let rest : List (Job W R) = c.last_of-last.new.items.items in
     let backs = All-pop P c.args.jobs.items rest (Some c.last_of-last.result) c.last_of-last.ensures c.requires.back in
     let is : c.push_reserved.new.self.items ≡ map f rest ++ c.serve.result ∷ []
-        = c.push_reserved.ensures.items ∙ ap (λ l. l ++ c.serve.result ∷ []) c.gather-served.ensures.served in
+    = c.push_reserved.ensures.items ∙ ap (λ l. l ++ c.serve.result ∷ []) c.gather-served.ensures.served in
     let first : All Q (map f rest) = All-map Q f rest (λ k d l. (backs.0 k d l).sound) in
     subst (All Q) (sym is) (All-push Q (map f rest) c.serve.result first (subst Q (sym c.serve.ensures) c.work.ensures.sound))

@@ -1,4 +1,4 @@
-use Rattle.std.proofs.Common.{rules, arith, refl, sym, ap, ◌∙◌, subst, ◌≡◌, ◌+◌, ◌<◌, ◌++◌, ◌∷◌, [], ℕ, List, Some, All, length, map, reverse}
+use Rattle.std.proofs.Common.{arith, refl, sym, ap, ◌∙◌, subst, ◌≡◌, ◌+◌, ◌++◌, ℕ, List, Some, All, length, map, reverse}
 use Rattle.std.proofs.lemmas.List.{length-reverse}
 use Rattle.std.proofs.lemmas.List.Elements.{All-pop}
 use Rattle.crossbeam_queue.specs.Passes.{IsPassOf}
@@ -72,9 +72,9 @@ loop-job-preserved g c =
       taken = λ h.
           let a = now.taken h in let b = evens.1 h in
           let d : weigh h (knows c.absorb.new.pass).taken ≡ weigh h (knows c.loop-job.pass).taken + weigh h (knows job.pass).taken
-              = ap (λ (v : Hand). weigh h v.taken) joined ∙ weigh-append h (knows c.loop-job.pass).taken (knows job.pass).taken in
+          = ap (λ (v : Hand). weigh h v.taken) joined ∙ weigh-append h (knows c.loop-job.pass).taken (knows job.pass).taken in
           let e : weigh_all h c.push_reserved.new.self.items ≡ weigh_all h before + weigh h (places one.answers)
-              = ap (weigh_all h) pushed ∙ weigh_all_snoc h before one in
+          = ap (weigh_all h) pushed ∙ weigh_all_snoc h before one in
           let s : weigh h (places one.answers) ≡ weigh h (places job.shift.answers.items) = ap (λ (v : Served W R). weigh h (places v.answers)) c.serve.ensures in
           omega arith;
       served = turned_from f before c.push_reserved.new.self.items one rest c.loop-job.jobs.items (map f c.args.jobs.items) job pushed items c.serve.ensures now.served;

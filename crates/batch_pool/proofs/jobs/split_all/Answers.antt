@@ -1,9 +1,9 @@
-use Rattle.std.proofs.Common.{rules, arith, refl, sym, ap, ◌∙◌, subst, ◌≡◌, ◌+◌, ◌-◌, ◌≤◌, ◌++◌, ◌∷◌, [], ℕ, List, Some, All, length, map, reverse}
+use Rattle.std.proofs.Common.{arith, refl, sym, ap, ◌∙◌, subst, ◌≡◌, ◌-◌, ◌++◌, [], List, Some, All, length, map, reverse}
 use Rattle.std.specs.Prelude.{vec_capacity}
 use Rattle.std.proofs.lemmas.List.{length-reverse, reverse-reverse}
 use Rattle.std.proofs.lemmas.List.Elements.{All-nil, All-pop, All-push}
 use Rattle.crossbeam_queue.specs.Passes.{IsPassOf}
-use Rattle.batch_pool.specs.Hands.{hand, knows}
+use Rattle.batch_pool.specs.Hands.{hand}
 use Rattle.batch_pool.specs.Shifts.{IsReady}
 use Rattle.batch_pool.specs.declared.hands.Hand.{Hand}
 use Rattle.batch_pool.specs.declared.jobs.Job.{Job}

@@ -1,6 +1,6 @@
-use Rattle.std.proofs.Common.{◌≡◌, ◌+◌, ◌<◌, ◌≤◌, ℕ, List, [], All, length, ap, sym, ◌∙◌, subst, refl, arith}
+use Rattle.std.proofs.Common.{◌<◌, All, length, ap, sym, ◌∙◌, subst, refl, arith}
 use Rattle.batch_pool.specs.Batches.{Leads, places}
-use Rattle.batch_pool.specs.Hands.{hand, knows, weigh}
+use Rattle.batch_pool.specs.Hands.{weigh}
 use Rattle.batch_pool.specs.declared.hands.Hand.{Hand}
 use Rattle.batch_pool.proofs.jobs.work_one.Goals as goal
 

@@ -1,7 +1,6 @@
-use Rattle.std.proofs.Common.{rules, sym, subst, ap, refl, ◌∙◌, arith, ◌≡◌, ◌+◌, ◌<◌, ◌≤◌, ℕ, List, [], ◌∷◌, ◌++◌, All, length}
-use Rattle.std.specs.Prelude.{slice_index_or, vec_len, vec_capacity}
+use Rattle.std.proofs.Common.{sym, subst, ap, ◌∙◌, arith, ◌≡◌, ◌+◌, ◌<◌, ◌≤◌, [], ◌∷◌, ◌++◌, All, length}
+use Rattle.std.specs.Prelude.{slice_index_or, vec_capacity}
 use Rattle.std.proofs.lemmas.List.{get_or_default}
-use Rattle.crossbeam_queue.specs.Passes.{IsPassOf}
 use Rattle.batch_pool.specs.Hands.{knows, weigh, Took}
 use Rattle.batch_pool.specs.Batches.{Leads, places}
 use Rattle.batch_pool.proofs.Moves.{takes, learns}
@@ -28,8 +27,8 @@ pub answer-reply-requires-clause-line : goal.answer-reply-requires-clause-line
 answer-reply-requires-clause-line g c =
     let lines = c.args.lines.now in let at = c.in-Some-pop_as.at in
     let below =
-        took_below _ (knows c.loop.pass) _ (knows c.pop_as.new.pass) (subst (All (λ k. k < length lines)) (sym c.loop.invariant.put) c.requires.below)
-        c.in-Some-pop_as.ensures.rule in
+    took_below _ (knows c.loop.pass) _ (knows c.pop_as.new.pass) (subst (All (λ k. k < length lines)) (sym c.loop.invariant.put) c.requires.below)
+    c.in-Some-pop_as.ensures.rule in
     let text : c.as_bytes.result.now ≡ slice_index_or lines at [] = c.as_bytes.ensures ∙ c.index-lines-at.is ∙ get_or_default _ _ _ _ below in
     subst g.W.Worker.is_line (sym text) (c.requires.texts at [] below)
 
@@ -47,7 +46,7 @@ loop-preserved g c =
     let p : c.push_reserved.new.self.items ≡ c.loop.shift.answers.items ++ (c.in-Some-pop_as.at, c.answer-reply.result) ∷ [] = c.push_reserved.ensures.items in
     let q : vec_capacity c.push_reserved.new.self ≡ vec_capacity c.loop.shift.answers = c.push_reserved.ensures.capacity in
     let longer : length c.push_reserved.new.self.items ≡ length c.loop.shift.answers.items + 1
-        = ap length p ∙ length_snoc c.loop.shift.answers.items (c.in-Some-pop_as.at, c.answer-reply.result) in
+    = ap length p ∙ length_snoc c.loop.shift.answers.items (c.in-Some-pop_as.at, c.answer-reply.result) in
     let t = took_counts (knows c.loop.pass) _ (knows c.pop_as.new.pass) h in record {
       sound = c.answer-reply.ensures.sound;
       pass = (same.0 ∙ i.pass.0, same.2 ∙ i.pass.1);
@@ -59,7 +58,7 @@ loop-preserved g c =
       taken = λ k.
           let a = i.taken k in let b = took_weighs (knows c.loop.pass) _ (knows c.pop_as.new.pass) h k in
           let e : weigh k (places c.push_reserved.new.self.items) ≡ weigh k (places c.loop.shift.answers.items) + k c.in-Some-pop_as.at
-              = ap (λ xs. weigh k (places xs)) p ∙ places_weigh k c.loop.shift.answers.items c.in-Some-pop_as.at c.answer-reply.result in omega arith;
+          = ap (λ xs. weigh k (places xs)) p ∙ places_weigh k c.loop.shift.answers.items c.in-Some-pop_as.at c.answer-reply.result in omega arith;
       leads = λ first l.
           let gives = g.W.Worker.gives in let lines = c.args.lines.now in
           let below = took_below _ (knows c.loop.pass) _ (knows c.pop_as.new.pass) (subst (All (λ at. at < length lines)) (sym i.put) c.requires.below) h in
