@@ -12,35 +12,37 @@ use Rattle.client_turns.specs.Turns.{Sight}
 use Rattle.line_answers.specs.Calls.{IsToldIn}
 use Rattle.rail_types.specs.declared.entries.Entry.{Entry}
 use Rattle.request_server.specs.Jobs.{AreJoined, IsTalkOf}
-use Rattle.request_server.specs.Talks.{AreBelowEnd, Callers, faults, printed, Talk, unsettled}
+use Rattle.request_server.specs.Talks.{AreBelowEnd, AreSettledWithin, Callers, faults, IsWithinSettled, printed, Talk, unsettled}
 use Rattle.request_server.proofs.Histories.{talk_longer}
 use Rattle.request_server.proofs.Replies.{All-left, All-right}
 use Rattle.request_server.proofs.Told.{told_more}
 
-module _ (callers : List ℕ → Callers) where
-  pub joined_none : (v : Sight) → v.turns ≡ [] → AreJoined callers v []
+module _ (callers : List ℕ → Callers) (least : ℕ) where
+  pub joined_none : (v : Sight) → v.turns ≡ [] → AreJoined callers least v []
   joined_none v none = record {
-    replies = λ history _. All-nil (IsTalkOf callers history);
+    replies = λ history _. All-nil (IsTalkOf callers least history);
     entries = subst (λ ts. IsPermutation [] (own ts)) (sym none) (IsPermutation-refl []);
     counts = λ _. omega arith;
     told_so = subst (All (IsToldIn [])) (sym none) (All-nil (IsToldIn []));
+    settled = λ most _. All-nil (λ (t : Talk). All (IsWithinSettled most) t.traffic.told);
   }
 
-  pub joined_more : (v w new : Sight) (talks : List Talk) (talk : Talk) → AreJoined callers v talks
-      → IsTalkOf callers w.seen talk → own w.turns ≡ printed talk.traffic.told
+  pub joined_more : (v w new : Sight) (talks : List Talk) (talk : Talk) → AreJoined callers least v talks
+      → IsTalkOf callers least w.seen talk → own w.turns ≡ printed talk.traffic.told
       → (AreBelowEnd w.turns → faults talk.traffic.told ≤ rises w.turns)
       → All (IsToldIn (unsettled talk.traffic.told)) w.turns
+      → ((most : ℕ) → AreSettledWithin w.turns most → All (IsWithinSettled most) talk.traffic.told)
       → new ≡ joining v w → IsPermutation (v.turns ++ w.turns) new.turns
       → IsPermutation (own v.turns ++ own w.turns) (own new.turns) → rises new.turns ≡ rises v.turns + rises w.turns
-      → AreJoined callers new (talks ++ talk ∷ [])
-  joined_more v w new talks talk joined replies mine counts told same turns entries rise = record {
+      → AreJoined callers least new (talks ++ talk ∷ [])
+  joined_more v w new talks talk joined replies mine counts told settles same turns entries rise = record {
     replies = λ history ends.
         let P : List Entry → Type 0 = λ list. StartsWith history list in
         let all : All P ((v.joined ++ w.joined) ++ v.seen ∷ w.seen ∷ []) = subst (All P) (ap (λ (x : Sight). x.joined) same) ends in
         let seen = All-head P w.seen [] (All-tail P v.seen (w.seen ∷ []) (All-right P (v.joined ++ w.joined) (v.seen ∷ w.seen ∷ []) all)) in
-        All-push (IsTalkOf callers history) talks talk
+        All-push (IsTalkOf callers least history) talks talk
         (joined.replies history (All-left P v.joined w.joined (All-left P (v.joined ++ w.joined) (v.seen ∷ w.seen ∷ []) all)))
-        (talk_longer history w.seen (callers talk.name) talk.traffic.told seen replies);
+        (talk_longer history w.seen (callers talk.name) least talk.traffic.told seen replies);
     entries =
         let f : Talk → List ℕ = λ t. printed t.traffic.told in
         let theirs : flat_map f (talks ++ talk ∷ []) ≡ flat_map f talks ++ own w.turns = flat_map-append f talks (talk ∷ []) ∙ ap (λ l. flat_map f talks ++ l) (append-nil (f talk) ∙ sym mine) in
@@ -62,6 +64,11 @@ module _ (callers : List ℕ → Callers) where
         (All-append (IsToldIn both) v.turns w.turns
         (All-weaker (IsToldIn (flat_map f talks)) (IsToldIn both) (λ t. told_more (flat_map f talks) both t (λ n. Contains-append_left (flat_map f talks) (f talk) n)) v.turns joined.told_so)
         (All-weaker (IsToldIn (f talk)) (IsToldIn both) (λ t. told_more (f talk) both t (λ n. Contains-append_right (flat_map f talks) (f talk) n)) w.turns told)));
+    settled = λ most within.
+        let P : Turn → Type 0 = λ t. t.left.settled ≤ most in
+        let both = All-permutation P new.turns (v.turns ++ w.turns) (IsPermutation-sym (v.turns ++ w.turns) new.turns turns) within in
+        All-push (λ (t : Talk). All (IsWithinSettled most) t.traffic.told) talks talk
+        (joined.settled most (All-left P v.turns w.turns both)) (settles most (All-right P v.turns w.turns both));
   }
 
 -- an element moves from the end of a list to the front of the reversed one

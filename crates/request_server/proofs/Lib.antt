@@ -3,6 +3,7 @@ pub mod Shares
 pub mod Told
 pub mod Histories
 pub mod Rows
+pub mod Settles
 pub mod Replies
 pub mod Joins
 pub mod Whole

@@ -15,7 +15,7 @@ use Rattle.request_server.specs.declared.plans.Job.{Job}
 use Rattle.request_server.specs.declared.plans.Plan.{Plan}
 use Rattle.request_server.specs.declared.plans.Session.{Session}
 use Rattle.request_server.specs.declared.seats.Seat.{Seat}
-use Rattle.request_server.specs.Jobs.{AreJoined, IsBack, IsDoneJob, IsReadyJob, plan_of, WasServed}
+use Rattle.request_server.specs.Jobs.{AreJoined, found_at, IsBack, IsDoneJob, IsReadyJob, plan_of, WasServed}
 use Rattle.request_server.specs.Runs.{AreMatched, callers_of, IsServed}
 use Rattle.request_server.specs.Talks.{Callers, IsTalk, printed, Talk}
 use Rattle.request_server.proofs.Joins.{joined_more, joined_none}
@@ -154,11 +154,13 @@ module _ {D Src Snk Btw : Type 0} (shared : Shared D) (streams : Streams Src Snk
           ready = subst (λ (s : Shared D). IsReady s.gate new.seat.pass) gate was.seated.ready;
           share = serves.share ∙ ready.share;
         };
-        replies = subst (λ (c : Callers). IsTalk (view new.seat.pass).seen c told) callers
-            (talk_of (view old.seat.pass) (view new.seat.pass) (seat_callers old.seat) told seated.serving);
+        replies = subst (λ (n : ℕ). IsTalk (view new.seat.pass).seen (shared_callers shared old.session.name) n told) (ap length ready.seen)
+            (subst (λ (c : Callers). IsTalk (view new.seat.pass).seen c (length (view old.seat.pass).seen) told) callers
+            (talk_of (view old.seat.pass) (view new.seat.pass) (seat_callers old.seat) told seated.serving));
         own_entries = serves.own_entries ∙ ap (λ ts. own ts ++ printed told) ready.turns;
         counts = λ below. let all = serves.counts below in omega arith;
         told_so = serves.told_so ready.turns;
+        settled = serves.settled;
       }
 
   -- where each was served, all are done
@@ -185,7 +187,7 @@ module _ {D Src Snk Btw : Type 0} (shared : Shared D) (streams : Streams Src Snk
     pub talks_are : talks ≡ talks_in ++ talks_out
     pub served : AreMatched (IsServed streams) plans_in sessions talks_in
     pub out : AreMatched (IsDoneJob (shared_callers shared) shared streams) plans_out (reverse jobs) talks_out
-    pub joined : AreJoined (shared_callers shared) v talks_in
+    pub joined : AreJoined (shared_callers shared) (length (found_at shared.gate)) v talks_in
 
   pub joining_none : (plans : List (Plan Src Snk Btw)) (talks : List Talk) (jobs : List (Job D Src Snk Btw)) (v : Sight)
       → AreMatched (IsDoneJob (shared_callers shared) shared streams) plans (reverse jobs) talks → v.turns ≡ []
@@ -199,7 +201,7 @@ module _ {D Src Snk Btw : Type 0} (shared : Shared D) (streams : Streams Src Snk
     talks_are = refl;
     served = tt;
     out = all;
-    joined = joined_none (shared_callers shared) v none;
+    joined = joined_none (shared_callers shared) (length (found_at shared.gate)) v none;
   }
 
   pub joining_more : (plans : List (Plan Src Snk Btw)) (talks : List Talk) (rest : List (Job D Src Snk Btw)) (job : Job D Src Snk Btw) (sessions : List (Session Src Snk)) (v new : Sight)
@@ -221,12 +223,12 @@ module _ {D Src Snk Btw : Type 0} (shared : Shared D) (streams : Streams Src Snk
         talks_are = j.talks_are ∙ ap (λ l. j.talks_in ++ l) f.zs_are ∙ sym (append_assoc j.talks_in (f.z ∷ []) f.rest);
         served = matched_push (IsServed streams) j.plans_in sessions j.talks_in f.x job.session f.z j.served f.one.served;
         out = f.left;
-        joined = joined_more (shared_callers shared) v (view job.seat.pass) new j.talks_in f.z j.joined f.one.replies f.one.own_entries f.one.counts f.one.told_so same turns entries rise;
+        joined = joined_more (shared_callers shared) (length (found_at shared.gate)) v (view job.seat.pass) new j.talks_in f.z j.joined f.one.replies f.one.own_entries f.one.counts f.one.told_so f.one.settled same turns entries rise;
       }
 
   pub joining_all : (plans : List (Plan Src Snk Btw)) (talks : List Talk) (jobs : List (Job D Src Snk Btw)) (sessions : List (Session Src Snk)) (v : Sight)
       → Joining plans talks jobs sessions v → length jobs ≡ 0
-      → AreMatched (IsServed streams) plans sessions talks × AreJoined (shared_callers shared) v talks
+      → AreMatched (IsServed streams) plans sessions talks × AreJoined (shared_callers shared) (length (found_at shared.gate)) v talks
   joining_all plans talks jobs sessions v j empty =
       let none = nil_from_length jobs empty in
       let R = IsDoneJob (shared_callers shared) shared streams in
@@ -235,5 +237,5 @@ module _ {D Src Snk Btw : Type 0} (shared : Shared D) (streams : Streams Src Snk
       let all_talks : j.talks_in ≡ talks = sym (j.talks_are ∙ ap (λ l. j.talks_in ++ l) left.1 ∙ append-nil j.talks_in) in (
         subst (λ l. AreMatched (IsServed streams) l sessions talks) all_plans
             (subst (λ l. AreMatched (IsServed streams) j.plans_in sessions l) all_talks j.served),
-        subst (AreJoined (shared_callers shared) v) all_talks j.joined,
+        subst (AreJoined (shared_callers shared) (length (found_at shared.gate)) v) all_talks j.joined,
       )

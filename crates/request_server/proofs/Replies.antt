@@ -20,9 +20,10 @@ use Rattle.reply_texts.specs.declared.replies.Reply.{Reply}
 use Rattle.reply_texts.specs.declared.replies.Reply.TheVariants as reply
 use Rattle.request_server.specs.declared.seats.Seat.{Seat}
 use Rattle.request_server.specs.Seats.{AnswersAt}
-use Rattle.request_server.specs.Talks.{AreBelowEnd, AreGiven, Callers, IsNoOlder, IsTalk, printed, Serves, unsettled}
-use Rattle.request_server.proofs.Histories.{given_longer, given_more, starts_refl, starts_trans}
+use Rattle.request_server.specs.Talks.{AreBelowEnd, AreGiven, AreSettledWithin, Callers, IsNoOlder, IsTalk, IsWithinSettled, printed, Serves, unsettled}
+use Rattle.request_server.proofs.Histories.{given_longer, given_more, least_behind, least_more, least_within, starts_refl, starts_trans}
 use Rattle.request_server.proofs.Rows.{point_left}
+use Rattle.request_server.proofs.Settles.{reply_within}
 use Rattle.request_server.proofs.Told.{told_more}
 
 pub All-left : {X : Type 0} (P : X → Type 0) (xs ys : List X) → All P (xs ++ ys) → All P xs
@@ -34,7 +35,8 @@ All-right P xs ys h = λ k d below. subst P (get_or-append-add xs ys k d) (h (le
 -- a session so far, by what its pass has seen
 pub record Serving (v w : Sight) (callers : Callers) (told : List Told) : Type 0 where
   pub serves : Serves v w told
-  pub given : AreGiven w.seen callers 1 told
+  pub given : AreGiven w.seen callers 1 (length v.seen) told
+  pub least : least_behind (length v.seen) told ≤ length w.seen
   pub points : All (λ one. (k : ℕ) → point one.reply ≡ Some k → k ≤ length w.seen) told
   pub rise : AllPairs IsNoOlder told
 
@@ -98,8 +100,10 @@ serving_none v callers = record {
     own_entries = sym (append-nil (own v.turns));
     counts = λ below. omega arith;
     told_so = λ none. subst (All (IsToldIn [])) (sym none) (All-nil (IsToldIn []));
+    settled = λ most within. All-nil (IsWithinSettled most);
   };
   given = tt;
+  least = omega arith;
   points = All-nil (λ (one : Told). (k : ℕ) → point one.reply ≡ Some k → k ≤ length v.seen);
   rise = λ i j d less below. absurd (omega arith);
 }
@@ -136,9 +140,23 @@ serving_more v u w callers one told number so is a =
             (All-append (IsToldIn both) u.turns a.turns
             (All-weaker (IsToldIn (unsettled told)) (IsToldIn both) (λ t. told_more (unsettled told) both t (λ n. Contains-append_left (unsettled told) (unsettled_by r) n)) u.turns (so.serves.told_so none))
             (All-weaker (IsToldIn (unsettled_by r)) (IsToldIn both) (λ t. told_more (unsettled_by r) both t (λ n. Contains-append_right (unsettled told) (unsettled_by r) n)) a.turns a.answers.in_step)));
+        settled = λ most within.
+            let P : Turn → Type 0 = λ t. t.left.settled ≤ most in
+            let both = subst (λ ts. AreSettledWithin ts most) a.taken within in
+            All-push (IsWithinSettled most) told one (so.serves.settled most (All-left P u.turns a.turns both))
+            (λ k says. reply_within (callers number) one.line a.turns a.h a.g w.seen most (All-right P u.turns a.turns both) r k a.answers says);
       };
-      given = given_more w.seen callers 1 told one number (given_longer w.seen u.seen callers 1 told longer so.given) is
-          record { h = a.h; g = a.g; left = w.seen; gives = a.answers.gives; later = a.answers.later; within = starts_refl w.seen };
+      given = given_more w.seen callers 1 (length v.seen) told one number (given_longer w.seen u.seen callers 1 (length v.seen) told longer so.given) is record {
+        h = a.h;
+        g = a.g;
+        left = w.seen;
+        gives = a.answers.gives;
+        later = a.answers.later;
+        within = starts_refl w.seen;
+        fresh = let was = so.least in let first = ap length a.goes_on.1 in let both = length-append u.seen a.goes_on.0 in omega arith;
+      };
+      least = subst (λ n. n ≤ length w.seen) (sym (least_more (length v.seen) told one))
+          (least_within (least_behind (length v.seen) told) (length w.seen) (point r) (let was = so.least in omega arith) (λ k prints. let at = front k prints in omega arith));
       points = All-push (λ (b : Told). (k : ℕ) → point b.reply ≡ Some k → k ≤ length w.seen) told one
           (λ i d below k prints. let was : k ≤ length u.seen = so.points i d below k prints in omega arith)
           (λ k prints. let at = front k prints in omega arith);
@@ -179,5 +197,5 @@ pub seated_all : {D Btw : Type 0} (old new : Seat D Btw) (told : List Told) → 
 seated_all old new told all =
     seated_more old old new [] told 1 (record { shared = refl; name = refl; serving = serving_none (view old.pass) (seat_callers old) }) refl all
 
-pub talk_of : (v w : Sight) (callers : Callers) (told : List Told) → Serving v w callers told → IsTalk w.seen callers told
+pub talk_of : (v w : Sight) (callers : Callers) (told : List Told) → Serving v w callers told → IsTalk w.seen callers (length v.seen) told
 talk_of v w callers told so = record { given = so.given; points = so.rise }

@@ -18,11 +18,11 @@ use Rattle.rail_types.specs.declared.entries.Entry.{Entry}
 use Rattle.rail_types.specs.Timetables.{Timetable}
 use Rattle.request_server.specs.Jobs.{AreJoined, IsTalkOf}
 use Rattle.request_server.specs.Runs.{callers_of, IsRun, is_owned, owned}
-use Rattle.request_server.specs.Talks.{Callers, printed, Talk, unsettled}
+use Rattle.request_server.specs.Talks.{Callers, IsWithinSettled, printed, Talk, unsettled}
 use Rattle.request_server.proofs.Counts.{Ordered-positions, All-positions}
 use Rattle.request_server.proofs.Rows.{AreNamed, All-flat_map, printed_owned, printed_ordered}
 use Rattle.request_server.proofs.Shares.{shares_are}
-use Rattle.request_server.proofs.Told.{told_at_end}
+use Rattle.request_server.proofs.Told.{settled_by_end, told_at_end}
 
 -- one position has one owner
 one_owner_of : (n m : List ℕ) (o : Option Entry) → is_owned n o ≡ true → is_owned m o ≡ true → n ≡ m
@@ -45,10 +45,10 @@ slice_get-drop : (history : List Entry) (n k : ℕ) (d : Entry) → k < length (
 slice_get-drop history n k d below = let long = length-drop n history in
     slice_get_is history (n + k) d (omega arith) ∙ ap Some (sym (get_or-drop n history k d))
 
-module _ (callers : List ℕ → Callers) (named : (name : List ℕ) → AreNamed name (callers name)) (found history : List Entry) (v : Sight) (talks : List Talk)
-    (joined : AreJoined callers v talks) (ends : All (λ list. StartsWith history list) v.joined)
+module _ (callers : List ℕ → Callers) (named : (name : List ℕ) → AreNamed name (callers name)) (least : ℕ) (found history : List Entry) (v : Sight) (talks : List Talk)
+    (joined : AreJoined callers least v talks) (ends : All (λ list. StartsWith history list) v.joined)
     (entries : own v.turns ≡ positions (length found) (length history - length found)) where
-  replies : All (IsTalkOf callers history) talks
+  replies : All (IsTalkOf callers least history) talks
   replies = joined.replies history ends
 
   all_shares : IsPermutation (flat_map (λ (t : Talk). printed t.traffic.told) talks) (positions (length found) (length history - length found))
@@ -57,8 +57,8 @@ module _ (callers : List ℕ → Callers) (named : (name : List ℕ) → AreName
   pub theirs : AllPairs (λ (a b : Talk). a.name ≢ b.name) talks → All (λ t. owned history t.name (length found) ≡ printed t.traffic.told) talks
   theirs apart = shares_are (λ (t : Talk). t.name) (λ t. printed t.traffic.told) (λ n p. is_owned n (slice_get history p)) (one_owner history)
       (positions (length found) (length history - length found)) talks apart all_shares (Ordered-positions (length found) (length history - length found))
-      (λ k d below. let s = replies k d below in let t : Talk = get_or talks k d in printed_owned history t.name (callers t.name) (named t.name) 1 t.traffic.told s.given)
-      (λ k d below. let s = replies k d below in let t : Talk = get_or talks k d in printed_ordered history t.name (callers t.name) (named t.name) 1 t.traffic.told s.given s.points)
+      (λ k d below. let s = replies k d below in let t : Talk = get_or talks k d in printed_owned history t.name (callers t.name) (named t.name) 1 least t.traffic.told s.given)
+      (λ k d below. let s = replies k d below in let t : Talk = get_or talks k d in printed_ordered history t.name (callers t.name) (named t.name) 1 least t.traffic.told s.given s.points)
 
   abbrev IsSomeones : ℕ → Type 0
   IsSomeones p = (e : Entry) → slice_get history p ≡ Some e → Any (λ (t : Talk). e.owner ≡ t.name) talks
@@ -71,11 +71,11 @@ module _ (callers : List ℕ → Callers) (named : (name : List ℕ) → AreName
       let t : Talk = get_or talks j b in
       All-weaker (λ p. is_owned t.name (slice_get history p) ≡ true) IsSomeones
       (λ p its e at. (j, t, less, get_or_default talks j t b less, owner_there history t.name p e its at))
-      (printed t.traffic.told) (printed_owned history t.name (callers t.name) (named t.name) 1 t.traffic.told (replies j b less).given))))
+      (printed t.traffic.told) (printed_owned history t.name (callers t.name) (named t.name) 1 least t.traffic.told (replies j b less).given))))
       k (omega arith) (get_or (drop (length found) history) k d) (slice_get-drop history (length found) k d below)
 
 pub run_is : {D : Type 0} (disk_faults : D → ℕ) (known : Names) (found left : Ledger D) (first last : Mark) (v : Sight) (talks : List Talk)
-    → AreJoined (callers_of known found.timetable) v talks → AllPairs (λ (a b : Talk). a.name ≢ b.name) talks
+    → AreJoined (callers_of known found.timetable) (length found.entries) v talks → AllPairs (λ (a b : Talk). a.name ≢ b.name) talks
     → StartsWith left.entries found.entries → All (λ list. StartsWith left.entries list) v.joined
     → own v.turns ≡ positions (length found.entries) (length left.entries - length found.entries)
     → rises v.turns + disk_faults found.disk ≡ disk_faults left.disk → IsChain 0 first v.turns last → last.count ≡ disk_faults left.disk
@@ -85,13 +85,16 @@ run_is disk_faults known found left first last v talks joined apart begins ends 
   begins = begins;
   legal = legal;
   replies = joined.replies left.entries ends;
-  entries = theirs (callers_of known found.timetable) (λ name number. refl) found.entries left.entries v talks joined ends entries apart;
-  owners = owners (callers_of known found.timetable) (λ name number. refl) found.entries left.entries v talks joined ends entries;
+  entries = theirs (callers_of known found.timetable) (λ name number. refl) (length found.entries) found.entries left.entries v talks joined ends entries apart;
+  owners = owners (callers_of known found.timetable) (λ name number. refl) (length found.entries) found.entries left.entries v talks joined ends entries;
   count = ⊎_elim (λ below. inr (let within = joined.counts (All-weaker (IsWithin 0 (length v.turns) first last) (λ t. t.left.count < 2 ^ 64 - 1) (λ t w. let c = w.counted in omega arith) v.turns (chain_all 0 (length v.turns) first last v.turns (omega arith) chain)) in omega arith))
       (λ above. inl above) (cases_lt (disk_faults left.disk) (2 ^ 64 - 1));
   settled_left = let all : List ℕ = flat_map (λ (t : Talk). unsettled t.traffic.told) talks in
       subst (λ n. (n ≡ length left.entries) ⊎ ((n + 1 ≡ length left.entries) × Contains all n)) last_settled
       (⊎_elim (λ e. inl (e ∙ long)) (λ e. inr (e.0 ∙ long, e.1)) (told_at_end all 0 first last v.turns chain (inl settled) joined.told_so));
+  settled_replies = let all : List ℕ = flat_map (λ (t : Talk). unsettled t.traffic.told) talks in
+      subst (λ n. All (λ (t : Talk). All (IsWithinSettled n) t.traffic.told) talks) last_settled
+      (joined.settled last.settled (settled_by_end all 0 first last v.turns chain (inl settled) joined.told_so).1);
 }
 
 -- the timetable of a footing

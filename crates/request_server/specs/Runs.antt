@@ -10,7 +10,7 @@ use Rattle.rail_types.specs.declared.entries.Entry.{Entry}
 use Rattle.rail_types.specs.Timetables.{Timetable}
 use Rattle.request_server.specs.declared.plans.Plan.{Plan}
 use Rattle.request_server.specs.declared.plans.Session.{Session}
-use Rattle.request_server.specs.Talks.{Callers, faults, IsTalk, printed, Talk, unsettled}
+use Rattle.request_server.specs.Talks.{Callers, faults, IsTalk, IsWithinSettled, printed, Talk, unsettled}
 
 -- the callers of the lines of a client of this name, who has no rules
 abbrev pub callers_of : Names → Timetable → List ℕ → Callers
@@ -41,9 +41,10 @@ pub record IsRun {D : Type 0} (disk_faults : D → ℕ) (known : Names) (found l
     (talks : List Talk) : Type 0 where
   pub begins : StartsWith left.entries found.entries
   pub legal : IsLegal found.timetable left.entries
-  -- each reply is what a beginning of the history gives, at fronts that do not fall along a session
+  -- each reply is what a beginning of the history gives, with no fewer entries than were found or this client had been
+  -- printed, at fronts that do not fall along a session
   pub replies : All (λ talk. IsTalk left.entries (callers_of known found.timetable talk.name)
-      talk.traffic.told) talks
+      (length found.entries) talk.traffic.told) talks
   -- the entries behind those found are those of the replies, each once, owner by owner
   pub entries : All (λ talk. owned left.entries talk.name (length found.entries)
       ≡ printed talk.traffic.told) talks
@@ -57,6 +58,8 @@ pub record IsRun {D : Type 0} (disk_faults : D → ℕ) (known : Names) (found l
   pub settled_left : (settled_of left ≡ length left.entries)
       ⊎ ((settled_of left + 1 ≡ length left.entries)
       × Contains (flat_map (λ talk. unsettled talk.traffic.told) talks) (settled_of left))
+  -- all before a front that is printed is settled, but for the entry that this reply told as unsettled
+  pub settled_replies : All (λ talk. All (IsWithinSettled (settled_of left)) talk.traffic.told) talks
 
 -- ---- the clients
 

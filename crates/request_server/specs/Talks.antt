@@ -1,5 +1,5 @@
 -- What one client was told, over a history.
-use Rattle.std.specs.Prelude.{◌≡◌, ℕ, ◌+◌, ◌-◌, ◌^◌, ◌≤◌, ◌<◌, All, AllPairs, List, ◌++◌, [], ◌∷◌, flat_map, sum_by, Some}
+use Rattle.std.specs.Prelude.{◌≡◌, ℕ, ◌+◌, ◌-◌, ◌^◌, ◌≤◌, ◌<◌, All, AllPairs, List, ◌++◌, [], ◌∷◌, flat_map, length, sum_by, Option, Some, None}
 use Rattle.book_gate.specs.declared.views.Turn.{Turn}
 use Rattle.book_gate.specs.Views.{StartsWith, own, rises}
 use Rattle.client_turns.specs.Turns.{Sight}
@@ -9,6 +9,8 @@ use Rattle.line_answers.specs.Points.{point, added, fault, unsettled_by}
 use Rattle.line_sessions.specs.Ends.{Traffic}
 use Rattle.line_sessions.specs.Told.{Told}
 use Rattle.rail_types.specs.declared.entries.Entry.{Entry}
+use Rattle.reply_texts.specs.declared.replies.Reply.{Reply}
+use Rattle.reply_texts.specs.declared.replies.Reply.TheVariants as reply
 
 -- a client's name, and what passed in its session
 pub record Talk : Type 0 where
@@ -19,21 +21,30 @@ pub record Talk : Type 0 where
 abbrev pub Callers : Type 0
 Callers = ℕ → Caller
 
--- the reply is what the history gives to the line, between a beginning of it that a turn of the call found and one that
--- it left
-pub record IsAnswer (history : List Entry) (caller : Caller) (one : Told) : Type 0 where
+-- the least front at which the next reply may be, behind one that prints this: the last front that was printed
+abbrev pub next_least : ℕ → Option ℕ → ℕ
+next_least least None = least
+next_least least (Some front) = front
+
+-- the reply is what the history gives to the line, between a beginning of it that the first turn of the call found, with
+-- no fewer entries than this, and one that the call left
+pub record IsAnswer (history : List Entry) (caller : Caller) (least : ℕ) (one : Told)
+    : Type 0 where
   pub h : List Entry
   pub g : List Entry
   pub left : List Entry
   pub gives : GivesLine caller one.line one.reply h g left
   pub later : StartsWith g h
   pub within : StartsWith history left
+  pub fresh : least ≤ length h
 
--- each reply is what the history gives to its line, the first of which has this number
-abbrev pub AreGiven : List Entry → Callers → ℕ → List Told → Type 0
-AreGiven history callers number [] = Unit {0}
-AreGiven history callers number (one ∷ told) =
-    IsAnswer history (callers number) one × AreGiven history callers (number + 1) told
+-- each reply is what the history gives to its line, the first of which has this number, and this is the least front for
+-- it
+abbrev pub AreGiven : List Entry → Callers → ℕ → ℕ → List Told → Type 0
+AreGiven history callers number least [] = Unit {0}
+AreGiven history callers number least (one ∷ told) =
+    IsAnswer history (callers number) least one
+    × AreGiven history callers (number + 1) (next_least least (point one.reply)) told
 
 -- where both print fronts, the later one is not less
 abbrev pub IsNoOlder : Told → Told → Type 0
@@ -51,9 +62,21 @@ faults told = sum_by (λ one. fault one.reply) told
 abbrev pub unsettled : List Told → List ℕ
 unsettled told = flat_map (λ one. unsettled_by one.reply) told
 
--- each line, the first of which is 1, has the reply that the history gives, at fronts that do not fall
-pub record IsTalk (history : List Entry) (callers : Callers) (told : List Told) : Type 0 where
-  pub given : AreGiven history callers 1 told
+-- the front before which a reply says that all is settled: the one that it prints, or the position of its own entry where
+-- it tells that as unsettled
+abbrev pub settled_point : Reply → Option ℕ
+settled_point (reply.Unsettled number at front) = Some at
+settled_point other = point other
+
+-- what the reply says is settled is within so many entries
+abbrev pub IsWithinSettled : ℕ → Told → Type 0
+IsWithinSettled settled one = (front : ℕ) → settled_point one.reply ≡ Some front → front ≤ settled
+
+-- each line, the first of which is 1, has the reply that the history gives, by no fewer entries than this or than the
+-- client was printed before, at fronts that do not fall
+pub record IsTalk (history : List Entry) (callers : Callers) (least : ℕ) (told : List Told)
+    : Type 0 where
+  pub given : AreGiven history callers 1 least told
   pub points : AllPairs IsNoOlder told
 
 -- ---- inside
@@ -62,10 +85,15 @@ pub record IsTalk (history : List Entry) (callers : Callers) (told : List Told) 
 abbrev pub AreBelowEnd : List Turn → Type 0
 AreBelowEnd turns = All (λ t. t.left.count < 2 ^ 64 - 1) turns
 
--- the pass, from v to w, added the entries of these replies, and met their faults
+-- no turn of these left more entries settled than that
+abbrev pub AreSettledWithin : List Turn → ℕ → Type 0
+AreSettledWithin turns settled = All (λ t. t.left.settled ≤ settled) turns
+
+-- the pass, from v to w, added the entries of these replies, met their faults, and settled what they say is settled
 pub record Serves (v w : Sight) (told : List Told) : Type 0 where
   pub share : w.share ≡ v.share
   pub goes_on : StartsWith w.seen v.seen
   pub own_entries : own w.turns ≡ own v.turns ++ printed told
   pub counts : AreBelowEnd w.turns → rises v.turns + faults told ≤ rises w.turns
   pub told_so : v.turns ≡ [] → All (IsToldIn (unsettled told)) w.turns
+  pub settled : (most : ℕ) → AreSettledWithin w.turns most → All (IsWithinSettled most) told

@@ -9,7 +9,7 @@ ghost use Rattle.line_sessions.specs.Ends.{streams};
 ghost use Rattle.path_commit.specs.Footings.{footing_of};
 ghost use Rattle.path_commit.specs.Ledgers.{settled_of};
 ghost use Rattle.rail_types.specs.Limits.{IsClientName};
-ghost use Rattle.request_server.specs.Jobs.{AreJoined, IsBack, IsDoneJob, IsReadyJob, plan_of, WasServed};
+ghost use Rattle.request_server.specs.Jobs.{AreJoined, found_at, IsBack, IsDoneJob, IsReadyJob, plan_of, WasServed};
 ghost use Rattle.request_server.specs.Runs.{AreMatched, callers_of, IsServed, WereServed};
 ghost use Rattle.line_answers.specs.Sharing.{IsShared};
 ghost use Rattle.request_server.specs.Talks.{Talk as talk_type};
@@ -144,6 +144,7 @@ fn split_all<'a, D: Disk, S: Source + Drop, T: Sink + Drop, B: Between + Drop>(
     requires left { (view pass.old).share ≡ length plans.items * 400000 + 1 }
     requires all_left { turns_left pass.old ≡ (view pass.old).share }
     requires turns { (view pass.old).turns ≡ [] }
+    requires seen { (view pass.old).seen ≡ found_at shared.now.gate }
     requires named { All (λ p. IsClientName p.name) plans.items }
     requires names { map (λ c. c.name) clients.items ≡ map (λ p. p.name) plans.items }
     requires copies { All (λ c. IsCopyOf (timetable_at shared.now.gate) c (view pass.old).seen)
@@ -277,8 +278,8 @@ fn join_all<'a, D: Disk, S: Source + Drop, T: Sink + Drop, B: Between + Drop>(
         (streams S.left S.faults T.held T.faults))
         plans (reverse jobs.entry.items) talks
         → AreMatched (IsServed (streams S.left S.faults T.held T.faults)) plans result.items talks
-        × AreJoined (callers_of shared.now.known (timetable_at shared.now.gate)) (view pass.new)
-        talks }
+        × AreJoined (callers_of shared.now.known (timetable_at shared.now.gate))
+        (length (found_at shared.now.gate)) (view pass.new) talks }
 {
     while let Some(job) = jobs.pop() {
         let Job { seat, session } = job;

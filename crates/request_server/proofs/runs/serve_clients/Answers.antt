@@ -52,7 +52,7 @@ returns-clause-served g c =
       talks = talks;
       served = both.0;
       run = run_is faults c.args.known book left (mark_of (stands was)) (mark_of (stands left)) v talks
-          (subst (λ (b : Ledger D). AreJoined (callers_of c.args.known b.timetable) v talks) is both.1)
+          (subst (λ (b : Ledger D). AreJoined (callers_of c.args.known b.timetable) (length b.entries) v talks) is both.1)
           (apart_alike (λ (p : Plan S T B). p.name) (λ (t : Talk). t.name) plans talks
           (matched_map (IsServed (streams g.S.Source.left g.S.Source.faults g.T.Sink.held g.T.Sink.faults)) (λ (p : Plan S T B). p.name) (λ (t : Talk). t.name) (λ p s t one. one.talk_name) plans sessions talks both.0) c.requires.names)
           (subst (λ (b : Ledger D). StartsWith left.entries b.entries) is c.close-book.ensures.list)

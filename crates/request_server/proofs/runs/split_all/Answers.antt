@@ -52,6 +52,7 @@ loop-plan-preserved g c =
       share = let shares = ap (λ v. v.share) giving in let was = now.share in omega arith;
       left = let shares = ap (λ v. v.share) giving in let budget = c.split-pass.ensures.budget in let was = now.share in let left = now.left in omega arith;
       turns = ap (λ v. v.turns) giving ∙ now.turns;
+      seen = ap (λ v. v.seen) giving ∙ now.seen;
       named = named.0;
       names = same.0;
       copies = subst (λ l. All (λ x. IsCopyOf table x l) others) (sym (ap (λ v. v.seen) giving)) copies.0;
@@ -64,6 +65,7 @@ loop-plan-preserved g c =
           name = subst IsClientName (sym same.1) named.1;
         };
         name = same.1;
+        seen = ap (λ v. v.seen) given ∙ now.seen;
         turns = ap (λ v. v.turns) given;
         share = ap (λ v. v.share) given;
         budget = c.split-pass.ensures.new_budget;

@@ -5,7 +5,7 @@ use Rattle.client_turns.specs.Turns.{IsReady, timetable_at}
 use Rattle.client_turns.specs.declared.clients.Client.{Client}
 use Rattle.rail_types.specs.Limits.{IsClientName}
 use Rattle.request_server.specs.declared.plans.Plan.{Plan}
-use Rattle.request_server.specs.Jobs.{IsReadyJob, plan_of}
+use Rattle.request_server.specs.Jobs.{found_at, IsReadyJob, plan_of}
 use Rattle.request_server.proofs.runs.split_all.Given as goal
 
 abbrev pub invariant-loop-plan : goal.invariant-loop-plan
@@ -14,6 +14,7 @@ invariant-loop-plan g l = record {
   share : (view l.pass).share ≡ length l.plans.items * 400000 + 1;
   left : turns_left l.pass ≡ (view l.pass).share;
   turns : (view l.pass).turns ≡ [];
+  seen : (view l.pass).seen ≡ found_at l.shared.gate;
   named : All (λ p. IsClientName p.name) l.plans.items;
   names : map (λ c. c.name) l.clients.items ≡ map (λ p. p.name) l.plans.items;
   copies : All (λ c. IsCopyOf (timetable_at l.shared.gate) c (view l.pass).seen) l.clients.items;
