@@ -1,0 +1,73 @@
+-- Claims that are free at a tick, and claims that clash before it.
+use Rattle.std.proofs.Common.{◌≡◌, ◌∙◌, sym, refl, subst, ℕ, suc, zero, ◌<◌, List, [], ◌∷◌, length, get_or, All, arith, inl, inr}
+use Rattle.std.specs.Prelude.{ℤ, pos, ◌+ℤ◌, ◌-ℤ◌, ◌<ℤ◌, ◌≤ℤ◌, ◌↔◌, Any}
+use Rattle.std.specs.Int.{int_max, int_min}
+use Rattle.std.proofs.lemmas.Int.{ints, by_lt_z, clamps}
+use Rattle.rail_types.specs.declared.paths.Claim.{Claim}
+use Rattle.rail_types.specs.declared.paths.Window.{Window}
+use Rattle.rail_types.specs.Occupation.{Clash, HeldClaim}
+use Rattle.rail_types.specs.FirstClash.{IsFirstClash}
+use Rattle.occupation_book.specs.Held.{IsFree}
+use Rattle.refusal_proof.specs.Inside.{AreFreeAt, IsBehind, later, stay}
+
+only_one : (P : Claim → Type 0) (claim : Claim) → Any P (claim ∷ []) → P claim
+only_one P claim (zero, one, within, is, holds) = subst P (sym is) holds
+only_one P claim (suc n, one, within, is, holds) = absurd (omega (arith, within))
+
+-- what the first clash is to the claim that it clashes with
+pub record Meets (kept : List HeldClaim) (claim : Claim) (first : HeldClaim) : Type 0 where
+  pub at : ℕ
+  pub within : at < length kept
+  pub is : get_or kept at first ≡ first
+  pub clash : Clash first.0 claim
+  pub others : (k : ℕ) (d : HeldClaim) → k < length kept → Clash (get_or kept k d).0 claim
+      → ¬ (((get_or kept k d).0.zone ≡ first.0.zone) × ((get_or kept k d).0.span.from <ℤ first.0.span.from))
+
+pub meets : (kept : List HeldClaim) (claim : Claim) (first : HeldClaim) → IsFirstClash kept (claim ∷ []) first → Meets kept claim first
+meets kept claim first is = record {
+  at = is.is_held.0;
+  within = is.is_held.1;
+  is = is.is_held.2;
+  clash = only_one (Clash first.0) claim is.clashes;
+  others = λ k d inside clash sooner. is.others k d inside (0, claim, omega arith, refl, clash) (inr sooner);
+}
+
+-- a claim that clashes at the first tick does so until the other ends
+pub behind_other_one : (kept : List HeldClaim) (claim at : Claim) (first : HeldClaim) (window rest : Window) → at.zone ≡ claim.zone → at.span.from ≡ (claim.span.from +ℤ window.from) → at.span.to ≡ (claim.span.to +ℤ window.from)
+    → Meets kept at first → rest.from ≡ (first.0.span.to -ℤ claim.span.from) → rest.to ≡ window.to → IsBehind (λ tick. IsFree kept (later tick claim)) window rest
+behind_other_one kept claim at first window rest zone from to meet begins ends =
+    let left = meet.clash.1.0 in
+    let right = meet.clash.1.1 in
+    record {
+      from = omega (arith, ints, from, to, left, right, begins);
+      to = ends;
+      before = λ tick low high free. free meet.at first meet.within
+          (subst (λ (one : HeldClaim). Clash one.0 (later tick claim)) (sym meet.is)
+          (meet.clash.0 ∙ zone, (omega (arith, ints, from, to, left, right, begins, low, high), omega (arith, ints, from, to, left, right, begins, low, high))));
+    }
+
+-- where one claim is not free, not all are
+pub behind_all : (kept : List HeldClaim) (claims : List Claim) (window rest : Window) (k : ℕ) (claim : Claim) → k < length claims → ((d : Claim) → get_or claims k d ≡ claim) → IsBehind (λ tick. IsFree kept (later tick claim)) window rest → IsBehind (AreFreeAt kept claims) window rest
+behind_all kept claims window rest k claim within here behind = record {
+  from = behind.from;
+  to = behind.to;
+  before = λ tick low high all. behind.before tick low high (subst (λ one. IsFree kept (later tick one)) (here claim) (all k claim within));
+}
+
+-- a zone stays free until the first claim that clashes
+pub stays_until_first : (kept : List HeldClaim) (zone : ℕ) (window : Window) (first : HeldClaim) (to : ℤ) → Meets kept (stay window.from window.to zone) first → to ≡ int_max first.0.span.from window.from
+    → (enter : ℤ) → window.from <ℤ enter → enter ≤ℤ window.to → IsFree kept (stay window.from enter zone) ↔ (enter ≤ℤ to)
+stays_until_first kept zone window first to meet is enter late most = (
+  (λ free. by_lt_z to enter
+      (λ longer. absurd (free meet.at first meet.within (subst (λ (one : HeldClaim). Clash one.0 (stay window.from enter zone)) (sym meet.is) (meet.clash.0, (let right = meet.clash.1.1 in (omega (arith, ints, clamps, is, longer), right))))))
+      (λ by. by)),
+  λ by k d inside clash. meet.others k d inside (clash.0, (let left = clash.1.0 in omega (arith, ints, left, most), clash.1.1)) (clash.0 ∙ sym meet.clash.0, let left = clash.1.0 in omega (arith, ints, clamps, is, by, left, late)),
+)
+
+-- a zone that is free is so for a shorter time
+pub stays_to_end : (kept : List HeldClaim) (zone : ℕ) (window : Window) (to : ℤ) → IsFree kept (stay window.from window.to zone) → to ≡ window.to
+    → (enter : ℤ) → window.from <ℤ enter → enter ≤ℤ window.to → IsFree kept (stay window.from enter zone) ↔ (enter ≤ℤ to)
+stays_to_end kept zone window to free is enter late most = (
+  (λ _. omega (arith, ints, is, most)),
+  λ by k d inside clash. free k d inside (clash.0, (let left = clash.1.0 in omega (arith, ints, left, most), clash.1.1)),
+)

@@ -1,0 +1,4 @@
+pub mod Clashing
+pub mod Numbering
+pub mod Staying
+pub mod Moving

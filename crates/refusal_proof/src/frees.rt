@@ -1,0 +1,96 @@
+//! The ticks of a window at which claims are free, each found behind the claims that they clash with.
+
+ghost use Rattle.std.specs.Prelude.{◌≡◌, ℤ, ◌+ℤ◌, ◌-ℤ◌, ◌≤ℤ◌, All, IfSome, IsNone, length};
+ghost use Rattle.rail_types.specs.Limits.{IsNearSpan};
+ghost use Rattle.occupation_book.specs.Held.{IsFree, held};
+ghost use Rattle.stair_pieces.specs.Moves.{IsInside};
+ghost use Rattle.refusal_proof.specs.Inside.{AreFreeAt, IsBehind, IsClaimIn, IsFromFirst, IsNearWindow, later};
+
+use occupation_book::Occupations;
+use rail_types::{Claim, Span, Window, first_clashes_are_first};
+
+// A claim, as many ticks later as a window begins at.
+fn at_begin(claim: &Claim, window: &Window) -> Claim
+    requires claim { IsNearSpan claim.now.span }
+    requires window { IsNearWindow window.now }
+    requires some { window.now.from ≤ℤ window.now.to }
+    ensures zone { result.zone ≡ claim.now.zone }
+    ensures from { result.span.from ≡ claim.now.span.from +ℤ window.now.from }
+    ensures to { result.span.to ≡ claim.now.span.to +ℤ window.now.from }
+{
+    Claim {
+        zone: claim.zone,
+        span: Span {
+            from: claim.span.from + window.from,
+            to: claim.span.to + window.from,
+        },
+    }
+}
+
+// What is left of a window from the tick on at which a claim begins where another ends.
+fn behind_other(window: &Window, claim: &Claim, other: &Claim) -> Window
+    requires claim { IsNearSpan claim.now.span }
+    requires other { IsNearSpan other.now.span }
+    ensures from { result.from ≡ other.now.span.to -ℤ claim.now.span.from }
+    ensures to { result.to ≡ window.now.to }
+{
+    Window {
+        from: other.span.to - claim.span.from,
+        to: window.to,
+    }
+}
+
+// What is left of a window behind the first ticks at which a claim is not free, None where it is free at the first.
+fn behind_clash_of(claim: &Claim, book: &Occupations, window: &Window) -> Option<Window>
+    requires claim { IsClaimIn (length book.now) claim.now }
+    requires window { IsNearWindow window.now }
+    requires some { window.now.from ≤ℤ window.now.to }
+    ensures free { IsNone result → IsFree (held book.now) (later window.now.from claim.now) }
+    ensures behind { IfSome result
+        (IsBehind (λ tick. IsFree (held book.now) (later tick claim.now)) window.now) }
+{
+    // These laws say what the first clash is, and that the claims of a book are near.
+    first_clashes_are_first();
+    book.zones();
+    let Some((other, _)) = book.first_clashing(&at_begin(claim, window)) else {
+        return None;
+    };
+    Some(behind_other(window, claim, &other))
+}
+
+// The same of all claims.
+fn behind_clash(claims: &[Claim], book: &Occupations, window: &Window) -> Option<Window>
+    requires claims { All (IsClaimIn (length book.now)) claims.now }
+    requires window { IsNearWindow window.now }
+    requires some { window.now.from ≤ℤ window.now.to }
+    ensures free { IsNone result → AreFreeAt (held book.now) claims.now window.now.from }
+    ensures behind { IfSome result
+        (IsBehind (AreFreeAt (held book.now) claims.now) window.now) }
+{
+    for claim in claims {
+        if let Some(rest) = behind_clash_of(claim, book, window) {
+            return Some(rest);
+        }
+    }
+    None
+}
+
+/// What is left of a window from the first tick on at which all claims, that stand here for tick 0, are free; None where
+/// there is none.
+pub(crate) fn first_free(claims: &[Claim], book: &Occupations, window: &Window) -> Option<Window>
+    requires claims { All (IsClaimIn (length book.now)) claims.now }
+    requires window { IsNearWindow window.now }
+    ensures found { IfSome result
+        (IsFromFirst (AreFreeAt (held book.now) claims.now) window.now) }
+    ensures none { IsNone result → (tick : ℤ) → IsInside window.now tick
+        → ¬ AreFreeAt (held book.now) claims.now tick }
+{
+    let mut rest = *window;
+    while rest.from <= rest.to {
+        let Some(behind) = behind_clash(claims, book, &rest) else {
+            return Some(rest);
+        };
+        rest = behind;
+    }
+    None
+}

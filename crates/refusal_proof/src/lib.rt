@@ -1,0 +1,13 @@
+//! Whether members show that no path of a request can be granted, checked without the search.
+#![tactic(auto)]
+
+mod checks;
+mod frees;
+mod goings;
+mod labels;
+mod moves;
+
+pub use checks::check;
+
+#[cfg(test)]
+mod tests;
