@@ -1,7 +1,7 @@
 -- Claims that are free at a tick, and claims that clash before it.
 use Rattle.std.proofs.Common.{◌≡◌, ◌∙◌, sym, refl, subst, ℕ, suc, zero, ◌<◌, List, [], ◌∷◌, length, get_or, All, arith, inl, inr}
-use Rattle.std.specs.Prelude.{ℤ, pos, ◌+ℤ◌, ◌-ℤ◌, ◌<ℤ◌, ◌≤ℤ◌, ◌↔◌, Any}
-use Rattle.std.specs.Int.{int_max, int_min}
+use Rattle.std.specs.Prelude.{ℤ, pos, negsuc, ◌+ℤ◌, ◌-ℤ◌, ◌<ℤ◌, ◌≤ℤ◌, ◌↔◌, Any}
+use Rattle.std.specs.Int.{int_gap, int_max, int_min}
 use Rattle.std.proofs.lemmas.Int.{ints, by_lt_z, clamps}
 use Rattle.rail_types.specs.declared.paths.Claim.{Claim}
 use Rattle.rail_types.specs.declared.paths.Window.{Window}
@@ -55,19 +55,36 @@ behind_all kept claims window rest k claim within here behind = record {
 }
 
 -- a zone stays free until the first claim that clashes
-pub stays_until_first : (kept : List HeldClaim) (zone : ℕ) (window : Window) (first : HeldClaim) (to : ℤ) → Meets kept (stay window.from window.to zone) first → to ≡ int_max first.0.span.from window.from
+pub stays_until_first : (kept : List HeldClaim) (zone : ℕ) (window : Window) (at : Claim) (first : HeldClaim) (to : ℤ) → at.zone ≡ zone → at.span.from ≡ window.from → at.span.to ≡ window.to → Meets kept at first → to ≡ int_max first.0.span.from window.from
     → (enter : ℤ) → window.from <ℤ enter → enter ≤ℤ window.to → IsFree kept (stay window.from enter zone) ↔ (enter ≤ℤ to)
-stays_until_first kept zone window first to meet is enter late most = (
+stays_until_first kept zone window at first to zone_is begins ends meet is enter late most = (
   (λ free. by_lt_z to enter
-      (λ longer. absurd (free meet.at first meet.within (subst (λ (one : HeldClaim). Clash one.0 (stay window.from enter zone)) (sym meet.is) (meet.clash.0, (let right = meet.clash.1.1 in (omega (arith, ints, clamps, is, longer), right))))))
+      (λ longer. absurd (free meet.at first meet.within (subst (λ (one : HeldClaim). Clash one.0 (stay window.from enter zone)) (sym meet.is) (meet.clash.0 ∙ zone_is, ((omega (arith, ints, clamps, is, longer)), let right = meet.clash.1.1 in omega (arith, ints, right, begins))))))
       (λ by. by)),
-  λ by k d inside clash. meet.others k d inside (clash.0, (let left = clash.1.0 in omega (arith, ints, left, most), clash.1.1)) (clash.0 ∙ sym meet.clash.0, let left = clash.1.0 in omega (arith, ints, clamps, is, by, left, late)),
+  λ by k d inside clash.
+      let left = clash.1.0 in
+      let right = clash.1.1 in
+      meet.others k d inside (clash.0 ∙ sym zone_is, (omega (arith, ints, left, most, ends), omega (arith, ints, right, begins)))
+      (clash.0 ∙ sym zone_is ∙ sym meet.clash.0, omega (arith, ints, clamps, is, by, left, late)),
 )
 
 -- a zone that is free is so for a shorter time
-pub stays_to_end : (kept : List HeldClaim) (zone : ℕ) (window : Window) (to : ℤ) → IsFree kept (stay window.from window.to zone) → to ≡ window.to
+pub stays_to_end : (kept : List HeldClaim) (zone : ℕ) (window : Window) (at : Claim) (to : ℤ) → at.zone ≡ zone → at.span.from ≡ window.from → at.span.to ≡ window.to → IsFree kept at → to ≡ window.to
     → (enter : ℤ) → window.from <ℤ enter → enter ≤ℤ window.to → IsFree kept (stay window.from enter zone) ↔ (enter ≤ℤ to)
-stays_to_end kept zone window to free is enter late most = (
+stays_to_end kept zone window at to zone_is begins ends free is enter late most = (
   (λ _. omega (arith, ints, is, most)),
-  λ by k d inside clash. free k d inside (clash.0, (let left = clash.1.0 in omega (arith, ints, left, most), clash.1.1)),
+  λ by k d inside clash.
+      let left = clash.1.0 in
+      let right = clash.1.1 in
+      free k d inside (clash.0 ∙ sym zone_is, (omega (arith, ints, left, most, ends), omega (arith, ints, right, begins))),
 )
+
+-- what is left of ticks gets less
+pub gap_smaller : (a b end : ℤ) → a <ℤ b → a <ℤ end → int_gap b end < int_gap a end
+gap_smaller (pos a) (pos b) (pos end) less within = omega (arith, ints)
+gap_smaller (pos a) (pos b) (negsuc end) less within = omega (arith, ints)
+gap_smaller (pos a) (negsuc b) end less within = absurd (omega (arith, ints))
+gap_smaller (negsuc a) (pos b) (pos end) less within = omega (arith, ints)
+gap_smaller (negsuc a) (pos b) (negsuc end) less within = omega (arith, ints)
+gap_smaller (negsuc a) (negsuc b) (pos end) less within = omega (arith, ints)
+gap_smaller (negsuc a) (negsuc b) (negsuc end) less within = omega (arith, ints)

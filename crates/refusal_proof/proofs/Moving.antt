@@ -1,11 +1,14 @@
 -- A move that leads to what is covered whenever it is free, and the members that labels stand for.
-use Rattle.std.proofs.Common.{◌≡◌, ◌≢◌, ◌∙◌, sym, ap, refl, subst, ℕ, ◌+◌, ◌<◌, ℤ, pos, ◌+ℤ◌, ◌-ℤ◌, ◌<ℤ◌, ◌≤ℤ◌, List, [], ◌++◌, map, length, get_or, All, Some, arith, inl, inr}
+use Rattle.std.proofs.Common.{◌≡◌, ◌≢◌, ◌∙◌, sym, ap, refl, subst, ℕ, ◌+◌, ◌^◌, ◌<◌, ◌≤◌, ℤ, pos, ◌+ℤ◌, ◌-ℤ◌, ◌<ℤ◌, ◌≤ℤ◌, List, [], ◌∷◌, ◌++◌, map, take, length, get_or, All, None, Some, arith, inl, inr}
 use Rattle.std.specs.Prelude.{slice_get, ◌↔◌, ◌⊎◌, Contains}
 use Rattle.std.specs.Int.{int_max, int_min}
 use Rattle.std.proofs.lemmas.Int.{ints, by_lt_z, clamps}
 use Rattle.std.proofs.lemmas.Bool.{cases_order}
-use Rattle.std.proofs.lemmas.List.{get_or-map, get_or_default, get_or_append_left, get_or-append-add, length-append, length-map}
+use Rattle.std.proofs.lemmas.List.{get_or-map, get_or_default, get_or_append_left, get_or-append-add, length-append, length-map, map-append, take_more}
 use Rattle.std.proofs.lemmas.List.Elements.{All-nil, All-append, All-map}
+use Rattle.std.specs.List.{AllPairs}
+use Rattle.std.specs.List.Sorted.{IsPermutation}
+use Rattle.std.proofs.lemmas.List.Sorted.{All-permutation}
 use Rattle.std.proofs.lemmas.Option.{slice_get_within, get_or_from_slice_get, slice_get-get_or}
 use Rattle.rail_types.specs.declared.tracks.Network.{Network}
 use Rattle.rail_types.specs.declared.trains.Request.{Request}
@@ -15,6 +18,9 @@ use Rattle.rail_types.specs.declared.paths.Window.{Window}
 use Rattle.rail_types.specs.Occupation.{Fits, HeldClaim}
 use Rattle.occupation_book.specs.Zones.{Zone}
 use Rattle.occupation_book.specs.Held.{IsFree, held}
+use Rattle.rail_types.specs.Flaws.{first_flaw}
+use Rattle.stair_pieces.specs.Claiming.{PiecesAreClaims, StandingZonesAreOfTheNetwork, StepsLeadToPlaces}
+use Rattle.stair_pieces.specs.Steps.{IsPlaceIn}
 use Rattle.stair_pieces.specs.declared.places.Place.{Place}
 use Rattle.stair_pieces.specs.declared.places.Step.{Step}
 use Rattle.stair_pieces.specs.Places.{start_place, place_after, standing_zones}
@@ -29,8 +35,9 @@ use Rattle.tail_states.specs.Closing.{GoesOn, IsAdmitted, IsClosed, IsFreeMove, 
 use Rattle.refusal_proof.specs.declared.labels.Label.{Label}
 use Rattle.refusal_proof.specs.declared.goings.Going.{Going}
 use Rattle.refusal_proof.specs.Proofs.{claims_held}
-use Rattle.refusal_proof.specs.Inside.{AreFreeAt, AreGoings, AreLabels, AreLabelsOf, CanGoOn, CoverAlike, Goes, HoldAlike, IsCovered, IsFromFirst, LabelPasses, Leads, MovePasses, PassesIn, StepsPass, claims_of, kept_behind, later, member_of, members_of, stay, ticks_of_step}
-use Rattle.refusal_proof.proofs.Staying.{AreFreeOver, at_of_over, fits_at, free_at, kept_of_over, over_of_at, over_of_kept}
+use Rattle.refusal_proof.specs.Inside.{AreFreeAt, AreGoings, AreGrown, AreLabels, AreLabelsOf, CanGoOn, CoverAlike, Goes, HoldAlike, IsClaimIn, IsCovered, LabelPasses, Leads, MovePasses, PassesIn, ReachesLess, StepsPass, claims_of, kept_behind, later, member_of, members_of, stay, ticks_of_step}
+use Rattle.refusal_proof.proofs.Numbering.{grown_numbers, grown_some, moved_alike}
+use Rattle.refusal_proof.proofs.Staying.{AreFreeOver, at_of_over, fits_at, free_at, kept_far, kept_of_over, over_of_at, over_of_kept, unmap}
 
 all_left : {X : Type 0} (P : X → Type 0) (xs ys : List X) → All P (xs ++ ys) → All P xs
 all_left P xs ys all k d within = subst P (get_or_append_left xs ys d k within) (all k d (let n = length-append xs ys in omega (arith, within, n)))
@@ -61,11 +68,14 @@ module _ (horizon : ℕ) (Free : ℤ → Type 0) (arrive : Window) (ticks : ℤ)
       let low = inside.0 in let high = inside.1 in let first = arrives.0 in let last = arrives.1 in
       none enter (omega (arith, ints, clamps, from, ends_from, low, begins, first), omega (arith, ints, clamps, to, ends_to, high, by, last)) free
 
-  pub end_fails : (rest : Window) → IsFromFirst Free ends rest → ¬ EndPasses
-  end_fails rest first passes =
-      let low = first.from in let some_left = first.some in let same = first.to in
-      passes rest.from (omega (arith, ints, clamps, from, ends_from, low), omega (arith, ints, clamps, to, ends_to, some_left, same)) (omega (arith, ints, clamps, from, ends_from, low)) (omega (arith, ints, clamps, to, ends_to, some_left, same)) first.first
-      (omega (arith, ints, clamps, ends_from, low), omega (arith, ints, clamps, ends_to, some_left, same))
+  end_none : EndPasses → (tick : ℤ) → IsInside ends tick → ¬ Free tick
+  end_none passes tick inside free =
+      let low = inside.0 in let high = inside.1 in
+      passes tick (omega (arith, ints, clamps, from, ends_from, low), omega (arith, ints, clamps, to, ends_to, high)) (omega (arith, ints, clamps, from, ends_from, low)) (omega (arith, ints, clamps, to, ends_to, high)) free
+      (omega (arith, ints, clamps, ends_from, low), omega (arith, ints, clamps, ends_to, high))
+
+  pub none_of_end : ((tick : ℤ) → IsInside ends tick → ¬ Free tick) ↔ EndPasses
+  none_of_end = (end_passes, end_none)
 
 -- what passes in both windows
 pub passes_in_both : (kept : List HeldClaim) (horizon : ℕ) (Leads' : ℤ → Type 0) (ticks : ℤ) (own : List Claim) (going : Going)
@@ -84,6 +94,49 @@ pub passes_in_first : (kept : List HeldClaim) (horizon : ℕ) (Leads' : ℤ → 
     → PassesIn horizon (AreFreeAt kept (own ++ going.claims)) Leads' ticks going.first
 passes_in_first kept horizon Leads' ticks own going all enter inside begins ends free =
     all enter (inl (inside, all_right (λ claim. IsFree kept (later enter claim)) own going.claims free)) begins ends (all_left (λ claim. IsFree kept (later enter claim)) own going.claims free)
+
+-- a move by what it takes
+module _ (net : Network) (settings : Settings) (request : Request) (kept' : List HeldClaim) (labels : List Label) (going : Going) (place : Place) (one : Move) (own : List Claim) (own_is : own ≡ claims_of net settings request place one)
+    (ticks : ℤ) (ticks_is : ticks ≡ pos (ticks_of_step net settings request place one.step)) (next : Next) (next_is : next ≡ one.next) where
+  abbrev Passes : Next → ℤ → List Claim → Window → Type 0
+  Passes next ticks claims window = PassesIn settings.horizon (AreFreeAt kept' claims) (Leads labels request.arrive next) ticks window
+
+  abbrev TheMove : Type 0
+  TheMove = MovePasses net settings request kept' labels going place one
+
+  told : (claims other : List Claim) (window : Window) → claims ≡ other → Passes next ticks claims window → Passes one.next (pos (ticks_of_step net settings request place one.step)) other window
+  told claims other window same passes = subst (λ n. Passes n (pos (ticks_of_step net settings request place one.step)) other window) next_is (subst (λ t. Passes next t other window) ticks_is (subst (λ cs. Passes next ticks cs window) same passes))
+
+  back : (claims other : List Claim) (window : Window) → claims ≡ other → Passes one.next (pos (ticks_of_step net settings request place one.step)) other window → Passes next ticks claims window
+  back claims other window same passes = subst (λ n. Passes n ticks claims window) (sym next_is) (subst (λ t. Passes one.next t claims window) (sym ticks_is) (subst (λ cs. Passes one.next (pos (ticks_of_step net settings request place one.step)) cs window) (sym same) passes))
+
+  pub second_of_move : TheMove → Passes next ticks own going.second
+  second_of_move all = back own (claims_of net settings request place one) going.second own_is (passes_in_second kept' settings.horizon (Leads labels request.arrive one.next) (pos (ticks_of_step net settings request place one.step)) (claims_of net settings request place one) going all)
+
+  module _ (every : List Claim) (every_is : every ≡ claims_of net settings request place one ++ going.claims) where
+    pub first_of_move : TheMove → Passes next ticks every going.first
+    first_of_move all = back every (claims_of net settings request place one ++ going.claims) going.first every_is (passes_in_first kept' settings.horizon (Leads labels request.arrive one.next) (pos (ticks_of_step net settings request place one.step)) (claims_of net settings request place one) going all)
+
+    pub move_of_both : Passes next ticks own going.second → Passes next ticks every going.first → TheMove
+    move_of_both second first = passes_in_both kept' settings.horizon (Leads labels request.arrive one.next) (pos (ticks_of_step net settings request place one.step)) (claims_of net settings request place one) going
+        (told own (claims_of net settings request place one) going.second own_is second) (told every (claims_of net settings request place one ++ going.claims) going.first every_is first)
+
+-- the claims of a move are on zones of the network
+pub claims_in : PiecesAreClaims → StandingZonesAreOfTheNetwork → StepsLeadToPlaces → (net : Network) (settings : Settings) (request : Request) (place : Place) (step : Step) (next : Next) → first_flaw net ≡ None → IsPlaceIn net settings request.train place → step.block < length net.blocks
+    → pos (ticks_of_step net settings request place step) <ℤ pos (2 ^ 43) → settings.release ≤ 1000 → All (IsClaimIn net.zones) (claims_of net settings request place (record { step = step; next = next }))
+claims_in are stand lead net settings request place step next sound at within short release = All-append (IsClaimIn net.zones) (pieces_of net settings request.train place step) (kept_behind net settings request place step next) pieces (go next)
+  where
+    pieces : All (IsClaimIn net.zones) (pieces_of net settings request.train place step)
+    pieces k d inside =
+        let one = are net settings request.train place step sound at within k d inside in
+        let a = one.near.0.0 in let b = one.near.0.1 in let e = one.near.1.0 in let f = one.near.1.1 in
+        record { zone = one.zone; far = ((omega (arith, ints, a), omega (arith, ints, b)), (omega (arith, ints, e), omega (arith, ints, f))) }
+
+    go : (next : Next) → All (IsClaimIn net.zones) (kept_behind net settings request place step next)
+    go (At number) = All-nil (IsClaimIn net.zones)
+    go End = kept_far net.zones (standing_zones net request.train (place_after net request.train place step)) (pos (ticks_of_step net settings request place step)) (pos (ticks_of_step net settings request place step) +ℤ pos settings.release)
+        (stand net settings request.train (place_after net request.train place step) sound (lead net settings request.train place step at within))
+        (omega (arith, ints), omega (arith, ints, short)) (omega (arith, ints), omega (arith, ints, short, release))
 
 -- the members of labels
 module _ (places : List Place) (labels : List Label) where
@@ -137,6 +190,33 @@ held_alike_one places one other alike place tick is =
 
 pub hold_alike : (places : List Place) (one other : List Label) → CoverAlike one other → HoldAlike (members_of places one) (members_of places other)
 hold_alike places one other alike place tick = (held_alike_one places one other alike place tick, held_alike_one places other one (λ n t. ((alike n t).1, (alike n t).0)) place tick)
+
+pub contains_at : (places : List Place) (number : ℕ) (place : Place) → slice_get places number ≡ Some place → Contains places place
+contains_at places number place at = (number, slice_get_within places number place at, get_or_from_slice_get places number place place at)
+
+-- one label more
+pub told_next : (places : List Place) (labels : List Label) (members : List Member) (k : ℕ) (label : Label) (member : Member) → members_of places labels ≡ take k members → k < length members → member ≡ get_or members k member → get_or places label.number start_place ≡ member.place → label.window ≡ member.window
+    → members_of places (labels ++ label ∷ []) ≡ take (k + 1) members
+told_next places labels members k label member told within is place window =
+    let same : member_of places label ≡ member = λ j. record { place = place j; window = window j } in
+    map-append (member_of places) labels (label ∷ []) ∙ ap (λ ms. ms ++ member_of places label ∷ []) told ∙ ap (λ m. take k members ++ m ∷ []) (same ∙ is) ∙ sym (take_more members k member within)
+
+-- the labels that are made of the numbered members
+pub labels_stand : (places : List Place) (members : List Member) (first sorted handed labels : List Label) → members_of places first ≡ members → All (λ label. label.number < length places) first → All (λ (member : Member). member.window.from ≤ℤ member.window.to) members
+    → IsPermutation first sorted → handed ≡ sorted → CoverAlike handed labels → AreGrown handed labels → AllPairs ReachesLess labels → AreLabelsOf places members labels
+labels_stand places members first sorted handed labels told numbers some moved same alike grown order =
+    let grown_sorted : AreGrown sorted labels = subst (λ one. AreGrown one labels) same grown in
+    let alike_sorted : CoverAlike sorted labels = subst (λ one. CoverAlike one labels) same alike in
+    let some_first : All (λ (label : Label). label.window.from ≤ℤ label.window.to) first = unmap (λ (member : Member). member.window.from ≤ℤ member.window.to) (member_of places) first (subst (All (λ (member : Member). member.window.from ≤ℤ member.window.to)) (sym told) some) in
+    let moved_first = moved_alike first sorted moved in
+    record {
+      all = record {
+        numbers = grown_numbers sorted labels (length places) grown_sorted (All-permutation (λ (label : Label). label.number < length places) first sorted moved numbers);
+        some = grown_some sorted labels grown_sorted (All-permutation (λ (label : Label). label.window.from ≤ℤ label.window.to) first sorted moved some_first);
+        order = order;
+      };
+      alike = subst (λ ms. HoldAlike ms (members_of places labels)) told (hold_alike places first labels (λ n t. ((λ covers. (alike_sorted n t).0 ((moved_first n t).0 covers)), (λ covers. (moved_first n t).1 ((alike_sorted n t).1 covers)))));
+    }
 
 module _ (net : Network) (settings : Settings) (request : Request) (book : List Zone) (places : List Place) (labels : List Label) (distinct : HasNoneTwice places) (are : AreLabels places labels) where
   -- what is kept behind an end, by either way in which it is told
@@ -254,7 +334,7 @@ module _ (net : Network) (settings : Settings) (request : Request) (book : List 
           let here : get_or places label.number start_place ≡ place = ap (λ n. get_or places n start_place) number ∙ there.1.at in
           let passes : LabelPasses net settings request (claims_held book) places labels label = subst (LabelPasses net settings request (claims_held book) places labels) covers.3 (pass k label covers.2) in
           let at_place = subst (λ p. StepsPass net settings request (claims_held book) (members_of places labels) (CanGoOn net request (claims_held book) p label.window) p) here passes in
-          admitted_there place step (leaves_at net settings request place step enter) (at_place step enter (tick, (covers.4.1, on)) free));
+          admitted_there place step (leaves_at net settings request place step enter) (at_place step enter (tick, covers.4.1, on) free));
     }
 
     below_all : (tick : ℤ) → tick ≤ℤ pos settings.horizon → tick <ℤ (pos settings.horizon +ℤ pos 1)
@@ -264,7 +344,7 @@ module _ (net : Network) (settings : Settings) (request : Request) (book : List 
     starts_by_closing closed step enter inside free = admitted_here start_place step (leaves_at net settings request start_place step enter) (closed.start step enter inside free (below_all (leaves_at net settings request start_place step enter) free.ends))
 
     pub labels_by_closing : IsClosed net settings request (claims_held book) members → LabelsPass
-    labels_by_closing closed k d within step enter (tick, (inside, on)) free =
+    labels_by_closing closed k d within step enter (tick, inside, on) free =
         let label = get_or labels k d in
         let place = get_or places label.number start_place in
         let is : IsHeld members place tick = (alike place tick).1 (held_of places labels label.number place tick refl (k, label, within, get_or_default labels k label d within, (refl, inside))) in

@@ -100,7 +100,7 @@ module _ (labels : List Label) (number : ℕ) (at : Window) (count : ℕ) (order
         ]
 
     pub not_covered : (last.number ≡ number → at.from ≤ℤ last.window.to → ⊥) → ¬ IsCovered labels number at.from
-    not_covered no (k, one, within, is, (same, inside)) = let r = reaches k one within is same inside in no r.0 r.1
+    not_covered never (k, one, within, is, (same, inside)) = let r = reaches k one within is same inside in never r.0 r.1
 
 -- neither sorts before the other, or the one does
 not_after : (one other : Label) → is_lt (ordering_then (nat_cmp other.number one.number) (int_cmp other.window.from one.window.from)) ≡ false → ComesBefore one other

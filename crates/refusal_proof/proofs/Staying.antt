@@ -1,5 +1,5 @@
 -- Zones that are kept while a train waits, and the ticks at which it goes on.
-use Rattle.std.proofs.Common.{◌≡◌, ◌∙◌, sym, ap, refl, subst, ℕ, ◌+◌, ◌-◌, ◌<◌, ℤ, pos, neg_ℤ, ◌+ℤ◌, ◌-ℤ◌, ◌<ℤ◌, ◌≤ℤ◌, Bool, true, false, int_lt, if◌then◌else◌, List, [], ◌++◌, map, length, get_or, All, Some, arith, inl, inr}
+use Rattle.std.proofs.Common.{◌≡◌, ◌∙◌, sym, ap, refl, subst, ℕ, ◌+◌, ◌-◌, ◌<◌, ℤ, pos, neg_ℤ, ◌+ℤ◌, ◌-ℤ◌, ◌<ℤ◌, ◌≤ℤ◌, Bool, true, false, ◌^◌, int_lt, if◌then◌else◌, List, [], ◌++◌, map, length, get_or, All, Some, arith, inl, inr}
 use Rattle.std.specs.Prelude.{slice_get, ◌↔◌}
 use Rattle.std.specs.Int.{int_min}
 use Rattle.std.specs.List.{AllWithin, HoldsAt}
@@ -26,7 +26,7 @@ use Rattle.stair_pieces.specs.Moves.{IsEnd, IsInside, IsMove, IsPlace, MayLeave,
 use Rattle.tail_states.specs.Closing.{GoesOn}
 use Rattle.refusal_proof.specs.declared.goings.Going.{Going}
 use Rattle.refusal_proof.specs.Proofs.{claims_held}
-use Rattle.refusal_proof.specs.Inside.{AreFreeAt, AreGoings, CanGoOn, Goes, StaysUntil, later, stay}
+use Rattle.refusal_proof.specs.Inside.{AreFreeAt, AreGoings, CanGoOn, Goes, IsClaimIn, IsFar, StaysUntil, later, stay}
 
 -- what holds of all that is mapped holds of what it is mapped from
 pub unmap : {X Y : Type 0} (P : Y → Type 0) (f : X → Y) (xs : List X) → All P (map f xs) → All (λ x. P (f x)) xs
@@ -120,16 +120,14 @@ module _ (book : List Zone) where
     rolls_at_once going rolls goes enter begins ends = (
       (λ on. (
         enter,
-        (
-          (goes enter).0 on,
-          record {
-            rolls = λ _. refl;
-            dwells = λ stands. absurd (let no : true ≡ false = sym stands ∙ rolls in cc);
-            waits = kept_of_over zones enter enter (λ none. absurd (omega (arith, ints, none)));
-          },
-        ),
+        (goes enter).0 on,
+        record {
+          rolls = λ _. refl;
+          dwells = λ stands. absurd (let never : true ≡ false = sym stands ∙ rolls in cc);
+          waits = kept_of_over zones enter enter (λ none. absurd (omega (arith, ints, none)));
+        },
       )),
-      λ (tick, (inside, on)). (goes enter).1 (subst (IsInside window) (sym (on.rolls rolls)) inside),
+      λ (tick, inside, on). (goes enter).1 (subst (IsInside window) (sym (on.rolls rolls)) inside),
     )
 
     module _ (stands : place.standing ≡ true) (stop : Stop) (named : slice_get request.stops (place.made - 1) ≡ Some stop) (wait : ℤ) (wait_is : wait ≡ neg_ℤ (pos stop.dwell))
@@ -156,10 +154,8 @@ module _ (book : List Zone) where
           let high = inside.1 in
           let over = over_of_at zones wait (pos 0) enter (subst (λ claims. AreFreeAt (held book) claims enter) claims free) in (
             (wait +ℤ enter),
-            (
-              (omega (arith, ints, clamps, low, from, ends), omega (arith, ints, clamps, high, to)),
-              goes_on_then (wait +ℤ enter) enter (omega (arith, ints)) (subst (AreFreeOver zones (wait +ℤ enter)) (zero_more enter) over),
-            ),
+            (omega (arith, ints, clamps, low, from, ends), omega (arith, ints, clamps, high, to)),
+            goes_on_then (wait +ℤ enter) enter (omega (arith, ints)) (subst (AreFreeOver zones (wait +ℤ enter)) (zero_more enter) over),
           )
         where
           zero_more : (n : ℤ) → (pos 0 +ℤ n) ≡ n
@@ -171,11 +167,12 @@ module _ (book : List Zone) where
           let past : window.to <ℤ enter = omega (arith, ints, clamps, low, second, to, behind_from, at_last, waits_long, wait_is) in
           let free = (until enter (omega (arith, ints, past, at_last)) (omega (arith, ints, ends, behind_to))).1 high in (
             window.to,
-            ((some, omega (arith, ints)), goes_on_then window.to enter (omega (arith, ints, clamps, low, second, to, behind_from, at_last)) (λ _. subst (λ begin. All (λ zone. IsFree (held book) (stay begin enter zone)) zones) at_last free)),
+            (some, omega (arith, ints)),
+            goes_on_then window.to enter (omega (arith, ints, clamps, low, second, to, behind_from, at_last)) (λ _. subst (λ begin. All (λ zone. IsFree (held book) (stay begin enter zone)) zones) at_last free),
           )
 
       can_then : (enter : ℤ) → pos 0 ≤ℤ enter → enter ≤ℤ pos settings.horizon → CanGoOn net request (claims_held book) place window enter → Goes (held book) going enter
-      can_then enter begins ends (tick, (inside, on)) =
+      can_then enter begins ends (tick, inside, on) =
           let dwelt = on.dwells stands stop named in
           let free = over_of_kept zones tick enter on.waits in
           let low = inside.0 in
@@ -228,3 +225,15 @@ module _ (kept : List HeldClaim) (zones : List ℕ) (window : Window) where
     where
       same : (count : ℕ) → length zones < count + 1 → count < length zones + 1 → length zones ≡ count
       same count all most = omega (arith, all, most)
+
+-- zones that are kept from a tick to another, both of them far, are claims
+pub kept_far : (count : ℕ) (zones : List ℕ) (from to : ℤ) → All (λ zone. zone < count) zones → IsFar from → IsFar to → All (IsClaimIn count) (kept zones from to)
+kept_far count zones from to within begins ends = go (int_lt from to)
+  where
+    go : (t : Bool) → All (IsClaimIn count) (if t then map (stay from to) zones else [])
+    go true = All-map (IsClaimIn count) (stay from to) zones (λ k zone inside. record { zone = within k zone inside; far = (begins, ends) })
+    go false = All-nil (IsClaimIn count)
+
+-- zones of a book that are kept while a train dwells are claims on it
+pub kept_claims_in : (count : ℕ) (zones : List ℕ) (from : ℤ) → All (λ zone. zone < count) zones → neg_ℤ (pos (2 ^ 32)) <ℤ from → from ≤ℤ pos 0 → All (IsClaimIn count) (kept zones from (pos 0))
+kept_claims_in count zones from within bound less = kept_far count zones from (pos 0) within (omega (arith, ints, bound), omega (arith, ints, less)) (omega (arith, ints), omega (arith, ints))

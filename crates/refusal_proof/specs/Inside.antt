@@ -1,5 +1,5 @@
 -- Inside the check: labels, the ticks at which a train may go on, and what a move leads to.
-use Rattle.std.specs.Prelude.{◌≡◌, ◌⊎◌, ◌↔◌, ℕ, ◌+◌, ◌<◌, ℤ, pos, neg_ℤ, ◌+ℤ◌, ◌<ℤ◌, ◌≤ℤ◌, List, [], ◌++◌, length, map, All, AllPairs, Any, Some, slice_get}
+use Rattle.std.specs.Prelude.{◌≡◌, ◌⊎◌, ◌↔◌, ℕ, ◌+◌, ◌^◌, ◌<◌, ℤ, pos, neg_ℤ, ◌+ℤ◌, ◌<ℤ◌, ◌≤ℤ◌, List, [], ◌++◌, length, map, All, AllPairs, Any, Some, slice_get}
 use Rattle.std.specs.List.{slice_index_or}
 use Rattle.rail_types.specs.declared.tracks.Network.{Network}
 use Rattle.rail_types.specs.declared.trains.Request.{Request}
@@ -7,7 +7,6 @@ use Rattle.rail_types.specs.declared.entries.Settings.{Settings}
 use Rattle.rail_types.specs.declared.paths.Claim.{Claim}
 use Rattle.rail_types.specs.declared.paths.Window.{Window}
 use Rattle.rail_types.specs.declared.limits.TheConstants.{FAR_TICK}
-use Rattle.rail_types.specs.Limits.{IsNearSpan}
 use Rattle.rail_types.specs.Occupation.{HeldClaim}
 use Rattle.occupation_book.specs.Held.{IsFree}
 use Rattle.running_time.specs.Times.{run_ticks}
@@ -36,10 +35,14 @@ later ticks claim = record {
 abbrev pub AreFreeAt : List HeldClaim → List Claim → ℤ → Type 0
 AreFreeAt held claims tick = All (λ claim. IsFree held (later tick claim)) claims
 
--- a claim on one of so many zones, at near ticks
+-- a tick to which near ticks can be added
+abbrev pub IsFar : ℤ → Type 0
+IsFar tick = (neg_ℤ (pos (2 ^ 44)) ≤ℤ tick) × (tick ≤ℤ pos (2 ^ 44))
+
+-- a claim on one of so many zones that can be moved by near ticks
 pub record IsClaimIn (zones : ℕ) (claim : Claim) : Type 0 where
   pub zone : claim.zone < zones
-  pub near : IsNearSpan claim.span
+  pub far : IsFar claim.span.from × IsFar claim.span.to
 
 -- the ticks of a window are near
 abbrev pub IsNearWindow : Window → Type 0

@@ -4,14 +4,14 @@ ghost use Rattle.std.specs.Prelude.{◌≡◌, ℤ, ◌+ℤ◌, ◌-ℤ◌, ◌�
 ghost use Rattle.rail_types.specs.Limits.{IsNearSpan};
 ghost use Rattle.occupation_book.specs.Held.{IsFree, held};
 ghost use Rattle.stair_pieces.specs.Moves.{IsInside};
-ghost use Rattle.refusal_proof.specs.Inside.{AreFreeAt, IsBehind, IsClaimIn, IsFromFirst, IsNearWindow, later};
+ghost use Rattle.refusal_proof.specs.Inside.{AreFreeAt, IsBehind, IsClaimIn, IsFar, IsFromFirst, IsNearWindow, later};
 
 use occupation_book::Occupations;
 use rail_types::{Claim, Span, Window, first_clashes_are_first};
 
 // A claim, as many ticks later as a window begins at.
 fn at_begin(claim: &Claim, window: &Window) -> Claim
-    requires claim { IsNearSpan claim.now.span }
+    requires claim { IsFar claim.now.span.from × IsFar claim.now.span.to }
     requires window { IsNearWindow window.now }
     requires some { window.now.from ≤ℤ window.now.to }
     ensures zone { result.zone ≡ claim.now.zone }
@@ -29,7 +29,7 @@ fn at_begin(claim: &Claim, window: &Window) -> Claim
 
 // What is left of a window from the tick on at which a claim begins where another ends.
 fn behind_other(window: &Window, claim: &Claim, other: &Claim) -> Window
-    requires claim { IsNearSpan claim.now.span }
+    requires claim { IsFar claim.now.span.from × IsFar claim.now.span.to }
     requires other { IsNearSpan other.now.span }
     ensures from { result.from ≡ other.now.span.to -ℤ claim.now.span.from }
     ensures to { result.to ≡ window.now.to }

@@ -2,7 +2,7 @@
 
 ghost use Rattle.std.specs.Prelude.{◌≡◌, ◌↔◌, ℕ, ◌+◌, ◌-◌, ◌<◌, ◌^◌, ◌++◌, ℤ, pos, neg_ℤ, ◌+ℤ◌, ◌-ℤ◌, ◌<ℤ◌, ◌≤ℤ◌, true, [], List as list_of, length, None, Some, All, IfOk, OnOk, slice_get};
 ghost use Rattle.rail_types.specs.declared.trains.Stop.{Stop as stop_type};
-ghost use Rattle.std.specs.Int.{int_min};
+ghost use Rattle.std.specs.Int.{int_max, int_min};
 ghost use Rattle.rail_types.specs.Flaws.{first_flaw};
 ghost use Rattle.rail_types.specs.Limits.{IsSettingsWithinLimits};
 ghost use Rattle.rail_types.specs.Occupation.{HeldClaim};
@@ -15,9 +15,7 @@ ghost use Rattle.refusal_proof.specs.Inside.{AreGoings, CanGoOn, Goes, IsClaimIn
 
 use no_memory::NoMemory;
 use occupation_book::Occupations;
-use rail_types::{
-    Claim, List, Network, Request, Settings, Span, Tick, Window, first_clashes_are_first,
-};
+use rail_types::{Claim, List, Network, Request, Settings, Span, Window, first_clashes_are_first};
 use stair_pieces::{Place, pieces_are_claims, standing};
 use std::alloc::Global;
 
@@ -48,14 +46,51 @@ pub(crate) fn push_kept(claims: &mut Vec<Claim>, zones: &[u32], span: &Span) -> 
 }
 
 // The dwell of the stop that a train makes which stands at a place.
-fn dwell_of(request: &Request, place: &Place) -> Tick
-    ensures dwell { (stop : stop_type)
-        → slice_get request.now.stops (place.now.made - 1) ≡ Some stop → result ≡ pos stop.dwell }
-    ensures bound { (pos 0 ≤ℤ result) × (result <ℤ pos (2 ^ 32)) }
+fn dwell_of(request: &Request, place: &Place) -> u32
+    ensures { (stop : stop_type)
+        → slice_get request.now.stops (place.now.made - 1) ≡ Some stop → result ≡ stop.dwell }
 {
     match request.stops.get(place.made.saturating_sub(1) as usize) {
-        Some(stop) => i64::from(stop.dwell),
+        Some(stop) => stop.dwell,
         None => 0,
+    }
+}
+
+// A wait of so many ticks, which ends at tick 0.
+fn wait_of(dwell: u32) -> Span
+    ensures from { result.from ≡ neg_ℤ (pos dwell) }
+    ensures to { result.to ≡ pos 0 }
+    ensures bound { neg_ℤ (pos (2 ^ 32)) <ℤ result.from }
+{
+    Span {
+        from: -i64::from(dwell),
+        to: 0,
+    }
+}
+
+// A zone that is kept for a window.
+fn kept_for(zone: u32, window: &Window) -> Claim
+    ensures zone { result.zone ≡ zone }
+    ensures from { result.span.from ≡ window.now.from }
+    ensures to { result.span.to ≡ window.now.to }
+{
+    Claim {
+        zone,
+        span: Span {
+            from: window.from,
+            to: window.to,
+        },
+    }
+}
+
+// A window, up to the begin of a claim, or to its own.
+fn until(window: &Window, other: &Claim) -> Window
+    ensures from { result.from ≡ window.now.from }
+    ensures to { result.to ≡ int_max other.now.span.from window.now.from }
+{
+    Window {
+        from: window.from,
+        to: other.span.from.max(window.from),
     }
 }
 
@@ -67,20 +102,10 @@ fn stay_on(zone: u32, book: &Occupations, window: &Window) -> Window
         → IsFree (held book.now) (stay_of window.now.from enter zone) ↔ (enter ≤ℤ result.to) }
 {
     first_clashes_are_first();
-    let claim = Claim {
-        zone,
-        span: Span {
-            from: window.from,
-            to: window.to,
-        },
-    };
-    let Some((other, _)) = book.first_clashing(&claim) else {
+    let Some((other, _)) = book.first_clashing(&kept_for(zone, window)) else {
         return *window;
     };
-    Window {
-        from: window.from,
-        to: other.span.from.max(window.from),
-    }
+    until(window, &other)
 }
 
 // The same of all zones.
@@ -113,11 +138,24 @@ fn waited(window: &Window, settings: &Settings, wait: &Span) -> Window
     ensures from { result.from
         ≡ int_min window.now.from (pos settings.now.horizon +ℤ pos 1) -ℤ wait.now.from }
     ensures to { result.to ≡ int_min window.now.to (pos settings.now.horizon) -ℤ wait.now.from }
+    ensures bound { result.to <ℤ pos (2 ^ 33) }
 {
     let horizon = i64::from(settings.horizon);
     Window {
         from: window.from.min(horizon + 1) - wait.from,
         to: window.to.min(horizon) - wait.from,
+    }
+}
+
+// The ticks behind a window, up to the end of another.
+fn behind_first(first: &Window, other: &Window) -> Window
+    requires { first.now.to <ℤ pos (2 ^ 33) }
+    ensures from { result.from ≡ first.now.to +ℤ pos 1 }
+    ensures to { result.to ≡ other.now.to }
+{
+    Window {
+        from: first.to + 1,
+        to: other.to,
     }
 }
 
@@ -157,21 +195,16 @@ fn going_on_from_stand(
 {
     pieces_are_claims();
     let zones = standing(alloc, net, &request.train, place)?;
-    let wait = Span {
-        from: -dwell_of(request, place),
-        to: 0,
-    };
+    let wait = wait_of(dwell_of(request, place));
     let mut claims = Vec::new(alloc);
     push_kept(&mut claims, zones.as_slice(), &wait)?;
     let first = waited(window, settings, &wait);
     let stay = stay(zones.as_slice(), book, &behind(window, settings));
+    let second = behind_first(&first, &stay);
     Ok(Going {
         claims: List::from_vec(claims),
         first,
-        second: Window {
-            from: first.to + 1,
-            to: stay.to,
-        },
+        second,
     })
 }
 

@@ -1,6 +1,7 @@
 //! The members of a proof by the numbers of their places, sorted so that a look-up is a binary search.
 
-ghost use Rattle.std.specs.Prelude.{◌≡◌, ◌<◌, ◌≤◌, ◌≤ℤ◌, length, All, AllPairs, Contains, IfOk, IfSome, IsNone};
+ghost use Rattle.std.specs.Prelude.{◌≡◌, ◌↔◌, ◌<◌, ◌≤◌, ◌^◌, ◌≤ℤ◌, length, All, AllPairs, Contains, IfOk, IfSome, IsNone, IsTrue};
+ghost use Rattle.std.specs.Int.{int_min};
 ghost use Rattle.std.specs.List.{AllWithin};
 ghost use Rattle.std.specs.List.Sorted.{IsPermutation};
 ghost use Rattle.rail_types.specs.declared.limits.TheConstants.{MAX_PLACES};
@@ -29,6 +30,17 @@ pub(crate) struct Label {
     pub(crate) window: Window,
 }
 
+fn label_at(number: usize, window: &Window) -> Label
+    requires { number < 2 ^ 32 }
+    ensures number { result.number ≡ number }
+    ensures window { result.window ≡ window.now }
+{
+    Label {
+        number: number as u32,
+        window: *window,
+    }
+}
+
 // The members by the numbers of their places, None where one's place is none of these.
 fn numbered(
     alloc: Global,
@@ -50,10 +62,7 @@ fn numbered(
         let Some(number) = places.number(&member.place) else {
             return Ok(None);
         };
-        labels.push(Label {
-            number: number as u32,
-            window: member.window,
-        })?;
+        labels.push(label_at(number, &member.window))?;
     }
     Ok(Some(labels))
 }
@@ -136,6 +145,25 @@ fn count_begun(labels: &[Label], number: u32, at: &Window) -> usize
     })
 }
 
+// Whether a label is at this number and does not end before a window begins.
+fn reaches(label: &Label, number: u32, at: &Window) -> bool
+    ensures { IsTrue result
+        ↔ ((label.now.number ≡ number) × (at.now.from ≤ℤ label.now.window.to)) }
+{
+    label.number == number && at.from <= label.window.to
+}
+
+// A window, up to the end of another where that is earlier.
+fn up_to(at: &Window, other: &Window) -> Window
+    ensures from { result.from ≡ at.now.from }
+    ensures to { result.to ≡ int_min other.now.to at.now.to }
+{
+    Window {
+        from: at.from,
+        to: other.to.min(at.to),
+    }
+}
+
 /// The first ticks of a window, as many as one look-up finds covered at this number; None where the first is not.
 pub(crate) fn covered(labels: &[Label], number: u32, at: &Window) -> Option<Window>
     requires order { AllPairs ReachesLess labels.now }
@@ -148,11 +176,9 @@ pub(crate) fn covered(labels: &[Label], number: u32, at: &Window) -> Option<Wind
         return None;
     }
     let last = &labels[count - 1];
-    if last.number != number || last.window.to < at.from {
-        return None;
+    if reaches(last, number, at) {
+        Some(up_to(at, &last.window))
+    } else {
+        None
     }
-    Some(Window {
-        from: at.from,
-        to: last.window.to.min(at.to),
-    })
 }

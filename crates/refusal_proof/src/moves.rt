@@ -13,6 +13,7 @@ ghost use Rattle.refusal_proof.specs.Inside.{
   Goes,
   IsClaimIn,
   IsCovered,
+  IsNearWindow,
   Leads,
   MovePasses,
   PassesIn,
@@ -49,7 +50,6 @@ fn taking_of(
     place: &Place,
     one: &Move,
 ) -> Result<Taking, NoMemory>
-    requires flawless { first_flaw net.now ≡ None }
     requires place { IsPlaceIn net.now settings.now request.now.train place.now }
     requires made { place.now.made < 2 ^ 31 }
     requires step { one.now.step.block < length net.now.blocks }
@@ -59,9 +59,7 @@ fn taking_of(
         ≡ pos (ticks_of_step net.now settings.now request.now place.now one.now.step)) }
     ensures next { IfOk result (λ taking. taking.next ≡ one.now.next) }
     ensures bound { IfOk result (λ taking. taking.ticks <ℤ pos (2 ^ 43)) }
-    ensures zones { IfOk result (λ taking. All (IsClaimIn net.now.zones) taking.claims) }
 {
-    pieces_are_claims();
     let train = &request.train;
     let after = place.after(alloc, net, train, one.step)?;
     let block = &net.blocks.as_slice()[one.step.block as usize];
@@ -163,6 +161,19 @@ fn are_covered(
     true
 }
 
+// Whether claims are free at no tick of a window.
+fn are_free_nowhere(claims: &[Claim], book: &Occupations, window: &Window) -> bool
+    requires claims { All (IsClaimIn (length book.now)) claims.now }
+    requires window { IsNearWindow window.now }
+    ensures { IsTrue result ↔ ((tick : ℤ) → IsInside window.now tick
+        → ¬ AreFreeAt (held book.now) claims.now tick) }
+{
+    let Some(_rest) = first_free(claims, book, window) else {
+        return true;
+    };
+    false
+}
+
 // Whether a move leads to what is covered, or ends outside a window, whenever it is entered in another and the claims are
 // free.
 fn passes(
@@ -186,7 +197,7 @@ fn passes(
     let enters = within_horizon(window, settings, taking);
     match taking.next {
         Next::At(number) => are_covered(taking, number, claims, book, labels, &enters),
-        Next::End => first_free(claims, book, &arriving(&enters, arrive, taking)).is_none(),
+        Next::End => are_free_nowhere(claims, book, &arriving(&enters, arrive, taking)),
     }
 }
 
@@ -215,6 +226,7 @@ pub(crate) fn move_passes(
     ensures { IfOk result (λ yes. IsTrue yes ↔ MovePasses net.now settings.now request.now
         (held book.now) labels.now going.now place.now one.now) }
 {
+    pieces_are_claims();
     let taking = taking_of(alloc, net, settings, request, place, one)?;
     let arrive = &request.arrive;
     let own = taking.claims.as_slice();

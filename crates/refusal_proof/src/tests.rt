@@ -226,7 +226,11 @@ fn has_windows(proof: &Closed) -> bool
     ensures { IsTrue result
         → All (λ member. member.window.from ≤ℤ member.window.to) proof.now.members }
 {
-    proof.members.as_slice().iter().all(|member| member.window.from <= member.window.to)
+    proof
+        .members
+        .as_slice()
+        .iter()
+        .all(|member| member.window.from <= member.window.to)
 }
 
 // Whether these members show on the line of three blocks that no path of a request fits beside these claims.
@@ -301,7 +305,7 @@ fn members_show_that_no_path_arrives_earlier(rt: HostRuntime) -> Result<(), Fail
 
 // A train that reaches the middle block at tick 35 dwells four ticks, and then goes on whenever it likes: from 39 on,
 // 15 ticks to the end of the last block where it rolls on, and 19 where it arrives. Where another wants the zone under
-// the train from tick 50 on, it goes on by then.
+// the train from tick 50 on, it goes on by 42, and the zone is released 8 ticks later.
 #[test]
 fn members_hold_each_tick_behind_a_dwell(rt: HostRuntime) -> Result<(), Fail> {
     let alloc = rt.alloc();
@@ -314,13 +318,14 @@ fn members_hold_each_tick_behind_a_dwell(rt: HostRuntime) -> Result<(), Fail> {
     let early = request(alloc, (6, 6), (0, 57), &stops)?;
     let late = request(alloc, (6, 6), (0, 58), &stops)?;
     let wanted = [claim(1, 50, 60)];
-    let cases: [(&[Claim], &Request, i64, bool); 6] = [
+    let cases: [(&[Claim], &Request, i64, bool); 7] = [
         (&[], &early, 17_280, true),
         (&[], &late, 17_280, false),
         (&[], &early, 17_279, false),
         (&[], &early, 65, false),
-        (&wanted, &early, 65, true),
-        (&wanted, &early, 64, false),
+        (&wanted, &early, 57, true),
+        (&wanted, &early, 56, false),
+        (&wanted, &late, 57, true),
     ];
     for (claims, asked, until, want) in cases {
         let halted = Row {
