@@ -30,11 +30,12 @@ use Rattle.tail_states.specs.declared.certificates.Member.{Member}
 use Rattle.tail_states.specs.declared.moves.Move.{Move}
 use Rattle.tail_states.specs.declared.moves.Next.{Next}
 use Rattle.tail_states.specs.declared.moves.Next.TheVariants.{End, At}
-use Rattle.tail_states.specs.Listed.{AreMovesFrom, HasNoneTwice, IsListedMove, LeadsTo}
+use Rattle.tail_states.specs.declared.certificates.Closed.{Closed}
+use Rattle.tail_states.specs.Listed.{AreMovesFrom, AreThePlaces, HasNoneTwice, IsListedMove, LeadsTo}
 use Rattle.tail_states.specs.Closing.{GoesOn, IsAdmitted, IsClosed, IsFreeMove, IsHeld, leaves_at}
 use Rattle.refusal_proof.specs.declared.labels.Label.{Label}
 use Rattle.refusal_proof.specs.declared.goings.Going.{Going}
-use Rattle.refusal_proof.specs.Proofs.{claims_held}
+use Rattle.refusal_proof.specs.Proofs.{IsProof, claims_held}
 use Rattle.refusal_proof.specs.Inside.{AreFreeAt, AreGoings, AreGrown, AreLabels, AreLabelsOf, CanGoOn, CoverAlike, Goes, HoldAlike, IsClaimIn, IsCovered, LabelPasses, Leads, MovePasses, PassesIn, ReachesLess, StepsPass, claims_of, kept_behind, later, member_of, members_of, stay, ticks_of_step}
 use Rattle.refusal_proof.proofs.Numbering.{grown_numbers, grown_some, moved_alike}
 use Rattle.refusal_proof.proofs.Staying.{AreFreeOver, at_of_over, fits_at, free_at, kept_far, kept_of_over, over_of_at, over_of_kept, unmap}
@@ -349,3 +350,18 @@ module _ (net : Network) (settings : Settings) (request : Request) (book : List 
         let place = get_or places label.number start_place in
         let is : IsHeld members place tick = (alike place tick).1 (held_of places labels label.number place tick refl (k, label, within, get_or_default labels k label d within, (refl, inside))) in
         admitted_here place step (leaves_at net settings request place step enter) (closed.moves place step tick enter is on free (below_all (leaves_at net settings request place step enter) free.ends))
+
+    -- with members at places of the request that is a proof
+    module _ (the : AreThePlaces net request places) where
+      pub proof_by_passing : (proof : Closed) → proof.members ≡ members → All (λ (member : Member). Contains places member.place) members → StartsPass → LabelsPass → IsProof net settings (claims_held book) request proof
+      proof_by_passing proof same among starts pass = record {
+        places = subst (All (λ (member : Member). IsPlace net request member.place)) (sym same) (λ k d within. is_place (get_or members k d).place (among k d within));
+        closed = subst (IsClosed net settings request (claims_held book)) (sym same) (closed_by_passing starts pass);
+      }
+        where
+          is_place : (place : Place) → Contains places place → IsPlace net request place
+          is_place place (k, within, at) = subst (IsPlace net request) at (the.sound k place within)
+
+-- what stands at a number is a place of the request
+pub place_at_number : (net : Network) (request : Request) (places : List Place) (number : ℕ) (place : Place) → All (IsPlace net request) places → slice_get places number ≡ Some place → IsPlace net request place
+place_at_number net request places number place sound at = subst (IsPlace net request) (get_or_from_slice_get places number place place at) (sound number place (slice_get_within places number place at))
