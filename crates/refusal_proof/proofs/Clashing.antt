@@ -1,7 +1,7 @@
 -- Claims that are free at a tick, and claims that clash before it.
-use Rattle.std.proofs.Common.{◌≡◌, ◌∙◌, sym, refl, subst, ℕ, suc, zero, ◌<◌, List, [], ◌∷◌, length, get_or, All, arith, inl, inr}
+use Rattle.std.proofs.Common.{◌≡◌, ◌∙◌, sym, refl, subst, ℕ, suc, zero, ◌<◌, List, [], ◌∷◌, length, get_or, arith, inr}
 use Rattle.std.specs.Prelude.{ℤ, pos, negsuc, ◌+ℤ◌, ◌-ℤ◌, ◌<ℤ◌, ◌≤ℤ◌, ◌↔◌, Any}
-use Rattle.std.specs.Int.{int_gap, int_max, int_min}
+use Rattle.std.specs.Int.{int_gap, int_max}
 use Rattle.std.proofs.lemmas.Int.{ints, by_lt_z, clamps}
 use Rattle.rail_types.specs.declared.paths.Claim.{Claim}
 use Rattle.rail_types.specs.declared.paths.Window.{Window}

@@ -1,15 +1,15 @@
 -- A move that leads to what is covered whenever it is free, and the members that labels stand for.
-use Rattle.std.proofs.Common.{◌≡◌, ◌≢◌, ◌∙◌, sym, ap, refl, subst, ℕ, ◌+◌, ◌^◌, ◌<◌, ◌≤◌, ℤ, pos, ◌+ℤ◌, ◌-ℤ◌, ◌<ℤ◌, ◌≤ℤ◌, List, [], ◌∷◌, ◌++◌, map, take, length, get_or, All, None, Some, arith, inl, inr}
-use Rattle.std.specs.Prelude.{slice_get, ◌↔◌, ◌⊎◌, Contains}
+use Rattle.std.proofs.Common.{◌≡◌, ◌∙◌, sym, ap, refl, subst, ℕ, ◌+◌, ◌^◌, ◌<◌, ◌≤◌, ℤ, pos, ◌+ℤ◌, ◌-ℤ◌, ◌<ℤ◌, ◌≤ℤ◌, List, [], ◌∷◌, ◌++◌, take, length, get_or, All, None, Some, arith, inl, inr}
+use Rattle.std.specs.Prelude.{slice_get, ◌↔◌, Contains}
 use Rattle.std.specs.Int.{int_max, int_min}
-use Rattle.std.proofs.lemmas.Int.{ints, by_lt_z, clamps}
+use Rattle.std.proofs.lemmas.Int.{ints, clamps}
 use Rattle.std.proofs.lemmas.Bool.{cases_order}
 use Rattle.std.proofs.lemmas.List.{get_or-map, get_or_default, get_or_append_left, get_or-append-add, length-append, length-map, map-append, take_more}
-use Rattle.std.proofs.lemmas.List.Elements.{All-nil, All-append, All-map}
+use Rattle.std.proofs.lemmas.List.Elements.{All-nil, All-append}
 use Rattle.std.specs.List.{AllPairs}
 use Rattle.std.specs.List.Sorted.{IsPermutation}
 use Rattle.std.proofs.lemmas.List.Sorted.{All-permutation}
-use Rattle.std.proofs.lemmas.Option.{slice_get_within, get_or_from_slice_get, slice_get-get_or}
+use Rattle.std.proofs.lemmas.Option.{slice_get_within, get_or_from_slice_get}
 use Rattle.rail_types.specs.declared.tracks.Network.{Network}
 use Rattle.rail_types.specs.declared.trains.Request.{Request}
 use Rattle.rail_types.specs.declared.entries.Settings.{Settings}
@@ -25,18 +25,18 @@ use Rattle.stair_pieces.specs.declared.places.Place.{Place}
 use Rattle.stair_pieces.specs.declared.places.Step.{Step}
 use Rattle.stair_pieces.specs.Places.{start_place, place_after, standing_zones}
 use Rattle.stair_pieces.specs.Pieces.{pieces_of, kept}
-use Rattle.stair_pieces.specs.Moves.{IsEnd, IsInside, IsPlace}
+use Rattle.stair_pieces.specs.Moves.{IsInside, IsPlace}
 use Rattle.tail_states.specs.declared.certificates.Member.{Member}
 use Rattle.tail_states.specs.declared.moves.Move.{Move}
 use Rattle.tail_states.specs.declared.moves.Next.{Next}
 use Rattle.tail_states.specs.declared.moves.Next.TheVariants.{End, At}
 use Rattle.tail_states.specs.declared.certificates.Closed.{Closed}
-use Rattle.tail_states.specs.Listed.{AreMovesFrom, AreThePlaces, HasNoneTwice, IsListedMove, LeadsTo}
-use Rattle.tail_states.specs.Closing.{GoesOn, IsAdmitted, IsClosed, IsFreeMove, IsHeld, leaves_at}
+use Rattle.tail_states.specs.Listed.{AreMovesFrom, AreThePlaces, HasNoneTwice, LeadsTo}
+use Rattle.tail_states.specs.Closing.{IsAdmitted, IsClosed, IsHeld, leaves_at}
 use Rattle.refusal_proof.specs.declared.labels.Label.{Label}
 use Rattle.refusal_proof.specs.declared.goings.Going.{Going}
 use Rattle.refusal_proof.specs.Proofs.{IsProof, claims_held}
-use Rattle.refusal_proof.specs.Inside.{AreFreeAt, AreGoings, AreGrown, AreLabels, AreLabelsOf, CanGoOn, CoverAlike, Goes, HoldAlike, IsClaimIn, IsCovered, LabelPasses, Leads, MovePasses, PassesIn, ReachesLess, StepsPass, claims_of, kept_behind, later, member_of, members_of, stay, ticks_of_step}
+use Rattle.refusal_proof.specs.Inside.{AreFreeAt, AreGoings, AreGrown, AreLabels, AreLabelsOf, CanGoOn, CoverAlike, Goes, HoldAlike, IsClaimIn, IsCovered, LabelPasses, Leads, MovePasses, PassesIn, ReachesLess, StepsPass, claims_of, kept_behind, later, member_of, members_of, ticks_of_step}
 use Rattle.refusal_proof.proofs.Numbering.{grown_numbers, grown_some, moved_alike}
 use Rattle.refusal_proof.proofs.Staying.{AreFreeOver, at_of_over, fits_at, free_at, kept_far, kept_of_over, over_of_at, over_of_kept, unmap}
 

@@ -1,6 +1,6 @@
 -- Labels in the order of their numbers.
-use Rattle.std.proofs.Common.{Less, ◌≡◌, ◌⊎◌, ◌∙◌, ℕ, ◌+◌, ◌-◌, ◌<◌, Bool, true, false, List, [], ◌∷◌, ◌++◌, length, get_or, sym, subst, inl, inr, refl, arith, ap, All}
-use Rattle.std.specs.Prelude.{ℤ, ◌<ℤ◌, ◌≤ℤ◌, ◌↔◌, int_le, nat_lt, nat_eq, ◌&&◌, ◌||◌, Any}
+use Rattle.std.proofs.Common.{Less, ◌≡◌, ◌∙◌, ℕ, ◌+◌, ◌-◌, ◌<◌, Bool, true, false, List, [], ◌∷◌, ◌++◌, length, get_or, sym, subst, inl, inr, refl, arith, ap, All}
+use Rattle.std.specs.Prelude.{ℤ, ◌<ℤ◌, ◌≤ℤ◌, int_le, nat_lt, nat_eq, ◌&&◌, ◌||◌, Any}
 use Rattle.std.specs.Int.{int_min}
 use Rattle.std.specs.List.{AllPairs, AllWithin}
 use Rattle.std.specs.List.Sorted.{IsPartitionedBy, IsPermutation, IsSortedBy}

@@ -1,4 +1,4 @@
-use Rattle.std.proofs.Common.{◌≡◌, ◌∙◌, sym, ap, subst, ◌<◌, ◌++◌, pos, neg_ℤ, length, All, arith}
+use Rattle.std.proofs.Common.{◌∙◌, sym, ap, subst, ◌<◌, ◌++◌, pos, neg_ℤ, length, All, arith}
 use Rattle.std.proofs.lemmas.Int.{ints}
 use Rattle.occupation_book.specs.Held.{held}
 use Rattle.stair_pieces.specs.Pieces.{kept}

@@ -1,4 +1,4 @@
-use Rattle.std.proofs.Common.{◌≡◌, ◌-◌, ◌<◌, true, false, get_or, length, pos, arith}
+use Rattle.std.proofs.Common.{◌-◌, ◌<◌, get_or, length, pos, arith}
 use Rattle.std.proofs.lemmas.List.{get_or_default}
 use Rattle.refusal_proof.specs.declared.labels.Label.{Label}
 use Rattle.refusal_proof.proofs.Numbering.{not_covered}

@@ -1,10 +1,8 @@
-use Rattle.std.proofs.Common.{◌≡◌, sym, subst}
+use Rattle.std.proofs.Common.{sym, subst}
 use Rattle.std.specs.Prelude.{◌↔◌, IsTrue}
 use Rattle.occupation_book.specs.Held.{held}
-use Rattle.stair_pieces.specs.Moves.{IsInside}
-use Rattle.tail_states.specs.declared.moves.Next.TheVariants.{End, At}
 use Rattle.refusal_proof.specs.Inside.{AreFreeAt, IsCovered, Leads, PassesIn}
-use Rattle.refusal_proof.proofs.Moving.{end_passes, none_of_end, passes_by_all}
+use Rattle.refusal_proof.proofs.Moving.{none_of_end, passes_by_all}
 use Rattle.refusal_proof.proofs.moves.passes.Goals as goal
 
 pub returns-in-At : goal.returns-in-At
