@@ -11,7 +11,7 @@ use Rattle.command_reports.specs.declared.refusals.Refusal.TheVariants.{Memory}
 use Rattle.command_reports.specs.Works.{Misses}
 use Rattle.client_streams.specs.Clients.{client_calls}
 use Rattle.client_streams.specs.Lending.{AreIn, AreOut, IsAsBefore}
-use Rattle.client_streams.specs.Refusing.{CannotOpen, ClientStops, IsOpen, IsStopped, SinkStops, SourceStops, WhyStopped}
+use Rattle.client_streams.specs.Refusing.{AreMade, CannotOpen, ClientStops, IsOpen, IsStopped, SinkStops, SourceStops, WhyStopped}
 use Rattle.client_words.specs.declared.clients.ClientWord.{ClientWord}
 use Rattle.client_streams.proofs.Lists.{all_left, all_right, calls_both, front_taken, pairs_front, pairs_head, pairs_last, pairs_tail}
 use Rattle.client_streams.proofs.Nests.{as_before, in_calls, in_quiet, misses_sink, misses_source, nested_same, out_calls, out_quiet}
@@ -101,6 +101,7 @@ module _ {Src Snk Dsk : Type 0} (front : List ClientWord) (client : ClientWord) 
   record Made (made : List Opening) : Type 0 where
     pub count : ℕ
     pub opened : CallsOf (take count (client_calls (front ++ client ∷ behind))) s0.opened s3.opened
+    pub whole : CallsOf (client_calls front ++ made) s0.opened s3.opened
 
   made_by : (made rest : List Opening) → source ∷ sink ∷ client_calls behind ≡ made ++ rest → CallsOf made s1.opened s2.opened → Made made
   made_by made rest cut opened =
@@ -109,10 +110,11 @@ module _ {Src Snk Dsk : Type 0} (front : List ClientWord) (client : ClientWord) 
       let whole : client_calls (front ++ client ∷ behind) ≡ (cf ++ made) ++ rest = calls_are ∙ (ap (λ (calls : List Opening). cf ++ calls) cut ∙ sym (append_assoc cf made rest)) in
       let first : take taken.0 (client_calls (front ++ client ∷ behind)) ≡ cf ++ made = ap (take taken.0) whole ∙ taken.1 in
       let both = calls_both cf made s0.opened s1.opened s2.opened (out_calls front streams s0 s1 outs) opened in
+      let all : CallsOf (cf ++ made) s0.opened s3.opened = subst (λ (o : Option (List Opening)). CallsOf (cf ++ made) s0.opened o) (sym (in_calls front streams s2 s3 ins)) both in
       record {
         count = taken.0;
-        opened = subst (λ (calls : List Opening). CallsOf calls s0.opened s3.opened) (sym first)
-            (subst (λ (o : Option (List Opening)). CallsOf (cf ++ made) s0.opened o) (sym (in_calls front streams s2 s3 ins)) both);
+        opened = subst (λ (calls : List Opening). CallsOf calls s0.opened s3.opened) (sym first) all;
+        whole = all;
       }
 
   stops_source : SourceStops client s1 s2 refusal → IsStopped (front ++ client ∷ behind) s0 s3 refusal
@@ -128,6 +130,7 @@ module _ {Src Snk Dsk : Type 0} (front : List ClientWord) (client : ClientWord) 
           behind = sink ∷ client_calls behind;
           calls_are = calls_are;
           opened = opens;
+          no_more = made.whole;
           unready = subst (λ (x : Standing). IsReady x → ⊥) (out_stands front streams s0 s1 outs source no_source) stops.unready;
           rose = rises stops.rose;
           told = stops.told;
@@ -147,6 +150,7 @@ module _ {Src Snk Dsk : Type 0} (front : List ClientWord) (client : ClientWord) 
           behind = client_calls behind;
           calls_are = calls_are ∙ sym (append_assoc (client_calls front) (source ∷ []) (sink ∷ client_calls behind));
           opened = All-push (IsOpen s0.standing) (client_calls front) source opens (subst (λ (x : Standing). IsShut x → ⊥) (out_stands front streams s0 s1 outs source no_source) stops.source);
+          no_more = subst (λ (calls : List Opening). CallsOf calls s0.opened s3.opened) (sym (append_assoc (client_calls front) (source ∷ []) (sink ∷ []))) made.whole;
           unready = subst (λ (x : Standing). IsReady x → ⊥) (out_stands front streams s0 s1 outs sink no_sink) stops.unready;
           rose = rises stops.rose;
           told = stops.told;
@@ -177,9 +181,10 @@ module _ (t t' : Opening → Standing) (sources : (name : List ℕ) → t' (sour
       All-cons (λ call. t' call ≡ t call) (source_at c.input) (sink_at c.output ∷ client_calls cs) (sources c.input)
       (All-cons (λ call. t' call ≡ t call) (sink_at c.output) (client_calls cs) (sinks c.output) (all_same cs))
 
-  stopped_moved : (clients : List ClientWord) (f1 f0 f2 f3 : ℕ) (refusal : Refusal) → f0 ≡ f1 → f3 ≡ f2 → WhyStopped (client_calls clients) t f1 f2 refusal → WhyStopped (client_calls clients) t' f0 f3 refusal
-  stopped_moved clients f1 f0 f2 f3 refusal first last (inr memory) = inr memory
-  stopped_moved clients f1 f0 f2 f3 refusal first last (inl cannot) =
+  stopped_moved : (made made' : List Opening → Type 0) → ((calls : List Opening) → made calls → made' calls) → (clients : List ClientWord) (f1 f0 f2 f3 : ℕ) (refusal : Refusal) → f0 ≡ f1 → f3 ≡ f2
+      → WhyStopped (client_calls clients) made t f1 f2 refusal → WhyStopped (client_calls clients) made' t' f0 f3 refusal
+  stopped_moved made made' more clients f1 f0 f2 f3 refusal first last (inr memory) = inr memory
+  stopped_moved made made' more clients f1 f0 f2 f3 refusal first last (inl cannot) =
       let P : Opening → Type 0 = λ call. t' call ≡ t call in
       let all = subst (All P) cannot.calls_are (all_same clients) in
       let front = all_left P cannot.before (cannot.call ∷ cannot.behind) all in
@@ -190,6 +195,7 @@ module _ (t t' : Opening → Standing) (sources : (name : List ℕ) → t' (sour
         behind = cannot.behind;
         calls_are = cannot.calls_are;
         opened = λ k d lt. subst (λ (x : Standing). IsShut x → ⊥) (sym (front k d lt)) (cannot.opened k d lt);
+        no_more = more (cannot.before ++ cannot.call ∷ []) cannot.no_more;
         unready = subst (λ (x : Standing). IsReady x → ⊥) (sym here) cannot.unready;
         rose = subst (λ (n : ℕ). Rose n f3) (sym first) (subst (λ (n : ℕ). Rose f1 n) (sym last) cannot.rose);
         told = cannot.told;
@@ -197,8 +203,9 @@ module _ (t t' : Opening → Standing) (sources : (name : List ℕ) → t' (sour
 
 -- why clients were not opened, where their calls stand alike and the counts are the same
 pub client_calls_moved : (clients : List ClientWord) (t t' : Opening → Standing) → ((name : List ℕ) → t' (source_at name) ≡ t (source_at name)) → ((name : List ℕ) → t' (sink_at name) ≡ t (sink_at name))
-    → (f1 f0 f2 f3 : ℕ) (refusal : Refusal) → f0 ≡ f1 → f3 ≡ f2 → WhyStopped (client_calls clients) t f1 f2 refusal → WhyStopped (client_calls clients) t' f0 f3 refusal
-client_calls_moved clients t t' sources sinks f1 f0 f2 f3 refusal first last why = stopped_moved t t' sources sinks clients f1 f0 f2 f3 refusal first last why
+    → (made made' : List Opening → Type 0) → ((calls : List Opening) → made calls → made' calls)
+    → (f1 f0 f2 f3 : ℕ) (refusal : Refusal) → f0 ≡ f1 → f3 ≡ f2 → WhyStopped (client_calls clients) made t f1 f2 refusal → WhyStopped (client_calls clients) made' t' f0 f3 refusal
+client_calls_moved clients t t' sources sinks made made' more f1 f0 f2 f3 refusal first last why = stopped_moved t t' sources sinks made made' more clients f1 f0 f2 f3 refusal first last why
 
 -- calls that are told not to fail, where they stand alike
 pub opens_moved_all : (clients : List ClientWord) (t t' : Opening → Standing) → ((name : List ℕ) → t' (source_at name) ≡ t (source_at name)) → ((name : List ℕ) → t' (sink_at name) ≡ t (sink_at name))

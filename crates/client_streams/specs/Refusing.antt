@@ -23,31 +23,39 @@ name_at (disk_at name) = name
 abbrev pub IsOpen : (Opening → Standing) → Opening → Type 0
 IsOpen standing call = IsShut (standing call) → ⊥
 
--- Of these calls the first ones succeeded, and then one failed: it is told not to succeed, a fault was counted, and its
--- name is reported.
-pub record CannotOpen (calls : List Opening) (standing : Opening → Standing)
-    (faults faults' : ℕ) (refusal : Refusal) : Type 0 where
+-- these opening calls were made, in this order, and no other
+abbrev pub AreMade : {Src Snk Dsk : Type 0} → Scene Src Snk Dsk → Scene Src Snk Dsk
+    → List Opening → Type 0
+AreMade old new calls = CallsOf calls old.opened new.opened
+
+-- Of these calls the first ones succeeded, and then one failed, behind which none was made: it is told not to succeed, a
+-- fault was counted, and its name is reported.
+pub record CannotOpen (calls : List Opening) (made : List Opening → Type 0)
+    (standing : Opening → Standing) (faults faults' : ℕ) (refusal : Refusal) : Type 0 where
   pub before : List Opening
   pub call : Opening
   pub behind : List Opening
   pub calls_are : calls ≡ before ++ call ∷ behind
   pub opened : All (IsOpen standing) before
+  pub no_more : made (before ++ call ∷ [])
   pub unready : IsReady (standing call) → ⊥
   pub rose : Rose faults faults'
   pub told : IsTold not_opened (line_with (codes "open: ") (name_at call)) refusal
 
 -- one of the calls failed, or memory was wanted
-abbrev pub WhyStopped : List Opening → (Opening → Standing) → ℕ → ℕ → Refusal → Type 0
-WhyStopped calls standing faults faults' refusal =
-    CannotOpen calls standing faults faults' refusal ⊎ (refusal ≡ Memory)
+abbrev pub WhyStopped : List Opening → (List Opening → Type 0) → (Opening → Standing) → ℕ → ℕ
+    → Refusal → Type 0
+WhyStopped calls made standing faults faults' refusal =
+    CannotOpen calls made standing faults faults' refusal ⊎ (refusal ≡ Memory)
 
 -- the clients could not all be opened: the first so many of their calls were made, and all is as it was before
 pub record IsStopped {Src Snk Dsk : Type 0} (clients : List ClientWord)
     (old new : Scene Src Snk Dsk) (refusal : Refusal) : Type 0 where
   pub count : ℕ
-  pub opened : CallsOf (take count (client_calls clients)) old.opened new.opened
+  pub opened : AreMade old new (take count (client_calls clients))
   pub as_before : IsAsBefore old new
-  pub why : WhyStopped (client_calls clients) old.standing old.faults new.faults refusal
+  pub why : WhyStopped (client_calls clients) (AreMade old new)
+      old.standing old.faults new.faults refusal
 
 -- *inside*: the source of a client could not be opened
 pub record SourceStops {Src Snk Dsk : Type 0} (client : ClientWord) (old new : Scene Src Snk Dsk)

@@ -13,7 +13,7 @@ use Rattle.file_rounds.specs.Scenes.{IsReady, IsShut, Opens, Scene}
 use Rattle.client_lines.specs.Names.{Names}
 use Rattle.client_streams.specs.Clients.{client_calls, HadStreams, IsExchanged}
 use Rattle.client_streams.specs.Lending.{IsAsBefore, returned_of, streams_of}
-use Rattle.client_streams.specs.Refusing.{CannotOpen, IsOpen, WhyStopped}
+use Rattle.client_streams.specs.Refusing.{AreMade, CannotOpen, IsOpen, WhyStopped}
 use Rattle.client_words.specs.declared.clients.ClientWord.{ClientWord}
 use Rattle.client_streams.proofs.Lists.{calls_both}
 use Rattle.client_streams.proofs.Nests.{exchanged_at}
@@ -219,7 +219,8 @@ module _ {Src Snk Dsk : Type 0} (name : List ℕ) (clients : List ClientWord) (b
         why = inr (inr (record {
           name_open = disk_open;
           left = Replaces-round {E = Failed} (IsFoundOnly disk files) name before after s0.disks s1.disks s2.disks s3.disks round.out (same.disks name) round.returned only;
-          why = client_calls_moved clients s1.standing s0.standing (λ input. sym (other_stands (source_at input) (λ e. cc))) (λ output. sym (other_stands (sink_at output) (λ e. cc))) s1.faults s0.faults s2.faults s3.faults refusal
+          why = client_calls_moved clients s1.standing s0.standing (λ input. sym (other_stands (source_at input) (λ e. cc))) (λ output. sym (other_stands (sink_at output) (λ e. cc)))
+              (AreMade s1 s2) (λ calls. AreMade s0 s3 (disk_at name ∷ calls)) opened_all s1.faults s0.faults s2.faults s3.faults refusal
               (sym round.quiet) round.quiet_still halts.unserved.why;
         }));
         sources = λ other. round.sources_still other ∙ (same.sources other ∙ round.sources other);

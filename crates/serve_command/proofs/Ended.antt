@@ -29,7 +29,7 @@ use Rattle.path_recover.specs.Texts.{fault_text}
 use Rattle.rail_types.specs.declared.trains.Train.{Train}
 use Rattle.request_server.specs.declared.plans.Session.{Session}
 use Rattle.client_streams.specs.Clients.{client_calls}
-use Rattle.client_streams.specs.Refusing.{WhyStopped}
+use Rattle.client_streams.specs.Refusing.{AreMade, WhyStopped}
 use Rattle.client_words.specs.declared.clients.ClientWord.{ClientWord}
 use Rattle.serve_reports.specs.Ends.{EndsSay, ends_status, has_faulty, has_wanting, IsEnds, is_faulty, is_wanting, line_of, report_text, status_behind, status_unreported, status_untold}
 use Rattle.serve_reports.specs.declared.ends.Ends.{Ends}
@@ -71,16 +71,16 @@ open_other name (Damaged at) refusal other is told = text_other (fault_text (Dam
 open_other name (Illegal entry) refusal other is told = text_other (fault_text (Illegal entry)) refusal other is told
 open_other name of_open refusal other is told = text_other (fault_text of_open) refusal other is told
 
-stopped_other : (calls : List Opening) (standing : Opening → Standing) (faults faults' : ℕ) (refusal : Refusal) (other : Status) → IsOther other → WhyStopped calls standing faults faults' refusal → status_of refusal ≢ other
-stopped_other calls standing faults faults' refusal other is (inl cannot) = told_other not_opened other _ refusal cannot.told is.opening is.memory
-stopped_other calls standing faults faults' refusal other is (inr memory) = memory_other other refusal memory is.memory
+stopped_other : (calls : List Opening) (made : List Opening → Type 0) (standing : Opening → Standing) (faults faults' : ℕ) (refusal : Refusal) (other : Status) → IsOther other → WhyStopped calls made standing faults faults' refusal → status_of refusal ≢ other
+stopped_other calls made standing faults faults' refusal other is (inl cannot) = told_other not_opened other _ refusal cannot.told is.opening is.memory
+stopped_other calls made standing faults faults' refusal other is (inr memory) = memory_other other refusal memory is.memory
 
 module _ {Src Snk Dsk : Type 0} (source : Sources Src) (sink : Sinks Snk) (disk : Disks Dsk) (journal : List ℕ) (clients : List ClientWord) where
   refuses_other : (files : Files) (old new : Scene Src Snk Dsk) (refusal : Refusal) (other : Status) → IsOther other → Refuses disk files journal clients old new refusal → status_of refusal ≢ other
   refuses_other files old new refusal other is refuses = elim refuses.why [
     | inl unopened ↦ told_other not_opened other _ refusal unopened.told is.opening is.memory
     | inr (inl refused) ↦ open_other journal refused.fault refusal other is refused.told
-    | inr (inr halted) ↦ stopped_other (client_calls clients) old.standing old.faults new.faults refusal other is halted.why
+    | inr (inr halted) ↦ stopped_other (client_calls clients) (λ calls. AreMade old new (disk_at journal ∷ calls)) old.standing old.faults new.faults refusal other is halted.why
   ]
 
   trains_other : (trains : List ℕ) (network : NetworkFile) (base : BaseFile) (old new : Scene Src Snk Dsk) (refusal : Refusal) (other : Status) → IsOther other → ReadsTrains source sink disk trains journal clients network base old new (Err refusal) → status_of refusal ≢ other

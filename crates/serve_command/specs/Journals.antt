@@ -2,7 +2,7 @@
 use Rattle.std.specs.Prelude.{◌≡◌, ◌⊎◌, ℕ, ◌+◌, ◌≤◌, List, ◌∷◌, length, IfSome, Option, None, Some, Result, Ok, Err, codes}
 use Rattle.client_lines.specs.Names.{Names}
 use Rattle.client_streams.specs.Clients.{client_calls, IsExchanged}
-use Rattle.client_streams.specs.Refusing.{IsOpen, WhyStopped}
+use Rattle.client_streams.specs.Refusing.{AreMade, IsOpen, WhyStopped}
 use Rattle.client_words.specs.declared.clients.ClientWord.{ClientWord}
 use Rattle.command_reports.specs.Refusals.{IsTold, line_with}
 use Rattle.command_reports.specs.Works.{KeepsTo}
@@ -94,13 +94,14 @@ pub record IsFoundOnly {D : Type 0} (disk : Disks D) (files : Files) (before aft
   pub opened : IsFound disk files before found
   pub disk_is : after ≡ found.disk
 
--- the journal was opened, but no client was served
+-- the journal was opened, but no client was served; the client's call that failed was the last that was made
 pub record IsHalted {Src Snk Dsk : Type 0} (disk : Disks Dsk) (files : Files) (name : List ℕ)
     (clients : List ClientWord) (old new : Scene Src Snk Dsk) (refusal : Refusal)
     : Type 0 where
   pub name_open : IsOpen old.standing (disk_at name)
   pub left : Replaces (IsFoundOnly disk files) (old.disks name) (new.disks name)
-  pub why : WhyStopped (client_calls clients) old.standing old.faults new.faults refusal
+  pub why : WhyStopped (client_calls clients) (λ calls. AreMade old new (disk_at name ∷ calls))
+      old.standing old.faults new.faults refusal
 
 -- why no client was served; no source or sink changed
 pub record Refuses {Src Snk Dsk : Type 0} (disk : Disks Dsk) (files : Files) (name : List ℕ)

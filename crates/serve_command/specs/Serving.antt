@@ -3,7 +3,7 @@ use Rattle.std.specs.Prelude.{◌≡◌, ℕ, ◌≤◌, All, IfSome, List, map,
 use Rattle.client_lines.specs.Names.{Names}
 use Rattle.client_streams.specs.Clients.{client_calls, HadStreams}
 use Rattle.client_streams.specs.Lending.{IsAsBefore, returned_of, streams_of}
-use Rattle.client_streams.specs.Refusing.{IsOpen, WhyStopped}
+use Rattle.client_streams.specs.Refusing.{AreMade, IsOpen, WhyStopped}
 use Rattle.client_words.specs.declared.clients.ClientWord.{ClientWord}
 use Rattle.command_reports.specs.declared.refusals.Refusal.{Refusal}
 use Rattle.file_rounds.specs.Scenes.{Scene}
@@ -64,7 +64,8 @@ pub record IsUnserved {Src Snk Dsk : Type 0} (clients : List ClientWord) (found 
     (after : Dsk) (old new : Scene Src Snk Dsk) (refusal : Refusal) : Type 0 where
   pub disk_is : after ≡ found.disk
   pub as_before : IsAsBefore old new
-  pub why : WhyStopped (client_calls clients) old.standing old.faults new.faults refusal
+  pub why : WhyStopped (client_calls clients) (AreMade old new)
+      old.standing old.faults new.faults refusal
 
 -- what is said of a book over which clients are served
 abbrev pub BookSays : {Src Snk Dsk : Type 0} → Sources Src → Sinks Snk → Disks Dsk → Names
