@@ -315,19 +315,18 @@ fn members_hold_each_tick_behind_a_dwell(rt: HostRuntime) -> Result<(), Fail> {
         rolling(1, 20_000, 31, 31),
         rolling(2, 20_000, 41, 41),
     ];
-    let early = request(alloc, (6, 6), (0, 57), &stops)?;
-    let late = request(alloc, (6, 6), (0, 58), &stops)?;
     let wanted = [claim(1, 50, 60)];
-    let cases: [(&[Claim], &Request, i64, bool); 7] = [
-        (&[], &early, 17_280, true),
-        (&[], &late, 17_280, false),
-        (&[], &early, 17_279, false),
-        (&[], &early, 65, false),
-        (&wanted, &early, 57, true),
-        (&wanted, &early, 56, false),
-        (&wanted, &late, 57, true),
+    let cases: [(&[Claim], u32, i64, bool); 7] = [
+        (&[], 57, 17_280, true),
+        (&[], 58, 17_280, false),
+        (&[], 57, 17_279, false),
+        (&[], 57, 65, false),
+        (&wanted, 57, 57, true),
+        (&wanted, 57, 56, false),
+        (&wanted, 58, 57, true),
     ];
-    for (claims, asked, until, want) in cases {
+    for (claims, latest, until, want) in cases {
+        let asked = request(alloc, (6, 6), (0, latest), &stops)?;
         let halted = Row {
             block: 1,
             entered: 20_000,
@@ -343,7 +342,7 @@ fn members_hold_each_tick_behind_a_dwell(rt: HostRuntime) -> Result<(), Fail> {
             ticks: (54, until),
         };
         let rows = [before[0], before[1], before[2], halted, gone];
-        assert_eq!(rt; passes(alloc, claims, asked, &rows)?, want);
+        assert_eq!(rt; passes(alloc, claims, &asked, &rows)?, want);
     }
     Ok(())
 }
