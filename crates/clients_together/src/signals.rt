@@ -1,0 +1,86 @@
+//! What clients have come to, told between their threads.
+
+use std::alloc::{AllocError, Global};
+use std::sync::Arc;
+use std::sync::atomic::{AtomicU64, Ordering};
+use std::thread;
+use std::time::{Clock, Duration};
+
+// How often one looks for what one waits for.
+const LOOKS: u64 = 10_000_000;
+
+// After so many looks the others are let run for a while.
+const LOOKS_BEFORE_A_REST: u64 = 5_000;
+
+/// How many replies were written to A and to B, and how many searches of A found a path.
+#[derive(Drop)]
+pub struct Signals {
+    of_a: AtomicU64,
+    of_b: AtomicU64,
+    searches: AtomicU64,
+}
+
+/// What is waited for: so many replies to A, to B, and so many searches of A.
+#[derive(Clone, Copy, Debug)]
+pub struct Awaited {
+    pub of_a: u64,
+    pub of_b: u64,
+    pub searches: u64,
+}
+
+/// Whose replies are counted.
+#[derive(Clone, Copy, Debug, PartialEq, Eq)]
+pub enum Whose {
+    OfA,
+    OfB,
+    Nobodys,
+}
+
+impl Signals {
+    /// Nothing has come yet.
+    pub fn new(alloc: Global) -> Result<Arc<Signals, Global>, AllocError> {
+        let signals = Signals {
+            of_a: AtomicU64::new(0),
+            of_b: AtomicU64::new(0),
+            searches: AtomicU64::new(0),
+        };
+        Ok(Arc::new(alloc, signals)?)
+    }
+
+    /// Counts replies.
+    pub fn count(&self, whose: Whose, replies: u64) {
+        match whose {
+            Whose::OfA => {
+                self.of_a.fetch_add(replies, Ordering::SeqCst);
+            }
+            Whose::OfB => {
+                self.of_b.fetch_add(replies, Ordering::SeqCst);
+            }
+            Whose::Nobodys => {}
+        }
+    }
+
+    /// Tells that A's search of this number found a path.
+    pub fn found(&self, search: u64) {
+        self.searches.store(search, Ordering::SeqCst);
+    }
+
+    fn have_come(&self, awaited: &Awaited) -> bool {
+        self.of_a.load(Ordering::SeqCst) >= awaited.of_a
+            && self.of_b.load(Ordering::SeqCst) >= awaited.of_b
+            && self.searches.load(Ordering::SeqCst) >= awaited.searches
+    }
+
+    /// Waits until all has come that is awaited. False where one has looked for it in vain.
+    pub fn wait<R: Clock>(&self, rt: &R, awaited: &Awaited) -> bool {
+        for look in 0..LOOKS {
+            if self.have_come(awaited) {
+                return true;
+            }
+            if look % LOOKS_BEFORE_A_REST == LOOKS_BEFORE_A_REST - 1 {
+                thread::sleep(rt, Duration::from_millis(1));
+            }
+        }
+        false
+    }
+}

@@ -1,0 +1,164 @@
+//! A table's lines, one after another.
+
+use crate::files::{NamedFile, add_line, begin_file, not_understood};
+use crate::paced::Heard;
+use crate::served::serve_both;
+use crate::signals::{Awaited, Whose};
+use crate::together::{Seat, Together, sink_of};
+use osrd_stdcm::run;
+use std::alloc::{AllocError, AllocGlobal, Global};
+use std::sync::Wait;
+use std::thread::Threads;
+use std::{io, str};
+
+// What the lines so far have made.
+#[derive(Drop)]
+struct Table {
+    // What the outside's clocks are read with.
+    host: HostRuntime,
+    files: Vec<NamedFile>,
+    // Whether the lines from here on are those of the last file.
+    is_open: bool,
+    outside: Together,
+}
+
+/// Carries out a table, and prints what comes of it. The host paces the clients.
+pub fn carry_out<R: AllocGlobal + Print + Threads + Wait + Sync>(
+    rt: &R,
+    host: HostRuntime,
+    lines: &str,
+) -> io::Result<()> {
+    let files = Vec::new(rt.alloc());
+    let outside = Together::new(host, &files)?;
+    let mut table = Table {
+        host,
+        files,
+        is_open: false,
+        outside,
+    };
+    for line in lines.lines() {
+        if table.is_open {
+            take_file_line(&mut table, line)?;
+        } else {
+            carry_out_line(rt, &mut table, line)?;
+        }
+    }
+    Ok(())
+}
+
+// A line of the last file, or its end.
+fn take_file_line(table: &mut Table, line: &str) -> io::Result<()> {
+    if line == "." {
+        table.is_open = false;
+        return Ok(());
+    }
+    add_line(&mut table.files, line)
+}
+
+// A table's first word, and the rest behind a space.
+fn first_word(line: &str) -> (&str, &str) {
+    match line.split_once(' ') {
+        Some(both) => both,
+        None => (line, ""),
+    }
+}
+
+fn number_of(word: &str) -> io::Result<u64> {
+    match word.parse::<u64>() {
+        Ok(number) => Ok(number),
+        Err(_) => Err(not_understood()),
+    }
+}
+
+// A line outside files.
+fn carry_out_line<R: AllocGlobal + Print + Threads + Wait + Sync>(
+    rt: &R,
+    table: &mut Table,
+    line: &str,
+) -> io::Result<()> {
+    let (word, rest) = first_word(line);
+    match word {
+        "" | "#" => Ok(()),
+        "file" => {
+            table.is_open = true;
+            begin_file(rt.alloc(), &mut table.files, rest)
+        }
+        "case" => {
+            table.outside = Together::new(table.host, &table.files)?;
+            println!(rt; "{rest}")
+        }
+        "A" => add_paced(&mut table.outside.a, rest),
+        "B" => add_paced(&mut table.outside.b, rest),
+        "pause" => {
+            table.outside.pauses.push(number_of(rest)?)?;
+            Ok(())
+        }
+        "run" => run_words(rt, table, rest),
+        "serve" => serve(rt, table),
+        _ => Err(not_understood()),
+    }
+}
+
+// A client's line, behind the numbers of what it waits for.
+fn add_paced(seat: &mut Seat, rest: &str) -> io::Result<()> {
+    let (of_a, rest) = first_word(rest);
+    let (of_b, rest) = first_word(rest);
+    let (searches, line) = first_word(rest);
+    let awaited = Awaited {
+        of_a: number_of(of_a)?,
+        of_b: number_of(of_b)?,
+        searches: number_of(searches)?,
+    };
+    seat.add(awaited, line)
+}
+
+// The words of a line, each behind one space.
+fn words_of(alloc: Global, line: &str) -> Result<Vec<String>, AllocError> {
+    let mut words = Vec::new(alloc);
+    for word in line.split(' ') {
+        words.push(String::from_str(alloc, word)?)?;
+    }
+    Ok(words)
+}
+
+// Runs a command, with a fresh report, and prints its status and what its report and the clients' sinks hold.
+fn run_words<R: AllocGlobal + Print + Threads + Wait + Sync>(
+    rt: &R,
+    table: &mut Table,
+    words: &str,
+) -> io::Result<()> {
+    let report = sink_of(rt.alloc(), Whose::Nobodys, &table.outside.signals)?;
+    table.outside.report = Some(report);
+    let words = words_of(rt.alloc(), words)?;
+    let status = run(rt, &words, &mut table.outside).number();
+    println!(rt; "  status {status}")?;
+    print_lines(rt, "report", &table.outside.report)?;
+    print_sinks(rt, table)
+}
+
+// Serves both clients, and prints what their sinks hold.
+fn serve<R: AllocGlobal + Print + Threads + Wait + Sync>(
+    rt: &R,
+    table: &mut Table,
+) -> io::Result<()> {
+    serve_both(rt, &mut table.outside)?;
+    print_sinks(rt, table)
+}
+
+fn print_sinks<R: Print>(rt: &R, table: &Table) -> io::Result<()> {
+    print_lines(rt, "A", &table.outside.a.sink)?;
+    print_lines(rt, "B", &table.outside.b.sink)
+}
+
+fn print_lines<R: Print>(rt: &R, name: &str, sink: &Option<Heard>) -> io::Result<()> {
+    let Some(heard) = sink else {
+        return println!(rt; "  {name} is not put back");
+    };
+    let Ok(text) = str::from_utf8(heard.inside.bytes()) else {
+        return println!(rt; "  {name} is no text");
+    };
+    for line in text.lines() {
+        println!(rt; "  {name}: {line}")?;
+    }
+    Ok(())
+}
