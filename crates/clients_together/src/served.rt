@@ -17,7 +17,7 @@ use client_lines::Known;
 use client_words::{ClientWord, read_client};
 use command_files::{BaseFile, NetworkFile, read_base_file, read_network_file, read_train_file};
 use named_network::Named;
-use outside_io::{MemDisk, Outside};
+use outside_io::{Between, MemDisk, Outside, Sink, Source};
 use path_commit::Book;
 use path_recover::open;
 use rail_types::Name;
@@ -137,11 +137,12 @@ fn plans_of(alloc: Global, outside: &mut Together) -> io::Result<Plans>
     both(alloc, a, b)
 }
 
-fn both(
+// Two clients in their order.
+fn both<S: Source + Drop, T: Sink + Drop, B: Between + Drop>(
     alloc: Global,
-    a: Plan<Paced, Heard, Pause>,
-    b: Plan<Paced, Heard, Pause>,
-) -> io::Result<Plans>
+    a: Plan<S, T, B>,
+    b: Plan<S, T, B>,
+) -> io::Result<Vec<Plan<S, T, B>>>
     requires a { IsClientName a.name }
     requires b { IsClientName b.name }
     requires apart { a.name ≢ b.name }
@@ -197,19 +198,27 @@ fn name_of(alloc: Global, word: &str) -> io::Result<Name>
     Ok(name)
 }
 
-// Puts back the sinks of clients that were served.
+// Puts back the sinks of the two clients.
 fn put_back(mut sessions: Vec<Session<Paced, Heard>>, outside: &mut Together) {
-    while let Some(session) = sessions.pop() {
-        let Session {
-            name,
-            source: _source,
-            sink,
-            ended: _ended,
-        } = session;
-        if name.as_bytes() == b"A".as_slice() {
-            outside.put_back_sink("A", sink);
-        } else {
-            outside.put_back_sink("B", sink);
-        }
+    for _ in 0..2u64 {
+        let Some(session) = sessions.pop() else {
+            return;
+        };
+        put_back_one(session, outside);
+    }
+}
+
+// Puts back the sink of a client that was served.
+fn put_back_one(session: Session<Paced, Heard>, outside: &mut Together) {
+    let Session {
+        name,
+        source: _source,
+        sink,
+        ended: _ended,
+    } = session;
+    if name.as_bytes() == b"A".as_slice() {
+        outside.put_back_sink("A", sink);
+    } else {
+        outside.put_back_sink("B", sink);
     }
 }

@@ -13,12 +13,12 @@ pub fn outcome_of(alloc: Global, status: Status, outside: &MemOutside) -> io::Re
     let number = status.number();
     let mut text = format!(in alloc; "  status {number}\n")?;
     match outside.report_of() {
-        Some(report) => push_lines(&mut text, "report", report.bytes())?,
+        Some(report) => push_lines(alloc, &mut text, "report", report.bytes())?,
         None => text.push_str("  the report is not put back\n")?,
     }
     for name in SINKS {
         match outside.sink_of(name) {
-            Some(sink) => push_lines(&mut text, name, sink.bytes())?,
+            Some(sink) => push_lines(alloc, &mut text, name, sink.bytes())?,
             None => push_line(&mut text, name, "is not put back", 1)?,
         }
     }
@@ -26,22 +26,22 @@ pub fn outcome_of(alloc: Global, status: Status, outside: &MemOutside) -> io::Re
 }
 
 // Puts the lines of these bytes behind a text, equal neighbours as one with their number.
-fn push_lines(text: &mut String, name: &str, bytes: &[u8]) -> io::Result<()> {
+fn push_lines(alloc: Global, text: &mut String, name: &str, bytes: &[u8]) -> io::Result<()> {
     let Ok(lines) = str::from_utf8(bytes) else {
         return push_line(text, name, "is no text", 1);
     };
-    let mut last = "";
+    let mut last = String::new(alloc);
     let mut times = 0u64;
     for line in lines.lines() {
-        if times > 0 && line == last {
+        if times > 0 && line == last.as_str() {
             times = times.saturating_add(1);
         } else {
-            push_line(text, name, last, times)?;
-            last = line;
+            push_line(text, name, last.as_str(), times)?;
+            last = String::from_str(alloc, line)?;
             times = 1;
         }
     }
-    push_line(text, name, last, times)?;
+    push_line(text, name, last.as_str(), times)?;
     if times > 0 && !lines.ends_with('\n') {
         text.push_str("  and the line is not ended\n")?;
     }
