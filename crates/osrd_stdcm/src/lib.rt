@@ -3,6 +3,8 @@
 
 mod orders;
 mod runs;
+#[cfg(test)]
+mod tests;
 
 pub use exit_status::Status;
 pub use runs::run;
