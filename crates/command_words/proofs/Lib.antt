@@ -1,3 +1,5 @@
+pub mod Canon
+pub mod Parsed
 pub mod Agreeing
 pub mod Commands
 pub mod Errors

@@ -5,7 +5,6 @@ mod answers;
 mod asks;
 mod entries;
 mod replies;
-mod rules;
 mod shared;
 mod words;
 

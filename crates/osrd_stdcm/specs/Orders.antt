@@ -6,10 +6,9 @@ use Rattle.outside_io.specs.declared.sinks.Sink.{Ghosts as Sinks}
 use Rattle.outside_io.specs.declared.sources.Source.{Ghosts as Sources}
 use Rattle.file_rounds.specs.Scenes.{Scene}
 use Rattle.command_words.specs.declared.orders.Order.{Order}
-use Rattle.command_words.specs.declared.orders.Order.TheVariants.{Tables, Init, Stairs, Capacity, Serve, Demo}
+use Rattle.command_words.specs.declared.orders.Order.TheVariants.{Tables, Init, Stairs, Capacity, Serve}
 use Rattle.command_reports.specs.Works.{Runs}
 use Rattle.capacity_command.specs.Capacities.{stretch_of, TellsCapacity}
-use Rattle.demo_command.specs.Works.{demo_calls, DemoWorks, IsShown}
 use Rattle.init_command.specs.Works.{BeginOver, init_calls, IsDone, move_calls, MoveOver, ReadsBoth}
 use Rattle.journal_files.specs.Steps.{IsPrinted, print_calls, Prints}
 use Rattle.list_command.specs.Works.{IsListed, list_calls, ListWorks}
@@ -34,10 +33,8 @@ OrderSays source sink disk (Capacity network base journal first last from to out
     Runs sink (print_calls network base journal out)
     (Prints source sink disk network base journal out
     (TellsCapacity (stretch_of first last from to))) old new status
-OrderSays source sink disk (Serve network trains base journal clients rules) old new status =
+OrderSays source sink disk (Serve network trains base journal clients) old new status =
     RunsServe source sink disk network base trains journal clients old new status
-OrderSays source sink disk (Demo number out) old new status =
-    Runs sink (demo_calls out) (DemoWorks sink number out) old new status
 
 -- all that an order asks for was done
 abbrev pub OrderIsDone : {Src Snk Dsk : Type 0} → Sources Src → Sinks Snk → Disks Dsk → Order
@@ -53,9 +50,8 @@ OrderIsDone source sink disk (Stairs network base journal entry out) old new =
 OrderIsDone source sink disk (Capacity network base journal first last from to out) old new =
     IsPrinted source sink disk network base journal out
     (TellsCapacity (stretch_of first last from to)) old new
-OrderIsDone source sink disk (Serve network trains base journal clients rules) old new =
+OrderIsDone source sink disk (Serve network trains base journal clients) old new =
     IsServed source sink disk network base trains journal clients old new
-OrderIsDone source sink disk (Demo number out) old new = IsShown sink number out old new
 
 -- the order has no disk of this name
 abbrev pub NamesNoDisk : Order → List ℕ → Type 0
@@ -64,8 +60,7 @@ NamesNoDisk (Init network base journal None) name = name ≢ journal
 NamesNoDisk (Init network base journal (Some from)) name = (name ≢ journal) × (name ≢ from)
 NamesNoDisk (Stairs network base journal entry out) name = name ≢ journal
 NamesNoDisk (Capacity network base journal first last from to out) name = name ≢ journal
-NamesNoDisk (Serve network trains base journal clients rules) name = name ≢ journal
-NamesNoDisk (Demo number out) name = ⊤
+NamesNoDisk (Serve network trains base journal clients) name = name ≢ journal
 
 -- the order serves no clients
 abbrev pub HasNoClients : Order → Type 0
@@ -73,5 +68,4 @@ HasNoClients (Tables network out) = ⊤
 HasNoClients (Init network base journal from) = ⊤
 HasNoClients (Stairs network base journal entry out) = ⊤
 HasNoClients (Capacity network base journal first last from to out) = ⊤
-HasNoClients (Serve network trains base journal clients rules) = ⊥
-HasNoClients (Demo number out) = ⊤
+HasNoClients (Serve network trains base journal clients) = ⊥

@@ -3,8 +3,6 @@
 
 mod orders;
 mod runs;
-#[cfg(test)]
-mod tests;
 
 pub use exit_status::Status;
 pub use runs::run;

@@ -9,7 +9,6 @@ ghost use Rattle.osrd_stdcm.specs.Orders.{HasNoClients, NamesNoDisk, OrderIsDone
 
 use capacity_command::run_capacity;
 use command_words::Order;
-use demo_command::run_demo;
 use exit_status::Status;
 use init_command::{run_init, run_move};
 use list_command::run_list;
@@ -107,7 +106,6 @@ pub(crate) fn obey<R: AllocGlobal + Threads + Wait + Sync, O: Outside>(
             base,
             journal,
             clients,
-            ..
         } => run_serve(
             rt,
             network.as_str(),
@@ -117,6 +115,5 @@ pub(crate) fn obey<R: AllocGlobal + Threads + Wait + Sync, O: Outside>(
             clients.as_slice(),
             outside,
         ),
-        Order::Demo { number, out } => run_demo(rt, number, out.as_str(), outside),
     }
 }

@@ -147,8 +147,8 @@ module _ {D Src Snk Btw : Type 0} (shared : Shared D) (streams : Streams Src Snk
       let serves = seated.serving.serves in
       let gate : new.seat.shared.now ≡ shared = ap (λ s. s.now) seated.shared ∙ ready.shared_is in
       let callers : seat_callers old.seat ≡ shared_callers shared old.session.name =
-      ap {A = Shared D} {B = Callers} (λ s number. caller_of s [] old.seat.client.name number) ready.shared_is
-      ∙ ap {A = List ℕ} {B = Callers} (λ name number. caller_of shared [] name number) ready.name in record {
+      ap {A = Shared D} {B = Callers} (λ s number. caller_of s old.seat.client.name number) ready.shared_is
+      ∙ ap {A = List ℕ} {B = Callers} (λ name number. caller_of shared name number) ready.name in record {
         served = record { name = was.name; talk_name = refl; passes = was.ends.passes };
         back = record {
           ready = subst (λ (s : Shared D). IsReady s.gate new.seat.pass) gate was.seated.ready;

@@ -171,7 +171,7 @@ pub record Seated {D Btw : Type 0} (old new : Seat D Btw) (callers : Callers) (t
 
 -- the callers of a seat's lines
 abbrev pub seat_callers : {D Btw : Type 0} → Seat D Btw → Callers
-seat_callers seat = λ number. caller_of seat.shared.now [] seat.client.name number
+seat_callers seat = λ number. caller_of seat.shared.now seat.client.name number
 
 seated_more : {D Btw : Type 0} (old mid new : Seat D Btw) (before told : List Told) (number : ℕ) → Seated old mid (seat_callers old) before
     → number ≡ 1 + length before → AreAnswered AnswersAt number told mid new → Seated old new (seat_callers old) (before ++ told)
@@ -180,8 +180,8 @@ seated_more old mid new before [] number so is same =
     (subst (Seated old mid (seat_callers old)) (sym (append-nil before)) so)
 seated_more old mid new before (one ∷ told) number so is all =
     let step : AnswersAt mid number one.line one.reply all.0 = all.1 in
-    let caller : caller_of mid.shared.now [] mid.client.name number ≡ seat_callers old number =
-    ap (λ s. caller_of s.now [] mid.client.name number) so.shared ∙ ap (λ n. caller_of old.shared.now [] n number) so.name in
+    let caller : caller_of mid.shared.now mid.client.name number ≡ seat_callers old number =
+    ap (λ s. caller_of s.now mid.client.name number) so.shared ∙ ap (λ n. caller_of old.shared.now n number) so.name in
     let between = subst (λ c. AnswersBetween c one.line one.reply (view mid.pass) (view all.0.pass)) caller step.between in
     let next : Seated old all.0 (seat_callers old) (before ++ one ∷ []) = record {
       shared = step.shared ∙ so.shared;

@@ -4,7 +4,6 @@ use Rattle.book_gate.specs.Views.{StartsWith, positions}
 use Rattle.client_lines.specs.Names.{Names}
 use Rattle.grant_log.specs.Legal.{IsLegal}
 use Rattle.line_answers.specs.Answers.{Caller}
-use Rattle.line_answers.specs.Rules.{denial}
 use Rattle.line_sessions.specs.Ends.{Passes, Streams}
 use Rattle.path_commit.specs.Ledgers.{Ledger, settled_of}
 use Rattle.rail_types.specs.declared.entries.Entry.{Entry}
@@ -20,7 +19,7 @@ callers_of known timetable name = λ line_number. record {
   timetable = timetable;
   name = name;
   line_number = line_number;
-  denied = λ history line. denial [] line;
+  denied = λ history line. None;
 }
 
 -- ---- positions and owners

@@ -4,7 +4,6 @@ ghost use Rattle.std.specs.Prelude.{◌/◌};
 ghost use Rattle.book_gate.specs.Passes.{turns_left};
 ghost use Rattle.request_server.specs.Seats.{AnswersAt, IsSeated};
 
-use admission_rules::Quota;
 use book_gate::Pass;
 use byte_fields::Buffer;
 use client_turns::Client;
@@ -42,15 +41,12 @@ impl<'a, D: Disk, B: Between> Desk for Seat<'a, D, B> {
         line: &[u8],
         text: &mut Buffer,
     ) -> Result<Reply, NoMemory> {
-        // No client has rules yet.
-        let mut rules: [Quota; 0] = [];
         answer_one(
             rt,
             alloc,
             self.shared,
             &mut self.pass,
             &mut self.client,
-            &mut rules,
             line_number,
             line,
             text,

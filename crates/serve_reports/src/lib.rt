@@ -2,7 +2,6 @@
 #![tactic(auto)]
 
 mod ends;
-mod rules;
 mod texts;
 
 pub use ends::{Ends, ends_of, tell_ends};

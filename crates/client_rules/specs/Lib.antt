@@ -1,3 +1,0 @@
-pub mod Ruled
-pub mod Told
-pub mod Wishes

@@ -1,5 +1,0 @@
-pub mod Railways
-pub mod Lines
-pub mod Sessions
-pub mod Counts
-pub mod Works
