@@ -17,8 +17,8 @@ pub struct Wish {
 }
 
 /// A rule by which the grant of a path may be denied. What it says follows from a few numbers that it keeps and from the
-/// wish; they change by what it is told alone. No call takes memory.
-pub trait Rule: Send + Drop {
+/// wish; they change by what it is told alone. No call takes memory. Rules of clients that are served at once are `Send`.
+pub trait Rule: Drop {
     /// The rule's name, and what follows from its numbers. No call changes it.
     ghost sense: { Self → Sense };
 

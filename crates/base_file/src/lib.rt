@@ -15,6 +15,3 @@ pub use fault_texts::fault_text;
 pub use faults::{BaseFault, What};
 pub use files::read_base;
 pub use laws::{bases_make_timetables, first_overlaps_are_one};
-
-#[cfg(test)]
-mod tests;

@@ -1,5 +1,5 @@
 -- What comes of a batch: each place to do was answered by one worker, once, and each worker went from line to line.
-use Rattle.std.specs.Prelude.{◌≡◌, ℕ, ◌+◌, ◌≤◌, All, Contains, Option, Some, List, [], ◌∷◌, length, map, option_and_then, slice_get, slice_index_or}
+use Rattle.std.specs.Prelude.{◌≡◌, ℕ, ◌+◌, ◌≤◌, List, [], ◌∷◌, flat_map, length, map, slice_index_or}
 use Rattle.batch_pool.specs.declared.workers.Served.{Served}
 
 -- ---- one worker
@@ -31,13 +31,6 @@ AreMatched R (x ∷ xs) (y ∷ ys) = R x y × AreMatched R xs ys
 abbrev pub places : {R : Type 0} → List (ℕ × R) → List ℕ
 places answers = map (λ a. a.0) answers
 
--- the place that answer j of worker k is to
-abbrev pub place_at : {W R : Type 0} → List (Served W R) → ℕ → ℕ → Option ℕ
-place_at all k j = option_and_then (λ s. slice_get (places s.answers) j) (slice_get all k)
-
--- each place to do was answered by one worker, once, and no other place was
-pub record AreAnsweredOnce {W R : Type 0} (todo : List ℕ) (all : List (Served W R)) : Type 0 where
-  pub each : All (λ at. (k : ℕ) × (j : ℕ) × (place_at all k j ≡ Some at)) todo
-  pub once : (at k j k' j' : ℕ) → place_at all k j ≡ Some at → place_at all k' j' ≡ Some at
-      → (k ≡ k') × (j ≡ j')
-  pub only : (at k j : ℕ) → place_at all k j ≡ Some at → Contains todo at
+-- the places that all workers answered, worker by worker
+abbrev pub all_places : {W R : Type 0} → List (Served W R) → List ℕ
+all_places all = flat_map (λ s. places s.answers) all

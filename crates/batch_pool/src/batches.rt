@@ -1,8 +1,8 @@
 //! A batch.
 
-ghost use Rattle.std.specs.Prelude.{◌≡◌, ◌≢◌, ◌<◌, ◌≤◌, [], All, AllPairs, IfErr, IfOk, length, vec_capacity};
+ghost use Rattle.std.specs.Prelude.{◌≡◌, ◌<◌, ◌≤◌, [], All, IfErr, IfOk, IsPermutation, length, vec_capacity};
 ghost use Rattle.crossbeam_queue.specs.Passes.{IsPassOf};
-ghost use Rattle.batch_pool.specs.Batches.{AreAnsweredOnce, AreMatched, IsServed};
+ghost use Rattle.batch_pool.specs.Batches.{all_places, AreMatched, IsServed};
 ghost use Rattle.batch_pool.specs.Hands.{hand, knows};
 
 use crate::finishes::finish;
@@ -34,8 +34,9 @@ pub fn run_batch<R: Threads + Wait + Sync, W: Worker>(
     requires left { All (λ worker. length todo.now ≤ W.left worker) workers.items }
     requires texts { All W.is_line lines.now }
     requires below { All (λ at. at < length lines.now) todo.now }
-    requires apart { AllPairs (λ a b. a ≢ b) todo.now }
-    ensures once { IfOk result (λ served. AreAnsweredOnce todo.now served.items) }
+    // Each place to do is answered by one worker, once, and no other place is.
+    ensures once { IfOk result (λ served.
+        IsPermutation (all_places served.items) todo.now) }
     ensures served { IfOk result (λ served. AreMatched (IsServed W.gives W.left lines.now)
         workers.items served.items) }
     ensures sound { IfOk result (λ served. All (λ s. W.is_sound s.worker) served.items) }
@@ -79,14 +80,13 @@ fn answer_all<R: Threads + Wait + Sync, W: Worker>(
     requires left { All (λ worker. length todo.now ≤ W.left worker) workers.items }
     requires texts { All W.is_line lines.now }
     requires below { All (λ at. at < length lines.now) todo.now }
-    requires apart { AllPairs (λ a b. a ≢ b) todo.now }
     requires pass { IsPassOf line.now pass × (knows pass ≡ hand 1024 [] []) }
     requires rooms { length rooms.items ≡ length workers.items }
     requires empty { All (λ room. room.items ≡ []) rooms.items }
     requires room { All (λ room. vec_capacity room ≡ length todo.now) rooms.items }
     requires jobs { (jobs.items ≡ []) × (length workers.items ≤ vec_capacity jobs) }
     requires served { (served.items ≡ []) × (length workers.items ≤ vec_capacity served) }
-    ensures once { AreAnsweredOnce todo.now result.items }
+    ensures once { IsPermutation (all_places result.items) todo.now }
     ensures served { AreMatched (IsServed W.gives W.left lines.now) workers.items result.items }
     ensures sound { All (λ s. W.is_sound s.worker) result.items }
 {
@@ -107,9 +107,8 @@ fn idle<W: Worker>(
 ) -> Vec<Served<W>>
     requires none { todo.now ≡ [] }
     requires sound { All W.is_sound workers.items }
-    requires apart { AllPairs (λ a b. a ≢ b) todo.now }
     requires served { (served.items ≡ []) × (length workers.items ≤ vec_capacity served) }
-    ensures once { AreAnsweredOnce todo.now result.items }
+    ensures once { IsPermutation (all_places result.items) todo.now }
     ensures served { AreMatched (IsServed W.gives W.left lines.now) workers.items result.items }
     ensures sound { All (λ s. W.is_sound s.worker) result.items }
 {

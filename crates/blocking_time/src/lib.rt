@@ -6,8 +6,6 @@ mod laws;
 mod passages;
 mod rules;
 mod stairways;
-#[cfg(test)]
-mod tests;
 
 pub use joining::joined;
 pub use laws::{

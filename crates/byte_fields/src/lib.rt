@@ -11,6 +11,3 @@ pub use buffers::Buffer;
 pub use faults::{Over, Short};
 pub use readers::{Fields, one_form};
 pub use writers::{put_bytes, put_i64, put_u8, put_u32, put_u64};
-
-#[cfg(test)]
-mod tests;

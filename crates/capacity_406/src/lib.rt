@@ -22,8 +22,3 @@ pub use trains::{CapacityFault, Compressed, Link, Occupied, Stretch};
 
 /// Most trains of one compression.
 pub const MAX_TRAINS: u32 = 4_096;
-
-#[cfg(test)]
-mod checks;
-#[cfg(test)]
-mod tests;

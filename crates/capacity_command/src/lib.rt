@@ -6,6 +6,3 @@ mod texts;
 mod works;
 
 pub use runs::run_capacity;
-
-#[cfg(test)]
-mod tests;

@@ -2,10 +2,11 @@ pub mod Decimals
 pub mod Ticks
 pub mod Meanings
 pub mod FormLaws
-pub mod Fields
+pub mod Cutting
 pub mod Grouping
 pub mod Indexes
 pub mod Passed
 pub mod Claims
 pub mod Found
 pub mod Ranges
+pub mod Asking

@@ -1,29 +1,27 @@
 -- What is spelled is within its limits.
-use Rattle.std.proofs.Common.{◌≡◌, ap, sym, refl, subst, ℕ, zero, suc, ◌<◌, ◌≤◌, List, [], ◌∷◌, length, Option, Some, None, IfSome, arith}
-use Rattle.std.specs.List.{All, AllPairs}
+use Rattle.std.proofs.Common.{◌≡◌, ap, sym, refl, subst, ℕ, zero, suc, ◌<◌, ◌≤◌, List, [], ◌∷◌, length, Option, Some, None, arith}
+use Rattle.std.specs.List.{All}
 use Rattle.std.specs.Str.{bytes_eq}
 use Rattle.std.proofs.lemmas.List.Elements.{All-cons, All-nil}
 use Rattle.std.proofs.lemmas.List.Kept.{AllPairs-cons}
-use Rattle.rail_types.specs.declared.limits.TheConstants.{MAX_DWELL, MAX_NUMBER, MAX_REASON_BYTES}
+use Rattle.rail_types.specs.declared.limits.TheConstants.{MAX_DWELL}
 use Rattle.rail_types.specs.declared.paths.Claim.{Claim}
-use Rattle.rail_types.specs.declared.paths.Path.{Path}
 use Rattle.rail_types.specs.declared.paths.Run.{Run}
 use Rattle.rail_types.specs.declared.paths.Window.{Window}
 use Rattle.rail_types.specs.declared.tracks.Network.{Network}
 use Rattle.rail_types.specs.declared.trains.Request.{Request}
 use Rattle.rail_types.specs.declared.trains.Stop.{Stop}
 use Rattle.rail_types.specs.declared.trains.Train.{Train}
-use Rattle.rail_types.specs.Limits.{IsClaimWithinLimits, IsRunWithinLimits, IsTrainWithinLimits, IsWindowWithinLimits}
+use Rattle.rail_types.specs.Limits.{IsClaimWithinLimits, IsRequestWithinLimits, IsRunWithinLimits, IsTrainWithinLimits, IsWindowWithinLimits}
 use Rattle.rail_types.specs.Occupation.{EndsBefore, HasTicks}
-use Rattle.train_file.specs.Trains.{train_named}
 use Rattle.client_lines.specs.declared.asks.Line.{Line}
 use Rattle.client_lines.specs.declared.asks.Ask.{Ask}
 use Rattle.client_lines.specs.declared.asks.Word.{Word}
 use Rattle.client_lines.specs.declared.asks.Word.TheVariants as word
 use Rattle.client_lines.specs.Forms.{Form, Spells}
-use Rattle.client_lines.specs.Lines.{a_claim, a_free, a_hold, a_holds, a_line, a_pin, a_point, a_reason, a_run, a_show, a_stop, a_train, a_window, an_ask, behind, behind_first, groups}
+use Rattle.client_lines.specs.Lines.{a_claim, a_free, a_hold, a_holds, a_line, a_pin, a_point, a_request, a_run, a_show, a_stop, a_train, a_window, an_ask, behind, behind_first, groups}
 use Rattle.client_lines.specs.Names.{Names}
-use Rattle.client_lines.specs.Within.{AreSound, IsAskWithin, IsLineWithin}
+use Rattle.client_lines.specs.Within.{AreSound, HasPoints, IsAskWithin, IsLineWithin}
 use Rattle.client_lines.proofs.Claims.{groups_apart, none_apart}
 use Rattle.client_lines.proofs.Found.{found_one, place_within, reason_short}
 
@@ -135,10 +133,10 @@ module _ (known : Names) where
           seconds IsRunWithinLimits (λ run. run.block < length net.blocks) s.5.5.5.0 runs.0,
         )
 
-    ask_within : (fields : List (List ℕ)) (ask : Ask) → Spells (an_ask known) fields ask → IsAskWithin net ask
-    unfolding an_ask
-    ask_within fields ask s =
-        let train = s.5 in
+    request_within : (fields : List (List ℕ)) (request : Request) → Spells (a_request known) fields request → IsRequestWithinLimits request × HasPoints net request
+    unfolding a_request
+    request_within fields request s =
+        let train = s in
         let origin = train.5 in
         let destination = origin.5 in
         let depart = destination.5 in
@@ -146,8 +144,7 @@ module _ (known : Names) where
         let count = arrive.5 in
         let listed = count.5 in
         let stops = groups_all IsStopOf (a_stop known) stop_within count.0 None listed.1 listed.0 listed.4 in
-        subst (IsAskWithin net) (sym listed.5.1) (
-          omega (arith, s.4.2.3),
+        subst (λ (one : Request). IsRequestWithinLimits one × HasPoints net one) (sym listed.5.1) (
           record {
             train = train_within train.1 train.0 train.4;
             depart = window_within depart.1 depart.0 depart.4;
@@ -161,6 +158,12 @@ module _ (known : Names) where
             stops = seconds (λ stop. stop.dwell ≤ MAX_DWELL) (λ stop. stop.stop < net.stops) listed.0 stops.0;
           },
         )
+
+    ask_within : (fields : List (List ℕ)) (ask : Ask) → Spells (an_ask known) fields ask → IsAskWithin net ask
+    unfolding an_ask
+    ask_within fields ask s =
+        let request = request_within s.5.1 s.5.0 s.5.4 in
+        subst (IsAskWithin net) (sym s.5.5.1) (omega (arith, s.4.2.3), request.0, request.1)
 
     free_within : (fields : List (List ℕ)) (ask : Ask) → Spells a_free fields ask → IsAskWithin net ask
     unfolding a_free

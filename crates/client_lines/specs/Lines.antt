@@ -5,6 +5,7 @@ use Rattle.rail_types.specs.declared.limits.TheConstants.{MAX_NUMBER, MAX_STOPS,
 use Rattle.rail_types.specs.declared.paths.Claim.{Claim}
 use Rattle.rail_types.specs.declared.paths.Run.{Run}
 use Rattle.rail_types.specs.declared.paths.Window.{Window}
+use Rattle.rail_types.specs.declared.trains.Request.{Request}
 use Rattle.rail_types.specs.declared.trains.Stop.{Stop}
 use Rattle.rail_types.specs.declared.trains.Train.{Train}
 use Rattle.train_file.specs.Trains.{train_named}
@@ -118,10 +119,9 @@ a_pin known = do
   runs ← groups (a_run known) None count
   done (asks.Pin number (record { train = train; runs = runs }))
 
--- NUMBER TRAIN ORIGIN DESTINATION DEPART_FROM DEPART_TO ARRIVE_FROM ARRIVE_TO COUNT, then COUNT times STOP DWELL
-unfoldable pub an_ask : Names → Form Ask
-an_ask known = do
-  number ← a_position
+-- TRAIN ORIGIN DESTINATION DEPART_FROM DEPART_TO ARRIVE_FROM ARRIVE_TO COUNT, then COUNT times STOP DWELL
+unfoldable pub a_request : Names → Form Request
+a_request known = do
   train ← a_train known
   origin ← a_point known
   destination ← a_point known
@@ -129,14 +129,21 @@ an_ask known = do
   arrive ← a_window
   count ← one (a_number 0 (MAX_STOPS + 1))
   stops ← groups (a_stop known) None count
-  done (asks.Path number (record {
+  done (record {
     train = train;
     origin = origin;
     destination = destination;
     depart = depart;
     arrive = arrive;
     stops = stops;
-  }))
+  })
+
+-- NUMBER, and what is requested
+unfoldable pub an_ask : Names → Form Ask
+an_ask known = do
+  number ← a_position
+  request ← a_request known
+  done (asks.Path number request)
 
 -- NUMBER ENTRY
 unfoldable pub a_free : Form Ask

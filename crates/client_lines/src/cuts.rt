@@ -27,7 +27,7 @@ fn cut_at(byte: u8, bytes: &[u8]) -> Option<(&[u8], &[u8])>
 
 /// The fields of a line that are left, from the left, with the number of the first of them.
 #[derive(Drop)]
-pub(crate) struct Fields<'a> {
+pub struct Fields<'a> {
     at: u32,
     rest: &'a [u8],
     is_done: bool,
@@ -49,7 +49,8 @@ impl<'a> Model for Fields<'a> {
 }
 
 impl<'a> Fields<'a> {
-    pub(crate) fn new(line: &'a [u8]) -> Self
+    /// The fields of a line.
+    pub fn new(line: &'a [u8]) -> Self
         requires { length line.now + 2 < 2 ^ 32 }
         ensures at { result.at ≡ 1 }
         ensures fields { result.fields ≡ fields_of line.now }
@@ -62,14 +63,14 @@ impl<'a> Fields<'a> {
     }
 
     /// The number of the next field.
-    pub(crate) fn at(&self) -> u32
+    pub fn at(&self) -> u32
         ensures { result ≡ self.now.at }
     {
         self.at
     }
 
     /// The next field, and None behind the last.
-    pub(crate) fn next(&mut self) -> Option<&'a [u8]>
+    pub fn next(&mut self) -> Option<&'a [u8]>
         ensures field { option_map (λ field. field.now) result ≡ slice_get self.old.fields 0 }
         ensures others { self.new.fields ≡ drop 1 self.old.fields }
         ensures at { IfSome result (λ field. self.new.at ≡ self.old.at + 1) }
@@ -92,7 +93,7 @@ impl<'a> Fields<'a> {
     }
 
     /// Takes the next field, a number from `least` on and below `end`.
-    pub(crate) fn number(&mut self, least: u64, end: u64) -> Result<u64, LineFault>
+    pub fn number(&mut self, least: u64, end: u64) -> Result<u64, LineFault>
         ensures said { Gives self.new result (read (one (a_number least end)) self.old) }
         ensures within { IfOk result (λ number. number < end) }
     {
@@ -107,7 +108,7 @@ impl<'a> Fields<'a> {
     }
 
     /// Takes the next field, a number from `least` on and below `end`.
-    pub(crate) fn small_number(&mut self, least: u32, end: u32) -> Result<u32, LineFault>
+    pub fn small_number(&mut self, least: u32, end: u32) -> Result<u32, LineFault>
         ensures said { Gives self.new result (read (one (a_number least end)) self.old) }
         ensures within { IfOk result (λ number. number < end) }
     {
@@ -117,7 +118,7 @@ impl<'a> Fields<'a> {
 
     #[tactic(auto, using(crate::proofs::Passed::passed))]
     /// Takes the next field, a tick that is later than `before` where that is given.
-    pub(crate) fn tick(&mut self, before: &Option<Tick>) -> Result<Tick, LineFault>
+    pub fn tick(&mut self, before: &Option<Tick>) -> Result<Tick, LineFault>
         ensures { Gives self.new result (read (one (a_tick before.now)) self.old) }
     {
         let at = self.at;
@@ -131,7 +132,7 @@ impl<'a> Fields<'a> {
     }
 
     /// Takes the next field, and tells the name that it spells.
-    pub(crate) fn name(&mut self, alloc: Global) -> Result<Option<Vec<u8>>, NoMemory>
+    pub fn name(&mut self, alloc: Global) -> Result<Option<Vec<u8>>, NoMemory>
         ensures name { IfOk result (λ name. option_map (λ bytes. bytes.items) name
             ≡ option_and_then field_name (slice_get self.old.fields 0)) }
         ensures others { OnOk result (self.new.fields ≡ drop 1 self.old.fields) }

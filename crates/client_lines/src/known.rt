@@ -85,7 +85,7 @@ impl Known {
     }
 
     /// How many blocks there are.
-    pub(crate) fn blocks(&self) -> u32
+    pub fn blocks(&self) -> u32
         ensures { result ≡ length self.now.railway.network.blocks }
     {
         self.railway.network.blocks.len() as u32

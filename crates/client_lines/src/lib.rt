@@ -11,12 +11,11 @@ mod laws;
 mod lines;
 mod numbers;
 mod places;
-#[cfg(test)]
-mod tests;
 mod words;
 
 pub use asks::{Ask, Line};
+pub use cuts::Fields;
 pub use faults::LineFault;
 pub use known::Known;
-pub use laws::lines_are_within_limits;
-pub use lines::{MAX_LINE_BYTES, read_line};
+pub use laws::{asks_spell_requests, lines_are_within_limits};
+pub use lines::{MAX_LINE_BYTES, read_line, read_request};

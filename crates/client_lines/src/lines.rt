@@ -5,7 +5,7 @@ ghost use Rattle.client_lines.specs.Cuts.{fields_of};
 ghost use Rattle.client_lines.specs.declared.asks.Line.{Line as line_type};
 ghost use Rattle.client_lines.specs.declared.lines.TheConstants.{MAX_LINE_BYTES};
 ghost use Rattle.client_lines.specs.Forms.{IsFirstWrong, Spells};
-ghost use Rattle.client_lines.specs.Lines.{a_free, a_hold, a_holds, a_line, a_pin, a_show, an_ask, behind, behind_first};
+ghost use Rattle.client_lines.specs.Lines.{a_free, a_hold, a_holds, a_line, a_pin, a_request, a_show, an_ask, behind, behind_first};
 ghost use Rattle.client_lines.specs.Reading.{Gives, GivesAll, line_reading, read, RefusesFirst};
 
 use crate::asks::{Ask, Line, Word};
@@ -72,11 +72,15 @@ fn read_pin(alloc: Global, fields: &mut Fields<'_>, known: &Known) -> Result<Ask
     Ok(Ask::Pin(number, Path { train, runs }))
 }
 
-#[tactic(auto, unfolding(crate::specs::Lines::an_ask))]
-fn read_ask(alloc: Global, fields: &mut Fields<'_>, known: &Known) -> Result<Ask, LineFault>
-    ensures { Gives fields.new result (read (an_ask known.now) fields.old) }
+/// Takes the fields of a request: its train, its points, its windows and its stops.
+#[tactic(auto, unfolding(crate::specs::Lines::a_request))]
+pub fn read_request(
+    alloc: Global,
+    fields: &mut Fields<'_>,
+    known: &Known,
+) -> Result<Request, LineFault>
+    ensures { Gives fields.new result (read (a_request known.now) fields.old) }
 {
-    let number = read_position(fields)?;
     let train = read_train(alloc, fields, known)?;
     let origin = read_point(alloc, fields, known)?;
     let destination = read_point(alloc, fields, known)?;
@@ -84,14 +88,22 @@ fn read_ask(alloc: Global, fields: &mut Fields<'_>, known: &Known) -> Result<Ask
     let arrive = read_window(fields)?;
     let count = fields.small_number(0, MAX_STOPS + 1)?;
     let stops = read_groups(alloc, fields, known, count as usize)?;
-    let request = Request {
+    Ok(Request {
         train,
         origin,
         destination,
         depart,
         arrive,
         stops,
-    };
+    })
+}
+
+#[tactic(auto, unfolding(crate::specs::Lines::an_ask))]
+fn read_ask(alloc: Global, fields: &mut Fields<'_>, known: &Known) -> Result<Ask, LineFault>
+    ensures { Gives fields.new result (read (an_ask known.now) fields.old) }
+{
+    let number = read_position(fields)?;
+    let request = read_request(alloc, fields, known)?;
     Ok(Ask::Path(number, request))
 }
 

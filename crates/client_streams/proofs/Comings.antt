@@ -1,7 +1,7 @@
 -- Streams put back from the last client on.
-use Rattle.std.proofs.Common.{◌≡◌, ◌≤◌, ◌<◌, ◌+◌, ◌∙◌, ◌++◌, ℕ, zero, suc, List, [], ◌∷◌, get_or, length, drop, take, refl, sym, ap, subst, arith, length-append}
+use Rattle.std.proofs.Common.{◌≡◌, ◌≤◌, ◌<◌, ◌∙◌, ◌++◌, ℕ, zero, suc, List, [], ◌∷◌, get_or, length, drop, take, refl, sym, ap, subst, arith, length-append}
 use Rattle.std.proofs.Common.{drop-cons}
-use Rattle.std.proofs.lemmas.List.{append-nil, append_assoc, get_or-take, length-take, take_all}
+use Rattle.std.proofs.lemmas.List.{append-nil, append_assoc, get_or-take, length-take}
 use Rattle.file_rounds.specs.Scenes.{Scene}
 use Rattle.client_streams.specs.Lending.{AreIn, IsIn}
 use Rattle.client_words.specs.declared.clients.ClientWord.{ClientWord}

@@ -1,5 +1,5 @@
 -- Pairs of elements, lists side by side, and fronts of lists of calls.
-use Rattle.std.proofs.Common.{◌≡◌, ◌≤◌, ◌∙◌, ◌++◌, ℕ, zero, suc, List, [], ◌∷◌, All, AllPairs, Option, Some, None, get_or, length, map, take, drop, refl, sym, ap, subst, arith}
+use Rattle.std.proofs.Common.{◌≡◌, ◌∙◌, ◌++◌, ℕ, zero, suc, List, [], ◌∷◌, All, AllPairs, Option, Some, None, get_or, map, take, drop, refl, ap, subst, arith}
 use Rattle.std.proofs.lemmas.List.{append_assoc, get_or_append_left, length-append}
 use Rattle.std.proofs.lemmas.List.Elements.{All-cons, All-head, All-nil, All-tail}
 use Rattle.outside_io.specs.Openings.{Opening, Opens as CallsOf}
@@ -20,6 +20,11 @@ module _ {X : Type 0} (R : X → X → Type 0) where
 
   pub pairs_tail : (x : X) (xs : List X) → AllPairs R (x ∷ xs) → AllPairs R xs
   pairs_tail x xs h i j d lt within = h (suc i) (suc j) d (omega arith) (omega arith)
+
+  pub pairs_drop : (n : ℕ) (xs : List X) → AllPairs R xs → AllPairs R (drop n xs)
+  pairs_drop zero xs h = h
+  pairs_drop (suc n) [] h = h
+  pairs_drop (suc n) (x ∷ xs) h = pairs_drop n xs (pairs_tail x xs h)
 
   pub pairs_front : (xs ys : List X) → AllPairs R (xs ++ ys) → AllPairs R xs
   pairs_front xs ys h i j d lt within =

@@ -1,9 +1,9 @@
 -- Streams that go out and come in again, one client within another.
-use Rattle.std.proofs.Common.{◌≡◌, ◌≢◌, ◌∙◌, ◌++◌, ℕ, List, [], ◌∷◌, All, AllPairs, Option, Result, Ok, inl, inr, refl, sym, ap, subst}
-use Rattle.std.proofs.lemmas.List.Elements.{All-cons, All-head, All-nil, All-tail}
+use Rattle.std.proofs.Common.{◌≡◌, ◌≢◌, ◌∙◌, ◌++◌, ℕ, List, [], ◌∷◌, All, AllPairs, refl, sym, ap, subst}
+use Rattle.std.proofs.lemmas.List.Elements.{All-head, All-tail}
 use Rattle.outside_io.specs.declared.failures.Failed.{Failed}
-use Rattle.outside_io.specs.Openings.{Opening, source_at, sink_at, Opens as CallsOf, Standing, Undisturbed}
-use Rattle.outside_io.specs.Places.{Place, Untouched, place_once_opened, place_once_returned}
+use Rattle.outside_io.specs.Openings.{Opening, source_at, sink_at, Opens as CallsOf}
+use Rattle.outside_io.specs.Places.{Place, place_once_returned}
 use Rattle.outside_io.proofs.Places.{Untouched-round}
 use Rattle.file_rounds.specs.Scenes.{Scene}
 use Rattle.command_reports.specs.Works.{Keeps, Misses}

@@ -1,5 +1,5 @@
 -- What was handed out and comes in again.
-use Rattle.std.proofs.Common.{◌≡◌, ◌≢◌, ◌⊎◌, ◌∙◌, ℕ, List, Result, Ok, inl, inr, refl, sym, ap}
+use Rattle.std.proofs.Common.{◌≡◌, ◌≢◌, ◌⊎◌, ◌∙◌, Ok, inl, inr, refl, ap}
 use Rattle.outside_io.specs.declared.failures.Failed.{Failed}
 use Rattle.outside_io.specs.Openings.{Opening, source_at, sink_at, the_report, disk_at, Standing, untold, ready, taken, absent, Answers, Foretells, StandsAgain, standing_once_opened, standing_once_returned, Undisturbed}
 use Rattle.outside_io.proofs.Names.{name_cases}

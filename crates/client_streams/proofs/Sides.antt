@@ -1,16 +1,16 @@
 -- A sink that could not be opened, once the source of its client was.
-use Rattle.std.proofs.Common.{◌≡◌, ◌≢◌, ◌∙◌, ℕ, List, [], ◌∷◌, Option, Result, Ok, Err, codes, inl, inr, refl, sym, ap, subst}
+use Rattle.std.proofs.Common.{◌≡◌, ◌∙◌, ℕ, List, [], ◌∷◌, Option, Err, codes, inl, inr, sym, subst}
 use Rattle.outside_io.specs.Faults.{Rose}
 use Rattle.outside_io.specs.declared.failures.Failed.{Failed}
-use Rattle.outside_io.specs.Openings.{Answers, Foretells, Opening, Opens as CallsOf, source_at, sink_at, Standing, untold, ready, taken, absent, Undisturbed}
+use Rattle.outside_io.specs.Openings.{Answers, Foretells, Opening, Opens as CallsOf, source_at, sink_at, Standing, untold, ready, taken, absent}
 use Rattle.outside_io.specs.Places.{HandsOut, Untouched}
 use Rattle.outside_io.proofs.Places.{Untouched-round}
 use Rattle.exit_status.specs.declared.Status.TheVariants.{Opening as not_opened}
 use Rattle.file_rounds.specs.Scenes.{IsReady, Scene}
 use Rattle.command_reports.specs.Refusals.{IsTold, line_with}
 use Rattle.command_reports.specs.declared.refusals.Refusal.{Refusal}
-use Rattle.client_streams.specs.Lending.{IsAsBefore, SourceIsIn, SourceIsOut}
-use Rattle.client_streams.specs.Refusing.{ClientStops, SinkStops}
+use Rattle.client_streams.specs.Lending.{SourceIsIn, SourceIsOut}
+use Rattle.client_streams.specs.Refusing.{ClientStops}
 use Rattle.client_words.specs.declared.clients.ClientWord.{ClientWord}
 use Rattle.client_streams.proofs.Lists.{calls_both}
 use Rattle.client_streams.proofs.Rounds.{open_told, stands_round}

@@ -1,5 +1,5 @@
 -- A client whose streams could not be opened, behind others whose streams were.
-use Rattle.std.proofs.Common.{◌≡◌, ◌≢◌, ◌∙◌, ◌++◌, ℕ, List, [], ◌∷◌, All, AllPairs, Option, Result, Ok, inl, inr, refl, sym, ap, subst, take}
+use Rattle.std.proofs.Common.{◌≡◌, ◌≢◌, ◌∙◌, ◌++◌, ℕ, List, [], ◌∷◌, All, AllPairs, Option, inl, inr, refl, sym, ap, subst, take}
 use Rattle.std.proofs.lemmas.List.{append_assoc}
 use Rattle.std.proofs.lemmas.List.Elements.{All-cons, All-head, All-nil, All-push, All-tail, All-weaker}
 use Rattle.outside_io.specs.Faults.{Rose}
@@ -11,7 +11,7 @@ use Rattle.command_reports.specs.declared.refusals.Refusal.TheVariants.{Memory}
 use Rattle.command_reports.specs.Works.{Misses}
 use Rattle.client_streams.specs.Clients.{client_calls}
 use Rattle.client_streams.specs.Lending.{AreIn, AreOut, IsAsBefore}
-use Rattle.client_streams.specs.Refusing.{AreMade, CannotOpen, ClientStops, IsOpen, IsStopped, SinkStops, SourceStops, WhyStopped}
+use Rattle.client_streams.specs.Refusing.{ClientStops, IsOpen, IsStopped, SinkStops, SourceStops, WhyStopped}
 use Rattle.client_words.specs.declared.clients.ClientWord.{ClientWord}
 use Rattle.client_streams.proofs.Lists.{all_left, all_right, calls_both, front_taken, pairs_front, pairs_head, pairs_last, pairs_tail}
 use Rattle.client_streams.proofs.Nests.{as_before, in_calls, in_quiet, misses_sink, misses_source, nested_same, out_calls, out_quiet}

@@ -1,5 +1,5 @@
 -- Clients as words tell them, and what their streams become.
-use Rattle.std.specs.Prelude.{◌≡◌, ◌≢◌, ℕ, ◌≤◌, List, [], ◌∷◌, All, AllPairs, length}
+use Rattle.std.specs.Prelude.{◌≡◌, ◌≢◌, ◌≤◌, List, [], ◌∷◌, All, AllPairs, length}
 use Rattle.outside_io.specs.Openings.{Opening, source_at, sink_at}
 use Rattle.outside_io.specs.Places.{IsKeptAt, Place, place_once_opened, place_once_returned}
 use Rattle.rail_types.specs.Limits.{IsClientName}

@@ -1,6 +1,6 @@
 -- Streams that are out, and streams that come in again.
 use Rattle.std.specs.Prelude.{◌≡◌, ℕ, List, [], ◌∷◌, Ok}
-use Rattle.outside_io.specs.Openings.{Answers, Opening, source_at, sink_at, StandsAgain, Undisturbed}
+use Rattle.outside_io.specs.Openings.{Answers, source_at, sink_at, StandsAgain, Undisturbed}
 use Rattle.outside_io.specs.Openings.{Opens as CallsOf}
 use Rattle.outside_io.specs.Places.{HandsOut, TakesBack, Untouched}
 use Rattle.outside_io.specs.declared.failures.Failed.{Failed}
@@ -10,10 +10,10 @@ use Rattle.request_server.specs.declared.plans.Session.{Session}
 use Rattle.client_words.specs.declared.clients.ClientWord.{ClientWord}
 
 -- the streams of a client that is to be served, and of one that was
-abbrev pub streams_of : {Src Snk Btw : Type 0} → Plan Src Snk Btw → Src × Snk
+abbrev pub streams_of : {Src Snk Btw L : Type 0} → Plan Src Snk Btw L → Src × Snk
 streams_of plan = (plan.source, plan.sink)
 
-abbrev pub returned_of : {Src Snk : Type 0} → Session Src Snk → Src × Snk
+abbrev pub returned_of : {Src Snk L : Type 0} → Session Src Snk L → Src × Snk
 returned_of session = (session.source, session.sink)
 
 -- nothing changed but the calls that were made and the faults that were counted

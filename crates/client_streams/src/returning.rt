@@ -4,14 +4,15 @@ ghost use Rattle.std.specs.Prelude.{◌≤◌, length, map, take};
 ghost use Rattle.file_rounds.specs.Scenes.{scene};
 ghost use Rattle.client_streams.specs.Lending.{AreIn, IsIn, returned_of, streams_of};
 
+use admission_rules::Rule;
 use client_words::ClientWord;
 use outside_io::{NoBetween, Outside};
 use request_server::{Plan, Session};
 
 /// Puts back the sources and sinks of the first clients, so many as there are plans, the last of them first.
-pub fn put_back_plans<O: Outside>(
+pub fn put_back_plans<O: Outside, L: Rule>(
     clients: &[ClientWord],
-    mut plans: Vec<Plan<O::Src, O::Snk, NoBetween>>,
+    mut plans: Vec<Plan<O::Src, O::Snk, NoBetween, L>>,
     outside: &mut O,
 )
     requires many { length plans.items ≤ length clients.now }
@@ -25,15 +26,16 @@ pub fn put_back_plans<O: Outside>(
             source,
             sink,
             between: NoBetween,
+            rules: _rules,
         } = plan;
         put_back_client(&clients[plans.len()], source, sink, outside);
     }
 }
 
 /// Puts back the sources and sinks of clients that were served, the last of them first.
-pub fn put_back_sessions<O: Outside>(
+pub fn put_back_sessions<O: Outside, L: Rule>(
     clients: &[ClientWord],
-    mut sessions: Vec<Session<O::Src, O::Snk>>,
+    mut sessions: Vec<Session<O::Src, O::Snk, L>>,
     outside: &mut O,
 )
     requires many { length sessions.items ≤ length clients.now }
@@ -47,6 +49,7 @@ pub fn put_back_sessions<O: Outside>(
             source,
             sink,
             ended: _ended,
+            rules: _rules,
         } = session;
         put_back_client(&clients[sessions.len()], source, sink, outside);
     }

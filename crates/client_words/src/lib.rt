@@ -6,3 +6,4 @@ mod distinct;
 mod parts;
 
 pub use clients::{ClientWord, MAX_CLIENTS, read_client, read_clients};
+pub use parts::cut_at_colon;

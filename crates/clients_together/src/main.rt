@@ -4,6 +4,7 @@
 #![tactic(auto)]
 
 mod files;
+mod own;
 mod paced;
 mod served;
 mod signals;

@@ -10,8 +10,10 @@ ghost use Rattle.rail_types.specs.Timetables.{IsTimetable, timetable_of};
 ghost use Rattle.serve_command.specs.Serving.{names_of};
 
 use crate::files::not_understood;
+use crate::own::Own;
 use crate::paced::{Heard, Paced, Pause};
 use crate::together::Together;
+use admission_rules::Rule;
 use base_file::bases_make_timetables;
 use client_lines::Known;
 use client_words::{ClientWord, read_client};
@@ -28,8 +30,8 @@ use std::sync::Wait;
 use std::thread::Threads;
 use train_file::Trains;
 
-// Both clients with their streams.
-type Plans = Vec<Plan<Paced, Heard, Pause>>;
+// Both clients with their streams, and without rules.
+type Plans = Vec<Plan<Paced, Heard, Pause, Own>>;
 
 /// Serves both clients over the journal, as the command does, and puts back their sinks and the disk.
 pub fn serve_both<R: AllocGlobal + Threads + Wait + Sync>(
@@ -138,11 +140,11 @@ fn plans_of(alloc: Global, outside: &mut Together) -> io::Result<Plans>
 }
 
 // Two clients in their order.
-fn both<S: Source + Drop, T: Sink + Drop, B: Between + Drop>(
+fn both<S: Source + Drop, T: Sink + Drop, B: Between + Drop, L: Rule>(
     alloc: Global,
-    a: Plan<S, T, B>,
-    b: Plan<S, T, B>,
-) -> io::Result<Vec<Plan<S, T, B>>>
+    a: Plan<S, T, B, L>,
+    b: Plan<S, T, B, L>,
+) -> io::Result<Vec<Plan<S, T, B, L>>>
     requires a { IsClientName a.name }
     requires b { IsClientName b.name }
     requires apart { a.name ≢ b.name }
@@ -164,7 +166,7 @@ fn plan_of(
     client: &str,
     input: &str,
     outside: &mut Together,
-) -> io::Result<Plan<Paced, Heard, Pause>>
+) -> io::Result<Plan<Paced, Heard, Pause, Own>>
     ensures { IfOk result (λ plan. IsClientName plan.name) }
 {
     let name = name_of(alloc, word)?;
@@ -180,6 +182,7 @@ fn plan_of(
         source,
         sink,
         between,
+        rules: Vec::new(alloc),
     })
 }
 
@@ -199,7 +202,7 @@ fn name_of(alloc: Global, word: &str) -> io::Result<Name>
 }
 
 // Puts back the sinks of the two clients.
-fn put_back(mut sessions: Vec<Session<Paced, Heard>>, outside: &mut Together) {
+fn put_back(mut sessions: Vec<Session<Paced, Heard, Own>>, outside: &mut Together) {
     for _ in 0..2u64 {
         let Some(session) = sessions.pop() else {
             return;
@@ -209,12 +212,13 @@ fn put_back(mut sessions: Vec<Session<Paced, Heard>>, outside: &mut Together) {
 }
 
 // Puts back the sink of a client that was served.
-fn put_back_one(session: Session<Paced, Heard>, outside: &mut Together) {
+fn put_back_one(session: Session<Paced, Heard, Own>, outside: &mut Together) {
     let Session {
         name,
         source: _source,
         sink,
         ended: _ended,
+        rules: _rules,
     } = session;
     if name.as_bytes() == b"A".as_slice() {
         outside.put_back_sink("A", sink);

@@ -1,15 +1,25 @@
 //! A table's lines, one after another.
 
 use crate::files::{NamedFile, add_line, begin_file, not_understood};
+use crate::own::{Own, Watched};
 use crate::paced::Heard;
 use crate::served::serve_both;
 use crate::signals::{Awaited, Whose};
 use crate::together::{Seat, Together, sink_of};
+use client_rules::ClientRules;
 use osrd_stdcm::run;
+use rail_types::Name;
 use std::alloc::{AllocError, AllocGlobal, Global};
-use std::sync::Wait;
+use std::sync::{Arc, Wait};
 use std::thread::Threads;
-use std::{io, str};
+use std::{io, mem, str};
+
+// A rule that was handed in for a client, as it is seen from outside.
+#[derive(Drop)]
+struct Handed {
+    client: String,
+    watched: Arc<Watched, Global>,
+}
 
 // What the lines so far have made.
 #[derive(Drop)]
@@ -20,6 +30,9 @@ struct Table {
     // Whether the lines from here on are those of the last file.
     is_open: bool,
     outside: Together,
+    // The rules for the next run, and all that were made for the case.
+    rules: Vec<ClientRules<Own>>,
+    handed: Vec<Handed>,
 }
 
 /// Carries out a table, and prints what comes of it. The host paces the clients.
@@ -35,6 +48,8 @@ pub fn carry_out<R: AllocGlobal + Print + Threads + Wait + Sync>(
         files,
         is_open: false,
         outside,
+        rules: Vec::new(rt.alloc()),
+        handed: Vec::new(rt.alloc()),
     };
     for line in lines.lines() {
         if table.is_open {
@@ -85,6 +100,7 @@ fn carry_out_line<R: AllocGlobal + Print + Threads + Wait + Sync>(
         }
         "case" => {
             table.outside = Together::new(table.host, &table.files)?;
+            table.handed = Vec::new(rt.alloc());
             println!(rt; "{rest}")
         }
         "A" => add_paced(&mut table.outside.a, rest),
@@ -93,6 +109,7 @@ fn carry_out_line<R: AllocGlobal + Print + Threads + Wait + Sync>(
             table.outside.pauses.push(number_of(rest)?)?;
             Ok(())
         }
+        "own" => add_rule(rt.alloc(), table, rest),
         "run" => run_words(rt, table, rest),
         "serve" => serve(rt, table),
         _ => Err(not_understood()),
@@ -110,6 +127,28 @@ fn add_paced(seat: &mut Seat, rest: &str) -> io::Result<()> {
         searches: number_of(searches)?,
     };
     seat.add(awaited, line)
+}
+
+// A rule of the table's own for a client.
+fn add_rule(alloc: Global, table: &mut Table, client: &str) -> io::Result<()> {
+    let watched = Watched::new(alloc)?;
+    let own = Own::new(Arc::try_clone(&watched)?);
+    table.handed.push(Handed {
+        client: String::from_str(alloc, client)?,
+        watched,
+    })?;
+    let rules = rules_of(alloc, client, own)?;
+    table.rules.push(rules)?;
+    Ok(())
+}
+
+fn rules_of(alloc: Global, client: &str, own: Own) -> io::Result<ClientRules<Own>> {
+    let Ok(client) = Name::from_bytes(alloc, client.as_bytes()) else {
+        return Err(AllocError.into());
+    };
+    let mut rules = Vec::new(alloc);
+    rules.push(own)?;
+    Ok(ClientRules { client, rules })
 }
 
 // The words of a line, each behind one space.
@@ -130,10 +169,26 @@ fn run_words<R: AllocGlobal + Print + Threads + Wait + Sync>(
     let report = sink_of(rt.alloc(), Whose::Nobodys, &table.outside.signals)?;
     table.outside.report = Some(report);
     let words = words_of(rt.alloc(), words)?;
-    let status = run(rt, &words, &mut table.outside).number();
+    let rules = mem::replace(&mut table.rules, Vec::new(rt.alloc()));
+    let status = run(rt, &words, &mut table.outside, rules).number();
     println!(rt; "  status {status}")?;
     print_lines(rt, "report", &table.outside.report)?;
-    print_sinks(rt, table)
+    print_sinks(rt, table)?;
+    print_rules(rt, table)
+}
+
+// Prints what became of the rules that were handed in.
+fn print_rules<R: Print>(rt: &R, table: &Table) -> io::Result<()> {
+    for rule in &table.handed {
+        let client = rule.client.as_str();
+        let tallies = rule.watched.tallies();
+        let drops = rule.watched.drops();
+        let before = rule.watched.tallies_at_drop();
+        println!(rt;
+            "  own-7 of {client}: tally read {tallies}, dropped {drops}, read before the drop {before}"
+        )?;
+    }
+    Ok(())
 }
 
 // Serves both clients, and prints what their sinks hold.

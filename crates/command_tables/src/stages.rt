@@ -4,7 +4,7 @@ use crate::files::NamedFile;
 use crate::fused::Fused;
 use crate::outcomes::{SINKS, outcome_of};
 use no_memory::NoMemory;
-use osrd_stdcm::run;
+use osrd_stdcm::{rules_of_words, run};
 use outside_io::{MemDisk, MemOutside, MemSink, MemSource};
 use std::alloc::{AllocGlobal, Global};
 use std::io;
@@ -69,7 +69,8 @@ pub fn outside_of(alloc: Global, fails: Vec<u64>) -> Fused {
     }
 }
 
-/// Runs a command over an outside, with the files as its sources and with fresh sinks, and tells how it ends.
+/// Runs a command over an outside, with the rules that its words ask for, the files as its sources and fresh sinks, and tells
+/// how it ends.
 pub fn run_over<R: AllocGlobal + Threads + Wait + Sync>(
     rt: &R,
     words: &str,
@@ -81,7 +82,8 @@ pub fn run_over<R: AllocGlobal + Threads + Wait + Sync>(
     set_sources(alloc, files, plan, &mut outside.inside)?;
     set_sinks(alloc, plan, &mut outside.inside)?;
     let words = words_of(alloc, words)?;
-    let status = run(rt, &words, outside);
+    let rules = rules_of_words(alloc, &words).map_err(no_memory)?;
+    let status = run(rt, &words, outside, rules);
     outcome_of(alloc, status, &outside.inside)
 }
 

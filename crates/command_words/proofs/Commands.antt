@@ -1,11 +1,11 @@
 -- Which orders a command word asks for.
-use Rattle.std.proofs.Common.{◌≡◌, ◌∙◌, ℕ, true, false, List, [], ◌∷◌, Option, None, Some, refl, sym, codes}
-use Rattle.std.specs.Str.{bytes_eq}
+use Rattle.std.proofs.Common.{◌≡◌, ◌∙◌, ℕ, true, List, [], ◌∷◌, Option, None, Some, refl, sym, codes}
 use Rattle.option_words.specs.Spelling.{are_among, at_most_one, Setting, values_under}
 use Rattle.client_words.specs.declared.clients.ClientWord.{ClientWord}
+use Rattle.rule_words.specs.declared.reading.RuleWord.{RuleWord}
 use Rattle.command_words.specs.Orders.{Agree, Asks, IsWithinLimits, settings_of}
 use Rattle.command_words.specs.declared.orders.Order.{Order}
-use Rattle.command_words.specs.declared.orders.Order.TheVariants.{Tables, Init, Stairs, Capacity, Serve}
+use Rattle.command_words.specs.declared.orders.Order.TheVariants.{Tables, Init, Stairs, Capacity, Serve, Demo}
 use Rattle.command_words.proofs.Agreeing.{agree_by, differ}
 
 pub list_order : (settings : List Setting) (order : Order) → Asks (codes "list") settings order → (network : List ℕ) × (out : List ℕ) × Agree settings (settings_of (Tables network out))
@@ -13,7 +13,8 @@ list_order settings (Tables network out) asks = (network, out, asks.agree)
 list_order settings (Init network base journal from) asks = absurd (differ (codes "list") (codes "init") refl asks.command_is)
 list_order settings (Stairs network base journal entry out) asks = absurd (differ (codes "list") (codes "stairs") refl asks.command_is)
 list_order settings (Capacity network base journal first last from to out) asks = absurd (differ (codes "list") (codes "capacity") refl asks.command_is)
-list_order settings (Serve network trains base journal clients) asks = absurd (differ (codes "list") (codes "serve") refl asks.command_is)
+list_order settings (Serve network trains base journal clients rules) asks = absurd (differ (codes "list") (codes "serve") refl asks.command_is)
+list_order settings (Demo number out) asks = absurd (differ (codes "list") (codes "demo") refl asks.command_is)
 
 -- the parts of an order to begin a journal
 pub record IsInit (settings : List Setting) : Type 0 where
@@ -34,7 +35,8 @@ init_order settings (Init network base journal from) asks = record {
 }
 init_order settings (Stairs network base journal entry out) asks = absurd (differ (codes "init") (codes "stairs") refl asks.command_is)
 init_order settings (Capacity network base journal first last from to out) asks = absurd (differ (codes "init") (codes "capacity") refl asks.command_is)
-init_order settings (Serve network trains base journal clients) asks = absurd (differ (codes "init") (codes "serve") refl asks.command_is)
+init_order settings (Serve network trains base journal clients rules) asks = absurd (differ (codes "init") (codes "serve") refl asks.command_is)
+init_order settings (Demo number out) asks = absurd (differ (codes "init") (codes "demo") refl asks.command_is)
 
 -- the parts of an order to write a stairway
 pub record IsStairs (settings : List Setting) : Type 0 where
@@ -59,7 +61,8 @@ stairs_order settings (Stairs network base journal entry out) asks = record {
   limits = asks.limits;
 }
 stairs_order settings (Capacity network base journal first last from to out) asks = absurd (differ (codes "stairs") (codes "capacity") refl asks.command_is)
-stairs_order settings (Serve network trains base journal clients) asks = absurd (differ (codes "stairs") (codes "serve") refl asks.command_is)
+stairs_order settings (Serve network trains base journal clients rules) asks = absurd (differ (codes "stairs") (codes "serve") refl asks.command_is)
+stairs_order settings (Demo number out) asks = absurd (differ (codes "stairs") (codes "demo") refl asks.command_is)
 
 -- the parts of an order to write a capacity
 pub record IsCapacity (settings : List Setting) : Type 0 where
@@ -90,7 +93,8 @@ capacity_order settings (Capacity network base journal first last from to out) a
   agree = asks.agree;
   limits = asks.limits;
 }
-capacity_order settings (Serve network trains base journal clients) asks = absurd (differ (codes "capacity") (codes "serve") refl asks.command_is)
+capacity_order settings (Serve network trains base journal clients rules) asks = absurd (differ (codes "capacity") (codes "serve") refl asks.command_is)
+capacity_order settings (Demo number out) asks = absurd (differ (codes "capacity") (codes "demo") refl asks.command_is)
 
 -- the parts of an order to serve clients
 pub record IsServe (settings : List Setting) : Type 0 where
@@ -99,31 +103,46 @@ pub record IsServe (settings : List Setting) : Type 0 where
   pub base : List ℕ
   pub journal : List ℕ
   pub clients : List ClientWord
-  pub agree : Agree settings (settings_of (Serve network trains base journal clients))
-  pub limits : IsWithinLimits (Serve network trains base journal clients)
+  pub rules : List RuleWord
+  pub agree : Agree settings (settings_of (Serve network trains base journal clients rules))
+  pub limits : IsWithinLimits (Serve network trains base journal clients rules)
 
 pub serve_order : (settings : List Setting) (order : Order) → Asks (codes "serve") settings order → IsServe settings
 serve_order settings (Tables network out) asks = absurd (differ (codes "serve") (codes "list") refl asks.command_is)
 serve_order settings (Init network base journal from) asks = absurd (differ (codes "serve") (codes "init") refl asks.command_is)
 serve_order settings (Stairs network base journal entry out) asks = absurd (differ (codes "serve") (codes "stairs") refl asks.command_is)
 serve_order settings (Capacity network base journal first last from to out) asks = absurd (differ (codes "serve") (codes "capacity") refl asks.command_is)
-serve_order settings (Serve network trains base journal clients) asks = record {
+serve_order settings (Serve network trains base journal clients rules) asks = record {
   network = network;
   trains = trains;
   base = base;
   journal = journal;
   clients = clients;
+  rules = rules;
   agree = asks.agree;
   limits = asks.limits;
 }
+serve_order settings (Demo number out) asks = absurd (differ (codes "serve") (codes "demo") refl asks.command_is)
 
--- a word that is none of the command words asks for nothing
-pub no_order : (command : List ℕ) (settings : List Setting) (order : Order) → bytes_eq command (codes "list") ≡ false → bytes_eq command (codes "init") ≡ false → bytes_eq command (codes "stairs") ≡ false → bytes_eq command (codes "capacity") ≡ false → bytes_eq command (codes "serve") ≡ false → Asks command settings order → ⊥
-no_order command settings (Tables network out) list begin stairs capacity serve asks = differ command (codes "list") list asks.command_is
-no_order command settings (Init network base journal from) list begin stairs capacity serve asks = differ command (codes "init") begin asks.command_is
-no_order command settings (Stairs network base journal entry out) list begin stairs capacity serve asks = differ command (codes "stairs") stairs asks.command_is
-no_order command settings (Capacity network base journal first last from to out) list begin stairs capacity serve asks = differ command (codes "capacity") capacity asks.command_is
-no_order command settings (Serve network trains base journal clients) list begin stairs capacity serve asks = differ command (codes "serve") serve asks.command_is
+-- the parts of an order to demonstrate
+pub record IsDemo (settings : List Setting) : Type 0 where
+  pub number : ℕ
+  pub out : List ℕ
+  pub agree : Agree settings (settings_of (Demo number out))
+  pub limits : IsWithinLimits (Demo number out)
+
+pub demo_order : (settings : List Setting) (order : Order) → Asks (codes "demo") settings order → IsDemo settings
+demo_order settings (Tables network out) asks = absurd (differ (codes "demo") (codes "list") refl asks.command_is)
+demo_order settings (Init network base journal from) asks = absurd (differ (codes "demo") (codes "init") refl asks.command_is)
+demo_order settings (Stairs network base journal entry out) asks = absurd (differ (codes "demo") (codes "stairs") refl asks.command_is)
+demo_order settings (Capacity network base journal first last from to out) asks = absurd (differ (codes "demo") (codes "capacity") refl asks.command_is)
+demo_order settings (Serve network trains base journal clients rules) asks = absurd (differ (codes "demo") (codes "serve") refl asks.command_is)
+demo_order settings (Demo number out) asks = record {
+  number = number;
+  out = out;
+  agree = asks.agree;
+  limits = asks.limits;
+}
 
 -- the options of an order to begin a journal are of these kinds
 pub init_among : (network base journal : List ℕ) (from : Option (List ℕ)) → are_among (codes "network" ∷ codes "base" ∷ codes "journal" ∷ codes "from" ∷ []) (settings_of (Init network base journal from)) ≡ true

@@ -1,5 +1,3 @@
-pub mod Canon
-pub mod Parsed
 pub mod Agreeing
 pub mod Commands
 pub mod Errors

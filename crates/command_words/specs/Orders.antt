@@ -1,16 +1,15 @@
 -- The orders that words spell.
-use Rattle.std.specs.Prelude.{◌≡◌, ⊤, ℕ, ◌^◌, ◌<◌, ◌≤◌, pos, List, [], ◌∷◌, Option, None, Some, codes, decimal, map}
+use Rattle.std.specs.Prelude.{◌≡◌, ⊤, ℕ, ◌^◌, ◌<◌, ◌≤◌, pos, List, [], ◌∷◌, ◌++◌, Option, None, Some, codes, decimal, map}
 use Rattle.rail_types.specs.Limits.{IsTick}
 use Rattle.rail_types.specs.declared.limits.TheConstants.{MAX_NUMBER}
-use Rattle.option_words.specs.Spelling.{Setting, Spell, values_under, Word}
+use Rattle.option_words.specs.Spelling.{Setting, setting, Spell, values_under, Word}
 use Rattle.client_words.specs.Clients.{AreClients, client_text}
 use Rattle.client_words.specs.declared.clients.ClientWord.{ClientWord}
+use Rattle.rule_words.specs.Rules.{AreRulesOf, rule_text}
+use Rattle.rule_words.specs.declared.reading.RuleWord.{RuleWord}
+use Rattle.command_words.specs.declared.orders.TheConstants.{MAX_DEMO_NUMBER}
 use Rattle.command_words.specs.declared.orders.Order.{Order}
-use Rattle.command_words.specs.declared.orders.Order.TheVariants.{Tables, Init, Stairs, Capacity, Serve}
-
--- an option with this value
-abbrev pub setting : List ℕ → List ℕ → Setting
-setting option value = record { option = option; value = value }
+use Rattle.command_words.specs.declared.orders.Order.TheVariants.{Tables, Init, Stairs, Capacity, Serve, Demo}
 
 -- the command word of an order
 abbrev pub command_of : Order → Word
@@ -18,7 +17,8 @@ command_of (Tables network out) = codes "list"
 command_of (Init network base journal from) = codes "init"
 command_of (Stairs network base journal entry out) = codes "stairs"
 command_of (Capacity network base journal first last from to out) = codes "capacity"
-command_of (Serve network trains base journal clients) = codes "serve"
+command_of (Serve network trains base journal clients rules) = codes "serve"
+command_of (Demo number out) = codes "demo"
 
 -- an option that may be left out
 abbrev pub if_given : List ℕ → Option (List ℕ) → List Setting
@@ -32,6 +32,14 @@ numbered option number = setting option (decimal number)
 -- a client as an option
 abbrev pub client_setting : ClientWord → Setting
 client_setting word = setting (codes "client") (client_text word)
+
+-- a rule as an option
+abbrev pub rule_setting : RuleWord → Setting
+rule_setting rule = setting (codes "rule") (rule_text rule)
+
+-- the options that may stand several times: clients, and rules
+abbrev pub repeated : List ClientWord → List RuleWord → List Setting
+repeated clients rules = map client_setting clients ++ map rule_setting rules
 
 -- the options of an order, each with its value
 abbrev pub settings_of : Order → List Setting
@@ -49,10 +57,11 @@ settings_of (Capacity network base journal first last from to out) =
     ∷ setting (codes "journal") journal ∷ numbered (codes "first") first
     ∷ numbered (codes "last") last ∷ numbered (codes "from") from ∷ numbered (codes "to") to
     ∷ setting (codes "out") out ∷ []
-settings_of (Serve network trains base journal clients) =
+settings_of (Serve network trains base journal clients rules) =
     setting (codes "network") network ∷ setting (codes "trains") trains
     ∷ setting (codes "base") base ∷ setting (codes "journal") journal
-    ∷ map client_setting clients
+    ∷ repeated clients rules
+settings_of (Demo number out) = numbered (codes "number") number ∷ setting (codes "out") out ∷ []
 
 -- zones, the first to the last, each of 32 bits
 pub record AreZones (first last : ℕ) : Type 0 where
@@ -64,14 +73,16 @@ pub record AreTicks (from to : ℕ) : Type 0 where
   pub ordered : from < to
   pub within : IsTick (pos to)
 
--- the numbers and the clients of an order are within their limits
+-- the numbers, the clients and the rules of an order are within their limits; each rule is of one of the clients
 abbrev pub IsWithinLimits : Order → Type 0
 IsWithinLimits (Tables network out) = ⊤
 IsWithinLimits (Init network base journal from) = ⊤
 IsWithinLimits (Stairs network base journal entry out) = entry ≤ MAX_NUMBER
 IsWithinLimits (Capacity network base journal first last from to out) =
     AreZones first last × AreTicks from to
-IsWithinLimits (Serve network trains base journal clients) = AreClients clients
+IsWithinLimits (Serve network trains base journal clients rules) =
+    AreClients clients × AreRulesOf clients rules
+IsWithinLimits (Demo number out) = number ≤ MAX_DEMO_NUMBER
 
 -- each option has the same values in the same order
 abbrev pub Agree : List Setting → List Setting → Type 0
@@ -91,3 +102,18 @@ pub record AreWords (words : List Word) (order : Order) : Type 0 where
   pub words_are : words ≡ command ∷ options
   pub spelled : Spell settings options
   pub asks : Asks command settings order
+
+-- the rules of an order; none but `serve` has any
+abbrev pub rules_of : Order → List RuleWord
+rules_of (Tables network out) = []
+rules_of (Init network base journal from) = []
+rules_of (Stairs network base journal entry out) = []
+rules_of (Capacity network base journal first last from to out) = []
+rules_of (Serve network trains base journal clients rules) = rules
+rules_of (Demo number out) = []
+
+-- the words spell an order, and these are its rules
+pub record AskRules (words : List Word) (rules : List RuleWord) : Type 0 where
+  pub order : Order
+  pub asked : AreWords words order
+  pub rules_are : rules ≡ rules_of order

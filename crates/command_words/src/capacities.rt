@@ -5,9 +5,9 @@ ghost use Rattle.option_words.specs.Spelling.{values_under};
 ghost use Rattle.command_words.specs.Orders.{AreTicks, AreZones, Asks};
 ghost use Rattle.command_words.specs.declared.orders.Order.{Order as order_type};
 
-use crate::canonical::parse_capacity;
 use crate::file_names::file_names;
 use crate::orders::Order;
+use canonical_words::{StretchWords, parse_capacity};
 use no_memory::NoMemory;
 use option_words::{Setting, WordsFault, has_only, read_small_number, single_value};
 use rail_types::MAX_TICK;
@@ -62,15 +62,6 @@ pub(crate) fn read_capacity(alloc: Global, settings: &[Setting<'_>]) -> Result<O
         to: window.to,
         out: texts.out,
     })
-}
-
-/// The words for the zones and the window of a capacity.
-#[derive(Clone, Copy)]
-pub(crate) struct StretchWords<'a> {
-    pub first: &'a str,
-    pub last: &'a str,
-    pub from: &'a str,
-    pub to: &'a str,
 }
 
 // The words under `first`, `last`, `from` and `to`, each given once.

@@ -3,16 +3,9 @@
 ghost use Rattle.std.specs.Prelude.{◌≡◌, ◌∷◌, [], ℕ, List, codes, IfOk, IsErrOf};
 ghost use Rattle.option_words.specs.Spelling.{values_under};
 
+use canonical_words::FileNames;
 use option_words::{Setting, WordsFault, single_value};
 use std::alloc::Global;
-
-/// The names of a network's, a base timetable's and a journal's file.
-#[derive(Clone, Copy)]
-pub(crate) struct FileNames<'a> {
-    pub network: &'a str,
-    pub base: &'a str,
-    pub journal: &'a str,
-}
 
 /// The names under `network`, `base` and `journal`, each given once.
 pub(crate) fn file_names<'a>(

@@ -4,9 +4,9 @@ ghost use Rattle.std.specs.Prelude.{codes, IfOk, IsErrOf};
 ghost use Rattle.command_words.specs.Orders.{Asks};
 ghost use Rattle.command_words.specs.declared.orders.Order.{Order as order_type};
 
-use crate::canonical::parse_stairs;
 use crate::file_names::file_names;
 use crate::orders::Order;
+use canonical_words::parse_stairs;
 use no_memory::NoMemory;
 use option_words::{Setting, WordsFault, has_only, read_number, single_value};
 use rail_types::MAX_NUMBER;

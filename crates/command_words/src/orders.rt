@@ -3,6 +3,10 @@
 use client_words::ClientWord;
 use option_words::Text;
 use rail_types::List;
+use rule_words::RuleWord;
+
+/// Greatest number that a demonstration may begin with.
+pub const MAX_DEMO_NUMBER: u32 = 2_147_483_647;
 
 /// An order to the server.
 #[derive(Debug, Drop)]
@@ -43,12 +47,20 @@ pub enum Order {
         out: Text,
     },
     /// Answer the lines of clients: the names of the network's, the trains', the base timetable's and the journal's file,
-    /// and the clients, 1 to `MAX_CLIENTS`, with names and streams of their own.
+    /// the clients, 1 to `MAX_CLIENTS`, with names and streams of their own, and the rules by which paths may be denied to
+    /// them.
     Serve {
         network: Text,
         trains: Text,
         base: Text,
         journal: Text,
         clients: List<ClientWord>,
+        rules: List<RuleWord>,
+    },
+    /// Answer the lines of a client that are made up from a number, at most `MAX_DEMO_NUMBER`, and write how many paths were
+    /// granted: the number, and the name of the summary's file.
+    Demo {
+        number: u32,
+        out: Text,
     },
 }

@@ -1,16 +1,19 @@
 //! Words read as an order.
 
 ghost use Rattle.std.specs.Prelude.{◌≡◌, codes, IfOk, IsErrOf, map, option_map, string_bytes};
-ghost use Rattle.command_words.specs.Orders.{Asks, AreWords};
+ghost use Rattle.command_words.specs.Orders.{AreWords, Asks, AskRules, rules_of};
 ghost use Rattle.command_words.specs.declared.orders.Order.{Order as order_type};
 
-use crate::canonical::{parse_init, parse_list, parse_move};
 use crate::capacities::read_capacity;
+use crate::demos::read_demo;
 use crate::grants::read_stairs;
 use crate::orders::Order;
 use crate::serves::read_serve;
+use canonical_words::{parse_init, parse_list, parse_move};
 use no_memory::NoMemory;
 use option_words::{Setting, WordsFault, has_only, optional_value, read_settings, single_value};
+use rail_types::List;
+use rule_words::RuleWord;
 use std::alloc::Global;
 
 /// Reads words as an order. Any words that spell no order are `NotUnderstood`.
@@ -25,6 +28,29 @@ pub fn read_words(alloc: Global, words: &[String]) -> Result<Order, WordsFault>
     match read_settings(alloc, options) {
         Ok(settings) => read_order(alloc, command.as_str(), settings.as_slice()),
         Err(fault) => Err(fault),
+    }
+}
+
+/// Reads the rules of an order's words, in the words' order; only `serve` has any. Any words that spell no order are
+/// `NotUnderstood`.
+pub fn rule_words(alloc: Global, words: &[String]) -> Result<List<RuleWord>, WordsFault>
+    ensures understood { IfOk result (AskRules (map string_bytes words.now)) }
+    ensures refused { IsErrOf result WordsFault.NotUnderstood
+        → (order : order_type) → AreWords (map string_bytes words.now) order → ⊥ }
+{
+    match read_words(alloc, words) {
+        Ok(order) => Ok(rules_in(alloc, order)),
+        Err(fault) => Err(fault),
+    }
+}
+
+// The rules of an order.
+fn rules_in(alloc: Global, order: Order) -> List<RuleWord>
+    ensures { result ≡ rules_of order }
+{
+    match order {
+        Order::Serve { rules, .. } => rules,
+        _ => List::new(alloc),
     }
 }
 
@@ -48,6 +74,9 @@ fn read_order(alloc: Global, command: &str, settings: &[Setting<'_>]) -> Result<
     }
     if command == "serve" {
         return read_serve(alloc, settings);
+    }
+    if command == "demo" {
+        return read_demo(alloc, settings);
     }
     Err(WordsFault::NotUnderstood)
 }

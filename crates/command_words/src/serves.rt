@@ -4,12 +4,13 @@ ghost use Rattle.std.specs.Prelude.{codes, IfOk, IsErrOf};
 ghost use Rattle.command_words.specs.Orders.{Asks};
 ghost use Rattle.command_words.specs.declared.orders.Order.{Order as order_type};
 
-use crate::canonical::parse_serve;
 use crate::file_names::file_names;
 use crate::orders::Order;
+use canonical_words::parse_serve;
 use client_words::read_clients;
 use no_memory::NoMemory;
 use option_words::{Setting, WordsFault, has_only, single_value, values_of};
+use rule_words::read_rules;
 use std::alloc::Global;
 
 /// The order that options of `serve` ask for.
@@ -19,7 +20,7 @@ pub(crate) fn read_serve(alloc: Global, settings: &[Setting<'_>]) -> Result<Orde
         → (order : order_type) → Asks (codes "serve") settings.now order → ⊥ }
 {
     if !has_only(
-        &["network", "trains", "base", "journal", "client"],
+        &["network", "trains", "base", "journal", "client", "rule"],
         settings,
     ) {
         return Err(WordsFault::NotUnderstood);
@@ -32,9 +33,14 @@ pub(crate) fn read_serve(alloc: Global, settings: &[Setting<'_>]) -> Result<Orde
         Ok(trains) => trains,
         Err(fault) => return Err(fault),
     };
-    let words = values_of(alloc, "client", settings)?;
-    let clients = match read_clients(alloc, words.as_slice()) {
+    let client_words = values_of(alloc, "client", settings)?;
+    let clients = match read_clients(alloc, client_words.as_slice()) {
         Ok(clients) => clients,
+        Err(fault) => return Err(fault),
+    };
+    let rule_words = values_of(alloc, "rule", settings)?;
+    let rules = match read_rules(alloc, clients.as_slice(), rule_words.as_slice()) {
+        Ok(rules) => rules,
         Err(fault) => return Err(fault),
     };
     match parse_serve(alloc, &names, trains) {
@@ -44,6 +50,7 @@ pub(crate) fn read_serve(alloc: Global, settings: &[Setting<'_>]) -> Result<Orde
             base: texts.base,
             journal: texts.journal,
             clients,
+            rules,
         }),
         Err(NoMemory) => Err(WordsFault::Memory),
     }

@@ -10,6 +10,3 @@ mod values;
 
 pub use quoting::{each_text_is_quoted, one_quoted_text, quote, runs_are_longest};
 pub use values::{NotWhole, count_of, scaled, whole};
-
-#[cfg(test)]
-mod tests;

@@ -13,6 +13,3 @@ pub use reading::{
     examples_have_their_bodies, one_entry, read, refusals_are_placed, wrong_place_is_one,
 };
 pub use writing::{body_len, write};
-
-#[cfg(test)]
-mod tests;

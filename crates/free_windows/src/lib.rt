@@ -4,6 +4,3 @@
 mod frees;
 
 pub use frees::{next_start, starts};
-
-#[cfg(test)]
-mod tests;

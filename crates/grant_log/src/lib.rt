@@ -8,8 +8,6 @@ mod keys;
 mod laws;
 mod live;
 mod scans;
-#[cfg(test)]
-mod tests;
 mod verdicts;
 
 pub use histories::History;

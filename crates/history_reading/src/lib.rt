@@ -11,6 +11,3 @@ pub use files::read_journal;
 pub use histories::Found;
 pub use laws::one_reading;
 pub use moves::{MoveFault, init_from};
-
-#[cfg(test)]
-mod tests;

@@ -8,6 +8,3 @@ mod runs;
 mod works;
 
 pub use runs::{run_init, run_move};
-
-#[cfg(test)]
-mod tests;

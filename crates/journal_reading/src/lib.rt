@@ -15,6 +15,3 @@ pub use laws::one_history;
 pub use ranges::is_on;
 pub use records::{Next, next_record};
 pub use starts::pass_header;
-
-#[cfg(test)]
-mod tests;

@@ -9,6 +9,3 @@ mod records;
 pub use headers::{HEADER_BYTES, header};
 pub use laws::bytes_are_counted;
 pub use records::record;
-
-#[cfg(test)]
-mod tests;

@@ -36,6 +36,7 @@ untaken caller bytes told v gives none settle turns = record {
   share = refl;
   goes_on = starts_refl v.seen;
   keeps = starts_refl v.seen;
+  still = λ none. refl;
   answers = record {
     gives = gives;
     first = tt;
@@ -149,6 +150,9 @@ module _ (caller : Caller) (bytes : List ℕ) (v w : Sight) where
             (subst (λ l. TakesEvents caller client (pair w.found.list w.found.settled) (pair l settled)) (sym after) (event client));
       }
 
+  some_turn : (settled : ℕ) → its_turn settled ∷ [] ≢ []
+  some_turn settled none = let wrong = ap length none in absurd (omega arith)
+
   answered : (told : Reply) (settled : ℕ) → TakesTurn v w settled
       → GivesLine caller bytes told w.found.list w.found.list w.seen
       → positions (length w.found.list) (length w.seen - length w.found.list) ≡ added told
@@ -163,6 +167,7 @@ module _ (caller : Caller) (bytes : List ℕ) (v w : Sight) where
     share = taken.share;
     goes_on = taken.goes_on;
     keeps = taken.keeps;
+    still = λ none. absurd (some_turn settled none);
     answers = record {
       gives = gives;
       first = refl;
@@ -182,9 +187,6 @@ module _ (caller : Caller) (bytes : List ℕ) (v w : Sight) where
   in_fault : (settled : ℕ) → Rose w.found.count w.count → EndInFault (its_turn settled ∷ [])
   in_fault settled rose =
       record { before = []; last = its_turn settled; turns_are = refl; settled = All-nil IsSettled; rose = rose }
-
-  some_turn : (settled : ℕ) → its_turn settled ∷ [] ≢ []
-  some_turn settled none = let wrong = ap length none in absurd (omega arith)
 
   pub looked : (told : Reply) → Looks v w → GivesLine caller bytes told w.found.list w.found.list w.seen
       → added told ≡ [] → ((ts : List Turn) → All IsSettled ts → Settle told ts)

@@ -4,3 +4,6 @@ pub mod Many
 pub mod Quiet
 pub mod Rooms
 pub mod Rows
+pub mod Told
+pub mod Behind
+pub mod Denied

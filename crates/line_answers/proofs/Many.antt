@@ -20,7 +20,7 @@ pub starts_trans : {X : Type 0} (a b c : List X) → StartsWith a b → StartsWi
 starts_trans a b c p q = (q.0 ++ p.0, p.1 ∙ ap (λ l. l ++ p.0) q.1 ∙ append_assoc c q.0 p.0)
 
 -- what is a turn over a history is one over any that goes on from it
-turn_longer : (caller : Caller) (long short : List Entry) → StartsWith long short → (t : Turn)
+pub turn_longer : (caller : Caller) (long short : List Entry) → StartsWith long short → (t : Turn)
     → IsTurnOf caller short t → IsTurnOf caller long t
 turn_longer caller long short more t is =
     let rest : List Entry = more.0 in
@@ -64,7 +64,7 @@ pub record SoFar (caller : Caller) (v u : Sight) (h : List Entry) : Type 0 where
   pub events : All (IsTurnOf caller u.seen) (first ∷ others)
   pub settled : All IsSettled (first ∷ others)
 
-looked_turn : (caller : Caller) (bytes : List ℕ) (v w : Sight) → Looks v w
+pub looked_turn : (caller : Caller) (bytes : List ℕ) (v w : Sight) → Looks v w
     → IsTurnOf caller w.seen (its_turn caller bytes v w (length w.seen))
 looked_turn caller bytes v w looks =
     is_turn caller bytes v w (length w.seen) looks.takes
@@ -129,6 +129,7 @@ answered_now caller bytes v u h told so gives none settles turns = record {
   share = so.share;
   goes_on = so.goes_on;
   keeps = starts_refl u.seen;
+  still = λ none. absurd (some_turns so.first so.others none);
   answers = record {
     gives = gives;
     first = so.found;
@@ -167,6 +168,7 @@ module _ (caller : Caller) (bytes : List ℕ) (v u w : Sight) (h : List Entry) (
         share = takes.share ∙ so.share;
         goes_on = so.goes_on;
         keeps = takes.keeps;
+        still = λ none. absurd (some_behind before t none);
         answers = record {
           gives = gives;
           first = so.found;

@@ -55,6 +55,7 @@ untold caller bytes told v w adds between =
       share = between.share;
       goes_on = between.goes_on;
       keeps = between.keeps;
+      still = between.still;
       answers = record {
         gives = is.same;
         first = so.first;

@@ -130,18 +130,18 @@ module _ (caller : Caller) (number : ℕ) (request : Request) (after : Option �
       → TellsAgain number front told said → AnswersLine caller (asking after number request) said v w
   again_by v m w h reached looks close path (refusal.Kept at deed) said front here of_number is tells =
       subst (λ r. AnswersLine caller (asking after number request) r v w) (sym tells)
-      (λ bytes spells. close bytes (reply.Kept number at front deed)
-      (line, spells, (reached, refl, (its_entry path, own path, is.0), is.1, leaves m w looks front here))
+      (λ bytes read. close bytes (reply.Kept number at front deed)
+      (line, read.spells, (reached, refl, (its_entry path, own path, is.0), is.1, leaves m w looks front here))
       refl (λ ts all. all) (λ ts some. some))
   again_by v m w h reached looks close path (refusal.Other (verdict.Gone at freer)) said front here of_number is tells =
       subst (λ r. AnswersLine caller (asking after number request) r v w) (sym tells)
-      (λ bytes spells. close bytes (reply.Gone number at freer front)
-      (line, spells, (reached, refl, (its_entry path, own path, is.0), leaves m w looks front here))
+      (λ bytes read. close bytes (reply.Gone number at freer front)
+      (line, read.spells, (reached, refl, (its_entry path, own path, is.0), leaves m w looks front here))
       refl (λ ts all. all) (λ ts some. some))
   again_by v m w h reached looks close path (refusal.Other (verdict.Other at)) said front here of_number is tells =
       subst (λ r. AnswersLine caller (asking after number request) r v w) (sym tells)
-      (λ bytes spells. close bytes (reply.Other number at front)
-      (line, spells, (reached, refl, (its_entry path, own path, is.0), leaves m w looks front here))
+      (λ bytes read. close bytes (reply.Other number at front)
+      (line, read.spells, (reached, refl, (its_entry path, own path, is.0), leaves m w looks front here))
       refl (λ ts all. all) (λ ts some. some))
   again_by v m w h reached looks close path (refusal.Other (verdict.Kept at)) said front here of_number is tells = absurd of_number
   again_by v m w h reached looks close path (refusal.Other (verdict.BreaksRequest broken)) said front here of_number is tells = absurd of_number
@@ -180,13 +180,13 @@ module _ (caller : Caller) (number : ℕ) (request : Request) (after : Option �
     pub wide_line : (front : ℕ) → front ≡ length u.found.list
         → HasMoreThan MAX_PLACES caller.timetable.net request
         → AnswersLine caller (asking after number request) (reply.Wide number front) v u
-    wide_line front here wide bytes spells =
+    wide_line front here wide bytes read =
         looked caller bytes v u (reply.Wide number front) looks
-        (line, spells, (request, refl, reached, refl, is_new, allowed, wide, leaves v u looks front here))
+        (line, read.spells, (request, refl, reached, refl, is_new, allowed, wide, leaves v u looks front here))
         refl (λ ts all. all) (λ ts some. some)
 
     pub want_line : AnswersLine caller (asking after number request) reply.NoMemory v u
-    want_line bytes spells =
+    want_line bytes read =
         looked caller bytes v u reply.NoMemory looks looks.same refl (λ ts all. all) (λ ts some. tt)
 
     module _ (narrow : IsNarrow caller request) (places : Listed) where
@@ -273,11 +273,11 @@ module _ (caller : Caller) (number : ℕ) (request : Request) (after : Option �
       judged_line m w s (became.Settled at behind) runs front said here j tells =
           let joins = j.entered.1.may.joins in
           subst (λ r. AnswersLine caller (asking after number request) r v w) (sym tells)
-          (λ bytes spells.
+          (λ bytes read.
           entered_last caller bytes v m w u.found.list (missed_so s.count s.at s.front m s.missed)
           (its_entry j.path) (is_of j.path) (reply.Granted number at behind runs) at behind j.entered.0 j.entered.1 (
             line,
-            spells,
+            read.spells,
             (
               request,
               j.path,
@@ -290,10 +290,10 @@ module _ (caller : Caller) (number : ℕ) (request : Request) (after : Option �
           refl (λ ts all. all) (λ ts some. some))
       judged_line m w s (became.Unsettled at behind) runs front said here j tells =
           subst (λ r. AnswersLine caller (asking after number request) r v w) (sym tells)
-          (λ bytes spells.
+          (λ bytes read.
           begun_last caller bytes v m w u.found.list (missed_so s.count s.at s.front m s.missed)
           (its_entry j.path) (is_of j.path) number at behind j.entered.0 j.entered.1 j.entered.2
-          (line, spells, (reached, allowed, narrow_line, (its_entry j.path, adds w j.path at behind j.entered.1))))
+          (line, read.spells, (reached, allowed, narrow_line, (its_entry j.path, adds w j.path at behind j.entered.1))))
       judged_line m w s (became.Refused told) runs front said here j tells =
           again_by v m w u.found.list reached j.entered.looks
           (λ bytes r gives. looked_last caller bytes v m w u.found.list
@@ -301,11 +301,11 @@ module _ (caller : Caller) (number : ℕ) (request : Request) (after : Option �
           j.path told said front here j.by_number j.entered.refusal tells
       judged_line m w s became.Full runs front said here j tells =
           subst (λ r. AnswersLine caller (asking after number request) r v w) (sym tells)
-          (λ bytes spells.
+          (λ bytes read.
           looked_last caller bytes v m w u.found.list (missed_so s.count s.at s.front m s.missed)
           (reply.Full number front) j.entered.looks (
             line,
-            spells,
+            read.spells,
             (
               reached,
               allowed,
@@ -326,11 +326,11 @@ module _ (caller : Caller) (number : ℕ) (request : Request) (after : Option �
       asked_line w outcome.NoPath front said here is tells =
           let s = is.0 in
           subst (λ r. AnswersLine caller (asking after number request) r v w) (sym tells)
-          (λ bytes spells.
+          (λ bytes read.
           answered_now caller bytes v w u.found.list (reply.NoPath number front)
           (missed_so s.count s.at s.front w s.missed) (
             line,
-            spells,
+            read.spells,
             (
               request,
               searched w.seen (new_after s.count s.at s.front w s.missed),
@@ -341,11 +341,11 @@ module _ (caller : Caller) (number : ℕ) (request : Request) (after : Option �
           refl (λ ts all. all) (λ ts some. some))
       asked_line w (outcome.Again at stood) front said here is tells =
           subst (λ r. AnswersLine caller (asking after number request) r v w) (sym tells)
-          (λ bytes spells.
+          (λ bytes read.
           answered_now caller bytes v w u.found.list (reply.Again number at stood front)
           (missed_so (suc (suc (suc zero))) at stood w is) (
             line,
-            spells,
+            read.spells,
             (
               request,
               searched w.seen (new_after (suc (suc (suc zero))) at stood w is),
@@ -358,22 +358,22 @@ module _ (caller : Caller) (number : ℕ) (request : Request) (after : Option �
       stopped_in : (m w : Sight) → Searched caller.timetable caller.name its_ask u m → (told : Halt)
           → Stops caller.timetable caller.name its_ask told m w
           → AnswersLine caller (asking after number request) (halt_reply told) v w
-      stopped_in m w s told (inl none) bytes spells =
+      stopped_in m w s told (inl none) bytes read =
           subst (λ t. AnswersBetween caller bytes (halt_reply t) v w) (sym none.0)
           (subst (λ x. AnswersBetween caller bytes reply.NoMemory v x) (sym none.1)
           (answered_now caller bytes v m u.found.list reply.NoMemory
           (missed_so s.count s.at s.front m s.missed) refl refl (λ ts all. all) (λ ts some. tt)))
-      stopped_in m w s halt.DiskFault (inr stops) bytes spells =
+      stopped_in m w s halt.DiskFault (inr stops) bytes read =
           let now = missed_so s.count s.at s.front m s.missed in
           ⊎_elim
-          (λ fails. not_settled_last caller bytes v m w u.found.list now (line, spells, fails.same) fails)
+          (λ fails. not_settled_last caller bytes v m w u.found.list now (line, read.spells, fails.same) fails)
           (λ fails. not_begun_last caller bytes v m w u.found.list now (its_entry stops.0) (is_of stops.0)
-          (line, spells, fails.0.same) fails.0)
+          (line, read.spells, fails.0.same) fails.0)
           stops.1
-      stopped_in m w s halt.NoMemory (inr stops) bytes spells =
+      stopped_in m w s halt.NoMemory (inr stops) bytes read =
           looked_last caller bytes v m w u.found.list (missed_so s.count s.at s.front m s.missed)
           reply.NoMemory stops.1 stops.1.same refl (λ ts all. all) (λ ts some. tt)
-      stopped_in m w s (halt.Ahead named front) (inr stops) bytes spells =
+      stopped_in m w s (halt.Ahead named front) (inr stops) bytes read =
           absurd (none_named named stops.1.1.asked)
         where
           none_named : (n : ℕ) → None ≡ Some n → ⊥

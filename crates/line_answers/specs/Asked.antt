@@ -15,8 +15,8 @@ use Rattle.ask_turns.specs.declared.asks.Outcome.{Outcome}
 use Rattle.ask_turns.specs.declared.asks.Outcome.TheVariants.{Entered, NoPath, Again}
 use Rattle.ask_turns.specs.Finds.{IsNewNumber}
 use Rattle.ask_turns.specs.Tries.{IsRefusedByNumber}
-use Rattle.line_answers.specs.Answers.{Caller}
-use Rattle.line_answers.specs.Callers.{AnswersLine}
+use Rattle.line_answers.specs.Callers.{AnswersAllowed}
+use Rattle.line_answers.specs.declared.shared.Shared.{Shared}
 use Rattle.line_answers.specs.Tells.{TellsAgain}
 
 -- the text has room for the reply to a line whose entry was begun
@@ -28,11 +28,12 @@ abbrev pub asking : Option ℕ → ℕ → Request → Line
 asking after number request = record { after = after; ask = asks.Path number request }
 
 -- The reply of a call whose turns so far took the pass from v to u: one turn, in which the client's number was new.
-abbrev pub AnswersBehind : Caller → ℕ → Request → Reply → Sight → Sight → Type 0
-AnswersBehind caller number request told u w =
+abbrev pub AnswersBehind : {D : Type 0} → Shared D → List ℕ → ℕ → ℕ → Request → Reply → Sight → Sight
+    → Type 0
+AnswersBehind shared name line_number number request told u w =
     (v : Sight) (after : Option ℕ) → Looks v u → IsReached after u.found.list
-    → IsNewNumber caller.name number u.found.list
-    → AnswersLine caller (asking after number request) told v w
+    → IsNewNumber name number u.found.list
+    → AnswersAllowed shared name line_number (asking after number request) told v w
 
 -- an outcome that refuses by the number alone
 abbrev pub IsOutcomeTold : Outcome → Type 0

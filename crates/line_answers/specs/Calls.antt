@@ -112,7 +112,7 @@ pub record Answers (caller : Caller) (bytes : List ℕ) (told : Reply) (turns : 
   pub settle : Settle told turns
   pub turns_are : HasTurns told turns
 
--- the call took the pass from v to w, and that reply answers the line
+-- The call took the pass from v to w, and that reply answers the line. Where it took no turn, it saw nothing more.
 pub record AnswersBetween (caller : Caller) (bytes : List ℕ) (told : Reply) (v w : Sight)
     : Type 0 where
   pub turns : List Turn
@@ -122,4 +122,5 @@ pub record AnswersBetween (caller : Caller) (bytes : List ℕ) (told : Reply) (v
   pub share : w.share ≡ v.share
   pub goes_on : StartsWith h v.seen
   pub keeps : StartsWith w.seen g
+  pub still : turns ≡ [] → w.seen ≡ v.seen
   pub answers : Answers caller bytes told turns h g w.seen

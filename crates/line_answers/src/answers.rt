@@ -11,14 +11,18 @@ ghost use Rattle.client_turns.specs.Clients.{Knows};
 ghost use Rattle.client_turns.specs.Turns.{IsReady, timetable_at};
 ghost use Rattle.line_answers.specs.Asked.{HasRoomIn};
 ghost use Rattle.line_answers.specs.Calls.{AnswersBetween};
-ghost use Rattle.line_answers.specs.Callers.{AnswersLine, caller_of};
+ghost use Rattle.client_rules.specs.Ruled.{stand};
+ghost use Rattle.line_answers.specs.Callers.{AnswersAllowed, caller_of};
+ghost use Rattle.line_answers.specs.Rules.{told_by};
 ghost use Rattle.line_answers.specs.Sharing.{IsShared};
 ghost use Rattle.line_answers.specs.Tells.{AddsNothing};
 
 use crate::asks::ask;
 use crate::replies::unread;
+use crate::rules::answer_ruled;
 use crate::shared::Shared;
 use crate::words::{free, front, hold, pin, show_entry};
+use admission_rules::Rule;
 use book_gate::Pass;
 use byte_fields::Buffer;
 use client_lines::{Ask, Line, lines_are_within_limits, read_line};
@@ -32,13 +36,15 @@ use std::sync::Wait;
 
 /// Answers one line of a client, of so many bytes without its end, in at most four turns: the reply, whose text comes
 /// behind what stood in the buffer. For want of memory for the text nothing comes there, and nothing was added to the
-/// history. `between` is called behind each search that found a path.
-pub fn answer_one<R: Wait, D: Disk, B: Between>(
+/// history. `between` is called behind each search that found a path. The client's rules are asked as they stand, and
+/// told of the entry that the reply tells as the line's own.
+pub fn answer_one<R: Wait, L: Rule, D: Disk, B: Between>(
     rt: &R,
     alloc: Global,
     shared: &Shared<D>,
     pass: &mut Pass<Book<D>>,
     client: &mut Client,
+    rules: &mut [L],
     line_number: u32,
     line: &[u8],
     text: &mut Buffer,
@@ -55,13 +61,18 @@ pub fn answer_one<R: Wait, D: Disk, B: Between>(
     ensures name { client.new.name ≡ client.old.name }
     ensures knows { Knows (timetable_at shared.now.gate) client.new (view pass.new).seen }
     ensures answers { IfOk result (λ reply.
-        AnswersBetween (caller_of shared.now client.old.name line_number) line.now reply
-        (view pass.old) (view pass.new)) }
+        AnswersBetween
+        (caller_of shared.now (stand L.Rule rules.old) client.old.name line_number)
+        line.now reply (view pass.old) (view pass.new)) }
+    ensures told { IfOk result (λ reply. stand L.Rule rules.new
+        ≡ told_by (view pass.new).seen reply (stand L.Rule rules.old)) }
     ensures text { IfOk result (λ reply. text.new.held ≡ text.old.held ++ text_of reply) }
     ensures wanted { IfErr result (λ _.
-        AnswersBetween (caller_of shared.now client.old.name line_number) line.now no_memory
-        (view pass.old) (view pass.new)) }
+        AnswersBetween
+        (caller_of shared.now (stand L.Rule rules.old) client.old.name line_number)
+        line.now no_memory (view pass.old) (view pass.new)) }
     ensures untold { OnErr result (text.new.held ≡ text.old.held) }
+    ensures unruled { OnErr result (stand L.Rule rules.new ≡ stand L.Rule rules.old) }
 {
     replies_have_room();
     // Room for the reply of a line that adds an entry is made before any turn.
@@ -72,6 +83,7 @@ pub fn answer_one<R: Wait, D: Disk, B: Between>(
         shared,
         pass,
         client,
+        rules,
         line_number,
         line,
         text,
@@ -82,12 +94,13 @@ pub fn answer_one<R: Wait, D: Disk, B: Between>(
 }
 
 // Reads a line and answers it. There is room for the reply, or it tells of no entry that was added and of no fault.
-fn answer_bytes<R: Wait, D: Disk, B: Between>(
+fn answer_bytes<R: Wait, L: Rule, D: Disk, B: Between>(
     rt: &R,
     alloc: Global,
     shared: &Shared<D>,
     pass: &mut Pass<Book<D>>,
     client: &mut Client,
+    rules: &mut [L],
     line_number: u32,
     line: &[u8],
     text: &mut Buffer,
@@ -104,19 +117,23 @@ fn answer_bytes<R: Wait, D: Disk, B: Between>(
     ensures budget { turns_left pass.old ≤ turns_left pass.new + 4 }
     ensures name { client.new.name ≡ client.old.name }
     ensures knows { Knows (timetable_at shared.now.gate) client.new (view pass.new).seen }
-    ensures answers { AnswersBetween (caller_of shared.now client.old.name line_number) line.now
-        result (view pass.old) (view pass.new) }
+    ensures answers { AnswersBetween
+        (caller_of shared.now (stand L.Rule rules.old) client.old.name line_number)
+        line.now result (view pass.old) (view pass.new) }
+    ensures told { stand L.Rule rules.new
+        ≡ told_by (view pass.new).seen result (stand L.Rule rules.old) }
     ensures held { text.new.held ≡ text.old.held }
     ensures room { HasRoomIn text.new result ⊎ AddsNothing result }
 {
     lines_are_within_limits();
     match read_line(alloc, line, &shared.known) {
-        Ok(line) => answer_line(
+        Ok(line) => answer_ruled(
             rt,
             alloc,
             shared,
             pass,
             client,
+            rules,
             line_number,
             line,
             text,
@@ -126,8 +143,8 @@ fn answer_bytes<R: Wait, D: Disk, B: Between>(
     }
 }
 
-// Answers a line that was read, by its word.
-fn answer_line<R: Wait, D: Disk, B: Between>(
+// Answers a line that was read and that no rule denies, by its word.
+pub(crate) fn answer_line<R: Wait, D: Disk, B: Between>(
     rt: &R,
     alloc: Global,
     shared: &Shared<D>,
@@ -149,7 +166,7 @@ fn answer_line<R: Wait, D: Disk, B: Between>(
     ensures budget { turns_left pass.old ≤ turns_left pass.new + 4 }
     ensures name { client.new.name ≡ client.old.name }
     ensures knows { Knows (timetable_at shared.now.gate) client.new (view pass.new).seen }
-    ensures answers { AnswersLine (caller_of shared.now client.old.name line_number) line result
+    ensures answers { AnswersAllowed shared.now client.old.name line_number line result
         (view pass.old) (view pass.new) }
     ensures held { text.new.held ≡ text.old.held }
     ensures room { HasRoomIn text.new result ⊎ AddsNothing result }

@@ -11,7 +11,7 @@ ghost use Rattle.reply_texts.specs.Rooms.{room_for};
 ghost use Rattle.client_turns.specs.Clients.{IsCopyOf, Knows};
 ghost use Rattle.client_turns.specs.Turns.{IsReady, timetable_at};
 ghost use Rattle.line_answers.specs.Asked.{AnswersBehind, HasRoomIn, asking};
-ghost use Rattle.line_answers.specs.Callers.{AnswersLine, caller_of};
+ghost use Rattle.line_answers.specs.Callers.{AnswersAllowed};
 ghost use Rattle.line_answers.specs.Sharing.{IsShared};
 ghost use Rattle.line_answers.specs.Tells.{AddsNothing};
 
@@ -55,7 +55,7 @@ pub(crate) fn ask<R: Wait, D: Disk, B: Between>(
     ensures budget { turns_left pass.old ≤ turns_left pass.new + 4 }
     ensures name { client.new.name ≡ client.old.name }
     ensures knows { Knows (timetable_at shared.now.gate) client.new (view pass.new).seen }
-    ensures answers { AnswersLine (caller_of shared.now client.old.name line_number)
+    ensures answers { AnswersAllowed shared.now client.old.name line_number
         (asking after number request) result (view pass.old) (view pass.new) }
     ensures held { text.new.held ≡ text.old.held }
     ensures room { HasRoomIn text.new result ⊎ AddsNothing result }
@@ -82,7 +82,7 @@ pub(crate) fn ask<R: Wait, D: Disk, B: Between>(
 }
 
 // The grant of a path without runs for a request: of a path that is asked for the request alone counts.
-fn deed_of(alloc: Global, request: &Request) -> Result<Deed, NoMemory>
+pub(crate) fn deed_of(alloc: Global, request: &Request) -> Result<Deed, NoMemory>
     ensures { IfOk result (λ deed.
         (path : path_type) × (deed ≡ Grant (Asked request.now) path)) }
 {
@@ -118,7 +118,7 @@ fn seek_path<R: Wait, D: Disk, B: Between>(
     ensures budget { turns_left pass.old ≤ turns_left pass.new + 3 }
     ensures name { client.new.name ≡ client.old.name }
     ensures knows { Knows (timetable_at shared.now.gate) client.new (view pass.new).seen }
-    ensures answers { AnswersBehind (caller_of shared.now client.old.name line_number)
+    ensures answers { AnswersBehind shared.now client.old.name line_number
         number request result (view pass.old) (view pass.new) }
     ensures held { text.new.held ≡ text.old.held }
     ensures room { HasRoomIn text.new result ⊎ AddsNothing result }

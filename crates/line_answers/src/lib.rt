@@ -5,6 +5,7 @@ mod answers;
 mod asks;
 mod entries;
 mod replies;
+mod rules;
 mod shared;
 mod words;
 

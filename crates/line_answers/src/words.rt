@@ -7,7 +7,7 @@ ghost use Rattle.rail_types.specs.Limits.{IsClientName};
 ghost use Rattle.reply_texts.specs.Rooms.{IsBehindEntry};
 ghost use Rattle.client_turns.specs.Clients.{Knows};
 ghost use Rattle.client_turns.specs.Turns.{IsReady, timetable_at};
-ghost use Rattle.line_answers.specs.Callers.{AnswersLine, caller_of};
+ghost use Rattle.line_answers.specs.Callers.{AnswersAllowed};
 ghost use Rattle.line_answers.specs.Tells.{AddsNothing};
 
 use crate::entries::entry_of;
@@ -45,7 +45,7 @@ pub(crate) fn hold<R: Wait, D: Disk>(
     ensures budget { turns_left pass.old ≤ turns_left pass.new + 1 }
     ensures name { client.new.name ≡ client.old.name }
     ensures knows { Knows (timetable_at shared.now.gate) client.new (view pass.new).seen }
-    ensures answers { AnswersLine (caller_of shared.now client.old.name line_number)
+    ensures answers { AnswersAllowed shared.now client.old.name line_number
         (record { after = after; ask = hold_of number claims reason }) result
         (view pass.old) (view pass.new) }
     ensures short { IsBehindEntry 0 result ⊎ AddsNothing result }
@@ -100,7 +100,7 @@ pub(crate) fn pin<R: Wait, D: Disk>(
     ensures budget { turns_left pass.old ≤ turns_left pass.new + 1 }
     ensures name { client.new.name ≡ client.old.name }
     ensures knows { Knows (timetable_at shared.now.gate) client.new (view pass.new).seen }
-    ensures answers { AnswersLine (caller_of shared.now client.old.name line_number)
+    ensures answers { AnswersAllowed shared.now client.old.name line_number
         (record { after = after; ask = pin_of number path }) result
         (view pass.old) (view pass.new) }
     ensures short { IsBehindEntry 0 result ⊎ AddsNothing result }
@@ -155,7 +155,7 @@ pub(crate) fn free<R: Wait, D: Disk>(
     ensures budget { turns_left pass.old ≤ turns_left pass.new + 1 }
     ensures name { client.new.name ≡ client.old.name }
     ensures knows { Knows (timetable_at shared.now.gate) client.new (view pass.new).seen }
-    ensures answers { AnswersLine (caller_of shared.now client.old.name line_number)
+    ensures answers { AnswersAllowed shared.now client.old.name line_number
         (record { after = after; ask = free_of number freed }) result
         (view pass.old) (view pass.new) }
     ensures short { IsBehindEntry 0 result ⊎ AddsNothing result }
@@ -204,7 +204,7 @@ pub(crate) fn show_entry<R: Wait, D: Disk>(
     ensures budget { turns_left pass.old ≤ turns_left pass.new + 1 }
     ensures name { client.new.name ≡ client.old.name }
     ensures knows { Knows (timetable_at shared.now.gate) client.new (view pass.new).seen }
-    ensures answers { AnswersLine (caller_of shared.now client.old.name line_number)
+    ensures answers { AnswersAllowed shared.now client.old.name line_number
         (record { after = after; ask = show_of at }) result
         (view pass.old) (view pass.new) }
     ensures short { IsBehindEntry 0 result ⊎ AddsNothing result }
@@ -242,7 +242,7 @@ pub(crate) fn front<R: Wait, D: Disk>(
     ensures budget { turns_left pass.old ≤ turns_left pass.new + 1 }
     ensures name { client.new.name ≡ client.old.name }
     ensures knows { Knows (timetable_at shared.now.gate) client.new (view pass.new).seen }
-    ensures answers { AnswersLine (caller_of shared.now client.old.name line_number)
+    ensures answers { AnswersAllowed shared.now client.old.name line_number
         (record { after = after; ask = front_of }) result
         (view pass.old) (view pass.new) }
     ensures short { IsBehindEntry 0 result ⊎ AddsNothing result }

@@ -32,7 +32,7 @@ slice_split-parts input =
     first_part (slice_split (λ byte. nat_eq byte line_end) input)
     (omega (arith, length-slice_split (λ byte. nat_eq byte line_end) input))
 
-ended-append : (lines : List (List ℕ)) (line : List ℕ)
+pub ended-append : (lines : List (List ℕ)) (line : List ℕ)
     → ended (lines ++ line ∷ []) ≡ ended lines ++ (line ++ line_end ∷ [])
 ended-append [] line = refl
 ended-append (first ∷ lines) line =
@@ -61,14 +61,14 @@ lines_of-last [] one = refl
 lines_of-last (byte ∷ bytes) one =
     ap without_empty_last (slice_split_none (λ byte'. nat_eq byte' line_end) (byte ∷ bytes) one)
 
-unless_empty-some : (line : List ℕ) → line ≢ [] → unless_empty line ≡ line ∷ []
+pub unless_empty-some : (line : List ℕ) → line ≢ [] → unless_empty line ≡ line ∷ []
 unless_empty-some [] some = absurd (some refl)
 unless_empty-some (byte ∷ bytes) some = refl
 
-have_no_end : (lines : List (List ℕ)) → All IsLine lines → All HasNoEnd lines
+pub have_no_end : (lines : List (List ℕ)) → All IsLine lines → All HasNoEnd lines
 have_no_end lines are k other within = (are k other within).one
 
-line_text : (front line pending : List ℕ)
+pub line_text : (front line pending : List ℕ)
     → front ++ (line ++ line_end ∷ pending) ≡ (front ++ (line ++ line_end ∷ [])) ++ pending
 line_text front line pending =
     sym (append_assoc front (line ++ line_end ∷ []) pending

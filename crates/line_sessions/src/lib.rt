@@ -6,9 +6,9 @@ mod desks;
 mod laws;
 mod sessions;
 mod streams;
-#[cfg(test)]
-mod tests;
 
+pub use cuts::cut_at;
 pub use desks::Desk;
 pub use laws::{inputs_are_cut_at_line_ends, limits_are_these};
 pub use sessions::{Ended, MAX_LINES, Why, serve_lines};
+pub use streams::{LineReader, More, Step};

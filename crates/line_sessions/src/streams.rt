@@ -18,7 +18,7 @@ const PIECE_BYTES: usize = 65_536;
 
 /// What came out of a source.
 #[derive(Clone, Copy, Debug, PartialEq, Eq)]
-pub(crate) enum Step {
+pub enum Step {
     /// A line with its line end.
     Line,
     /// A last line without a line end. It has a byte at least.
@@ -48,7 +48,7 @@ pub(crate) enum Found {
 
 /// How asking a source for more bytes came out.
 #[derive(Clone, Copy, Debug, PartialEq, Eq)]
-pub(crate) enum More {
+pub enum More {
     /// There are more.
     Bytes,
     /// The source is at its end.
@@ -59,7 +59,7 @@ pub(crate) enum More {
 
 /// Cuts the bytes of a source into lines.
 #[derive(Drop)]
-pub(crate) struct LineReader {
+pub struct LineReader {
     piece: Vec<u8>,
     begin: usize,
     end: usize,
@@ -83,7 +83,7 @@ impl Model for LineReader {
 
 impl LineReader {
     /// A reader that holds nothing. It takes the memory for what it reads at once and for the longest line.
-    pub(crate) fn new(alloc: Global) -> Result<LineReader, NoMemory>
+    pub fn new(alloc: Global) -> Result<LineReader, NoMemory>
         ensures { IfOk result (λ reader. reader.pending ≡ []) }
     {
         let mut line = Buffer::new(alloc);
@@ -97,14 +97,14 @@ impl LineReader {
     }
 
     /// The line that was read last.
-    pub(crate) fn line(&self) -> &[u8]
+    pub fn line(&self) -> &[u8]
         ensures { result.now ≡ self.now.line }
     {
         self.line.as_slice()
     }
 
     /// Reads up to the next line end.
-    pub(crate) fn next_line<S: Source>(&mut self, source: &mut S) -> Step
+    pub fn next_line<S: Source>(&mut self, source: &mut S) -> Step
         ensures says { Says result (S.left source.old) (S.left source.new)
             self.old.pending self.new }
         ensures quiet { result ≢ Step.ReadFault → S.faults source.new ≡ S.faults source.old }
@@ -128,7 +128,7 @@ impl LineReader {
     }
 
     /// Whether a byte comes behind the lines that were read.
-    pub(crate) fn has_more<S: Source>(&mut self, source: &mut S) -> More
+    pub fn has_more<S: Source>(&mut self, source: &mut S) -> More
         ensures says { SaysMore result (S.left source.old) (S.left source.new) self.old.pending }
         ensures quiet { result ≢ More.Failed → S.faults source.new ≡ S.faults source.old }
         ensures later { S.faults source.old ≤ S.faults source.new }

@@ -5,6 +5,3 @@ mod books;
 mod zones;
 
 pub use books::Occupations;
-
-#[cfg(test)]
-mod tests;

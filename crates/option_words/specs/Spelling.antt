@@ -12,6 +12,10 @@ pub record Setting : Type 0 where
   pub option : List ℕ
   pub value : List ℕ
 
+-- an option with this value
+abbrev pub setting : (option value : List ℕ) → Setting
+setting option value = record { option = option; value = value }
+
 -- the byte `-`
 abbrev pub dash : ℕ
 dash = 45

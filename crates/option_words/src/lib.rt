@@ -9,6 +9,6 @@ mod values;
 
 pub use faults::WordsFault;
 pub use numbers::{read_number, read_small_number};
-pub use settings::{Setting, read_settings};
+pub use settings::{Setting, cut_at_equals, read_settings};
 pub use texts::Text;
 pub use values::{has_only, optional_value, single_value, values_of};

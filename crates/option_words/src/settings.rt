@@ -125,8 +125,8 @@ fn behind_dash(word: &str) -> Option<&str>
     }
 }
 
-// What stands before the first `=`, and what stands behind it.
-fn cut_at_equals(text: &str) -> Option<(&str, &str)>
+/// What stands before the first `=` of a text, and what stands behind it: None where the text has none.
+pub fn cut_at_equals(text: &str) -> Option<(&str, &str)>
     ensures found { IfSome result (λ parts. IsCutAt equals_sign text.now parts.0.now parts.1.now) }
     ensures absent { IfNone result (Lacks equals_sign text.now) }
 {

@@ -1,57 +1,63 @@
 -- What is done at an order.
 use Rattle.std.specs.Prelude.{◌≢◌, ⊤, ℕ, List, None, Some}
+use Rattle.admission_rules.specs.declared.rules.Rule.{Ghosts as Rules}
+use Rattle.client_rules.specs.declared.clients.ClientRules.{ClientRules}
 use Rattle.exit_status.specs.declared.Status.{Status}
 use Rattle.outside_io.specs.declared.disks.Disk.{Ghosts as Disks}
 use Rattle.outside_io.specs.declared.sinks.Sink.{Ghosts as Sinks}
 use Rattle.outside_io.specs.declared.sources.Source.{Ghosts as Sources}
 use Rattle.file_rounds.specs.Scenes.{Scene}
 use Rattle.command_words.specs.declared.orders.Order.{Order}
-use Rattle.command_words.specs.declared.orders.Order.TheVariants.{Tables, Init, Stairs, Capacity, Serve}
+use Rattle.command_words.specs.declared.orders.Order.TheVariants.{Tables, Init, Stairs, Capacity, Serve, Demo}
 use Rattle.command_reports.specs.Works.{Runs}
 use Rattle.capacity_command.specs.Capacities.{stretch_of, TellsCapacity}
+use Rattle.demo_command.specs.Works.{demo_calls, DemoWorks, IsShown}
 use Rattle.init_command.specs.Works.{BeginOver, init_calls, IsDone, move_calls, MoveOver, ReadsBoth}
 use Rattle.journal_files.specs.Steps.{IsPrinted, print_calls, Prints}
 use Rattle.list_command.specs.Works.{IsListed, list_calls, ListWorks}
 use Rattle.serve_command.specs.Runs.{IsServed, RunsServe}
 use Rattle.stairs_command.specs.Tables.{TellsStairs}
 
--- an order was carried out, step by step
-abbrev pub OrderSays : {Src Snk Dsk : Type 0} → Sources Src → Sinks Snk → Disks Dsk → Order
-    → Scene Src Snk Dsk → Scene Src Snk Dsk → Status → Type 0
-OrderSays source sink disk (Tables network out) old new status =
+-- an order was carried out, step by step, with these rules of clients
+abbrev pub OrderSays : {Src Snk Dsk L : Type 0} → Sources Src → Sinks Snk → Disks Dsk → Rules L
+    → List (ClientRules L) → Order → Scene Src Snk Dsk → Scene Src Snk Dsk → Status → Type 0
+OrderSays source sink disk kind handed (Tables network out) old new status =
     Runs sink (list_calls network out) (ListWorks source sink network out) old new status
-OrderSays source sink disk (Init network base journal None) old new status =
+OrderSays source sink disk kind handed (Init network base journal None) old new status =
     Runs sink (init_calls network base journal)
     (ReadsBoth source network base (BeginOver disk journal)) old new status
-OrderSays source sink disk (Init network base journal (Some from)) old new status =
+OrderSays source sink disk kind handed (Init network base journal (Some from)) old new status =
     Runs sink (move_calls network base journal from)
     (ReadsBoth source network base (MoveOver disk journal from)) old new status
-OrderSays source sink disk (Stairs network base journal entry out) old new status =
+OrderSays source sink disk kind handed (Stairs network base journal entry out) old new status =
     Runs sink (print_calls network base journal out)
     (Prints source sink disk network base journal out (TellsStairs entry)) old new status
-OrderSays source sink disk (Capacity network base journal first last from to out) old new status =
+OrderSays source sink disk kind handed (Capacity network base journal first last from to out) old new status =
     Runs sink (print_calls network base journal out)
     (Prints source sink disk network base journal out
     (TellsCapacity (stretch_of first last from to))) old new status
-OrderSays source sink disk (Serve network trains base journal clients) old new status =
-    RunsServe source sink disk network base trains journal clients old new status
+OrderSays source sink disk kind handed (Serve network trains base journal clients rules) old new status =
+    RunsServe source sink disk kind network base trains journal clients handed old new status
+OrderSays source sink disk kind handed (Demo number out) old new status =
+    Runs sink (demo_calls out) (DemoWorks sink number out) old new status
 
--- all that an order asks for was done
-abbrev pub OrderIsDone : {Src Snk Dsk : Type 0} → Sources Src → Sinks Snk → Disks Dsk → Order
-    → Scene Src Snk Dsk → Scene Src Snk Dsk → Type 0
-OrderIsDone source sink disk (Tables network out) old new =
+-- all that an order asks for was done, with these rules of clients
+abbrev pub OrderIsDone : {Src Snk Dsk L : Type 0} → Sources Src → Sinks Snk → Disks Dsk → Rules L
+    → List (ClientRules L) → Order → Scene Src Snk Dsk → Scene Src Snk Dsk → Type 0
+OrderIsDone source sink disk kind handed (Tables network out) old new =
     IsListed source sink network out old new
-OrderIsDone source sink disk (Init network base journal None) old new =
+OrderIsDone source sink disk kind handed (Init network base journal None) old new =
     IsDone source network base (BeginOver disk journal) old new
-OrderIsDone source sink disk (Init network base journal (Some from)) old new =
+OrderIsDone source sink disk kind handed (Init network base journal (Some from)) old new =
     IsDone source network base (MoveOver disk journal from) old new
-OrderIsDone source sink disk (Stairs network base journal entry out) old new =
+OrderIsDone source sink disk kind handed (Stairs network base journal entry out) old new =
     IsPrinted source sink disk network base journal out (TellsStairs entry) old new
-OrderIsDone source sink disk (Capacity network base journal first last from to out) old new =
+OrderIsDone source sink disk kind handed (Capacity network base journal first last from to out) old new =
     IsPrinted source sink disk network base journal out
     (TellsCapacity (stretch_of first last from to)) old new
-OrderIsDone source sink disk (Serve network trains base journal clients) old new =
-    IsServed source sink disk network base trains journal clients old new
+OrderIsDone source sink disk kind handed (Serve network trains base journal clients rules) old new =
+    IsServed source sink disk kind network base trains journal clients handed old new
+OrderIsDone source sink disk kind handed (Demo number out) old new = IsShown sink number out old new
 
 -- the order has no disk of this name
 abbrev pub NamesNoDisk : Order → List ℕ → Type 0
@@ -60,7 +66,8 @@ NamesNoDisk (Init network base journal None) name = name ≢ journal
 NamesNoDisk (Init network base journal (Some from)) name = (name ≢ journal) × (name ≢ from)
 NamesNoDisk (Stairs network base journal entry out) name = name ≢ journal
 NamesNoDisk (Capacity network base journal first last from to out) name = name ≢ journal
-NamesNoDisk (Serve network trains base journal clients) name = name ≢ journal
+NamesNoDisk (Serve network trains base journal clients rules) name = name ≢ journal
+NamesNoDisk (Demo number out) name = ⊤
 
 -- the order serves no clients
 abbrev pub HasNoClients : Order → Type 0
@@ -68,4 +75,5 @@ HasNoClients (Tables network out) = ⊤
 HasNoClients (Init network base journal from) = ⊤
 HasNoClients (Stairs network base journal entry out) = ⊤
 HasNoClients (Capacity network base journal first last from to out) = ⊤
-HasNoClients (Serve network trains base journal clients) = ⊥
+HasNoClients (Serve network trains base journal clients rules) = ⊥
+HasNoClients (Demo number out) = ⊤

@@ -1,5 +1,7 @@
 -- What a run does, by its words.
 use Rattle.std.specs.Prelude.{◌⊎◌, ℕ, List, [], codes}
+use Rattle.admission_rules.specs.declared.rules.Rule.{Ghosts as Rules}
+use Rattle.client_rules.specs.declared.clients.ClientRules.{ClientRules}
 use Rattle.exit_status.specs.declared.Status.{Status}
 use Rattle.exit_status.specs.declared.Status.TheVariants.{Words}
 use Rattle.outside_io.specs.declared.disks.Disk.{Ghosts as Disks}
@@ -27,13 +29,13 @@ AskNoDisk words name = (order : Order) → AreWords words order → NamesNoDisk 
 abbrev pub AskNoClients : List Word → Type 0
 AskNoClients words = (order : Order) → AreWords words order → HasNoClients order
 
--- the words spell an order, and it was carried out
-pub record Obeys {Src Snk Dsk : Type 0} (source : Sources Src) (sink : Sinks Snk)
-    (disk : Disks Dsk) (words : List Word) (old new : Scene Src Snk Dsk)
-    (status : Status) : Type 0 where
+-- the words spell an order, and it was carried out with these rules of clients
+pub record Obeys {Src Snk Dsk L : Type 0} (source : Sources Src) (sink : Sinks Snk)
+    (disk : Disks Dsk) (kind : Rules L) (handed : List (ClientRules L)) (words : List Word)
+    (old new : Scene Src Snk Dsk) (status : Status) : Type 0 where
   pub order : Order
   pub asked : AreWords words order
-  pub says : OrderSays source sink disk order old new status
+  pub says : OrderSays source sink disk kind handed order old new status
 
 -- this was reported: the words are not understood; a line may want memory
 pub record TellsWords {Src Snk Dsk : Type 0} (sink : Sinks Snk) (old new : Scene Src Snk Dsk)
@@ -49,15 +51,16 @@ pub record Refuses {Src Snk Dsk : Type 0} (sink : Sinks Snk) (words : List Word)
   pub tells : TellsWords sink old new status
 
 -- what a run does: the order of the words; or it refuses the words; or memory was wanted for them
-abbrev pub RunSays : {Src Snk Dsk : Type 0} → Sources Src → Sinks Snk → Disks Dsk → List Word
-    → Scene Src Snk Dsk → Scene Src Snk Dsk → Status → Type 0
-RunSays source sink disk words old new status =
-    Obeys source sink disk words old new status
+abbrev pub RunSays : {Src Snk Dsk L : Type 0} → Sources Src → Sinks Snk → Disks Dsk → Rules L
+    → List (ClientRules L) → List Word → Scene Src Snk Dsk → Scene Src Snk Dsk → Status → Type 0
+RunSays source sink disk kind handed words old new status =
+    Obeys source sink disk kind handed words old new status
     ⊎ (Refuses sink words old new status ⊎ TellsRefusal sink Memory old new status)
 
--- the words spell an order, and all that it asks for was done
-pub record IsDone {Src Snk Dsk : Type 0} (source : Sources Src) (sink : Sinks Snk)
-    (disk : Disks Dsk) (words : List Word) (old new : Scene Src Snk Dsk) : Type 0 where
+-- the words spell an order, and all that it asks for was done, with these rules of clients
+pub record IsDone {Src Snk Dsk L : Type 0} (source : Sources Src) (sink : Sinks Snk)
+    (disk : Disks Dsk) (kind : Rules L) (handed : List (ClientRules L)) (words : List Word)
+    (old new : Scene Src Snk Dsk) : Type 0 where
   pub order : Order
   pub asked : AreWords words order
-  pub done : OrderIsDone source sink disk order old new
+  pub done : OrderIsDone source sink disk kind handed order old new

@@ -2,7 +2,9 @@
 #![tactic(auto)]
 
 mod orders;
+mod rules;
 mod runs;
 
 pub use exit_status::Status;
+pub use rules::rules_of_words;
 pub use runs::run;

@@ -7,8 +7,11 @@ ghost use Rattle.command_words.specs.Orders.{IsWithinLimits};
 ghost use Rattle.file_rounds.specs.Scenes.{scene};
 ghost use Rattle.osrd_stdcm.specs.Orders.{HasNoClients, NamesNoDisk, OrderIsDone, OrderSays};
 
+use admission_rules::Rule;
 use capacity_command::run_capacity;
+use client_rules::ClientRules;
 use command_words::Order;
+use demo_command::run_demo;
 use exit_status::Status;
 use init_command::{run_init, run_move};
 use list_command::run_list;
@@ -19,17 +22,18 @@ use std::alloc::AllocGlobal;
 use std::sync::Wait;
 use std::thread::Threads;
 
-/// Carries out an order.
-pub(crate) fn obey<R: AllocGlobal + Threads + Wait + Sync, O: Outside>(
+/// Carries out an order, with rules of clients.
+pub(crate) fn obey<R: AllocGlobal + Threads + Wait + Sync, O: Outside, L: Rule + Send>(
     rt: &R,
     order: Order,
+    rules: Vec<ClientRules<L>>,
     outside: &mut O,
 ) -> Status
     requires limits { IsWithinLimits order }
-    ensures says { OrderSays O.Src.Source O.Snk.Sink O.Dsk.Disk order
+    ensures says { OrderSays O.Src.Source O.Snk.Sink O.Dsk.Disk L.Rule rules.items order
         (scene O.Outside outside.old) (scene O.Outside outside.new) result }
-    ensures done { result ≡ Status.Done → OrderIsDone O.Src.Source O.Snk.Sink O.Dsk.Disk order
-        (scene O.Outside outside.old) (scene O.Outside outside.new) }
+    ensures done { result ≡ Status.Done → OrderIsDone O.Src.Source O.Snk.Sink O.Dsk.Disk L.Rule
+        rules.items order (scene O.Outside outside.old) (scene O.Outside outside.new) }
     ensures clean { HasNoClients order → result ≢ Status.Done → result ≢ Status.Report
         → Untouched (O.sinks outside.old) (O.sinks outside.new) }
     ensures refused { result ≢ Status.Done → result ≢ Status.ClientEnd → result ≢ Status.Report
@@ -106,6 +110,7 @@ pub(crate) fn obey<R: AllocGlobal + Threads + Wait + Sync, O: Outside>(
             base,
             journal,
             clients,
+            ..
         } => run_serve(
             rt,
             network.as_str(),
@@ -113,7 +118,9 @@ pub(crate) fn obey<R: AllocGlobal + Threads + Wait + Sync, O: Outside>(
             base.as_str(),
             journal.as_str(),
             clients.as_slice(),
+            rules,
             outside,
         ),
+        Order::Demo { number, out } => run_demo(rt, number, out.as_str(), outside),
     }
 }

@@ -7,6 +7,8 @@ ghost use Rattle.file_rounds.specs.Scenes.{scene};
 ghost use Rattle.osrd_stdcm.specs.Runs.{AskNoClients, AskNoDisk, AskNothing, IsDone, RunSays, TellsWords};
 
 use crate::orders::obey;
+use admission_rules::Rule;
+use client_rules::ClientRules;
 use command_reports::{Refusal, finish};
 use command_words::{WordsFault, read_words};
 use exit_status::Status;
@@ -15,35 +17,42 @@ use std::alloc::{AllocGlobal, Global};
 use std::sync::Wait;
 use std::thread::Threads;
 
-/// Runs the command that the words ask for.
+/// Runs the command that the words ask for, with rules of clients.
 ///
 /// `list --network F --out F` writes the table of a network's zones and blocks.
 ///
 /// `init --network F --base F --journal F` begins a journal; with `--from G` the entries of an old journal are moved to it.
 ///
 /// `serve --network F --trains F --base F --journal F --client NAME=IN:OUT`, with 1 to 16 clients, answers the lines of all
-/// clients at once, over the journal.
+/// clients at once, over the journal. With `--rule NAME=quota:N`, `--rule NAME=curfew:FROM:TO` or `--rule NAME=longest:METRES`,
+/// any number of them, paths are denied to clients by rules. These are made by the caller, and handed in: those of a client
+/// are in the elements with its name, in order. Elements with other names are dropped.
 ///
 /// `stairs --network F --base F --journal F --entry I --out F` writes the stairway table of a grant.
 ///
 /// `capacity --network F --base F --journal F --first A --last B --from T --to T --out F` writes how full a stretch is.
 ///
+/// `demo --number N --out F` asks a thousand times on a railway of its own, and writes how many asks were granted.
+///
 /// Any other words are not understood, and this is reported.
-pub fn run<R: AllocGlobal + Threads + Wait + Sync, O: Outside>(
+pub fn run<R: AllocGlobal + Threads + Wait + Sync, O: Outside, L: Rule + Send>(
     rt: &R,
     words: &[String],
     outside: &mut O,
+    rules: Vec<ClientRules<L>>,
 ) -> Status
     // All that is done, by the status and the report.
-    ensures says { RunSays O.Src.Source O.Snk.Sink O.Dsk.Disk (map string_bytes words.now)
-        (scene O.Outside outside.old) (scene O.Outside outside.new) result }
+    ensures says { RunSays O.Src.Source O.Snk.Sink O.Dsk.Disk L.Rule rules.items
+        (map string_bytes words.now) (scene O.Outside outside.old) (scene O.Outside outside.new)
+        result }
     // Words comes exactly where the words ask for nothing; want of memory alone may stand before it.
     ensures words { result ≡ Status.Words → AskNothing (map string_bytes words.now) }
     ensures form { AskNothing (map string_bytes words.now)
         → (result ≡ Status.Words) ⊎ (result ≡ Status.Memory) }
     // At Done all that was asked for was done.
-    ensures done { result ≡ Status.Done → IsDone O.Src.Source O.Snk.Sink O.Dsk.Disk
-        (map string_bytes words.now) (scene O.Outside outside.old) (scene O.Outside outside.new) }
+    ensures done { result ≡ Status.Done → IsDone O.Src.Source O.Snk.Sink O.Dsk.Disk L.Rule
+        rules.items (map string_bytes words.now) (scene O.Outside outside.old)
+        (scene O.Outside outside.new) }
     // At a refusal no sink gained anything: whatever the words, and at want of memory too where they serve no clients.
     ensures refused { result ≢ Status.Done → result ≢ Status.ClientEnd → result ≢ Status.Report
         → result ≢ Status.Memory → Untouched (O.sinks outside.old) (O.sinks outside.new) }
@@ -55,7 +64,7 @@ pub fn run<R: AllocGlobal + Threads + Wait + Sync, O: Outside>(
         → O.disks outside.new name ≡ O.disks outside.old name }
 {
     match read_words(rt.alloc(), words) {
-        Ok(order) => obey(rt, order, outside),
+        Ok(order) => obey(rt, order, rules, outside),
         Err(WordsFault::NotUnderstood) => refuse_words(rt.alloc(), outside),
         Err(WordsFault::Memory) => finish(Err(Refusal::Memory), outside),
     }

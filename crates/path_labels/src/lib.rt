@@ -10,14 +10,3 @@ mod seeks;
 pub use answers::Sought;
 pub use laws::{closed_plans_are_closed, granted_paths_are_planned, planned_paths_are_granted};
 pub use seeks::{find, label_count, seek};
-
-#[cfg(test)]
-mod comparisons;
-#[cfg(test)]
-mod doubles;
-#[cfg(test)]
-mod draws;
-#[cfg(test)]
-mod made;
-#[cfg(test)]
-mod tests;

@@ -10,12 +10,3 @@ pub use journal_reading::{InitFault, OpenFault, init};
 pub use laws::{reopen, run_and_reopen};
 pub use opening::open;
 pub use texts::{fault_text, not_empty_text};
-
-#[cfg(test)]
-mod crash_tests;
-#[cfg(test)]
-mod fixtures;
-#[cfg(test)]
-mod since_tests;
-#[cfg(test)]
-mod tests;

@@ -7,8 +7,6 @@ mod joining;
 mod laws;
 mod limits;
 mod notes;
-#[cfg(test)]
-mod tests;
 mod worlds;
 
 pub use events::Event;

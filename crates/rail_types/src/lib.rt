@@ -33,6 +33,3 @@ pub use names::Name;
 pub use paths::{Claim, Path, Run, Span, Tick, Window};
 pub use tracks::{Block, Cell, NetFlaw, Network};
 pub use trains::{Request, Stop, Train};
-
-#[cfg(test)]
-mod tests;

@@ -12,6 +12,3 @@ pub use infra_types::{
     Applies, Bal, Direction, End, Group, Infra, OperationalPoint, Part, Placed, Range, Route,
     RoutePoint, Signal, SpeedSection, Switch, SwitchKind, Track, TrackEnd, Way,
 };
-
-#[cfg(test)]
-mod tests;

@@ -35,14 +35,16 @@ pub(crate) fn print_all<P: Print>(items: &[P], to: &mut Buffer) -> Result<(), No
     Ok(())
 }
 
-pub(crate) fn print_word(word: &[u8], to: &mut Buffer) -> Result<(), NoMemory>
+/// Appends a word behind a space.
+pub fn print_word(word: &[u8], to: &mut Buffer) -> Result<(), NoMemory>
     ensures { Writes (32 ∷ word.now) to.old to.new result }
 {
     to.extend(b" ")?;
     to.extend(word)
 }
 
-pub(crate) fn print_number(number: u64, to: &mut Buffer) -> Result<(), NoMemory>
+/// Appends a number behind a space.
+pub fn print_number(number: u64, to: &mut Buffer) -> Result<(), NoMemory>
     ensures { Writes (32 ∷ decimal number) to.old to.new result }
 {
     let mut digits = Digits::new();
@@ -58,21 +60,24 @@ pub(crate) fn print_said(word: &[u8], number: u64, to: &mut Buffer) -> Result<()
     print_number(number, to)
 }
 
-pub(crate) fn print_name(name: &[u8], to: &mut Buffer) -> Result<(), NoMemory>
+/// Appends a name behind a space, as lines spell it.
+pub fn print_name(name: &[u8], to: &mut Buffer) -> Result<(), NoMemory>
     ensures { Writes (32 ∷ escaped name.now) to.old to.new result }
 {
     to.extend(b" ")?;
     push_escaped(name, to)
 }
 
-fn print_tick(tick: &Tick, to: &mut Buffer) -> Result<(), NoMemory>
+/// Appends a tick behind a space.
+pub fn print_tick(tick: &Tick, to: &mut Buffer) -> Result<(), NoMemory>
     ensures { Writes (32 ∷ signed_decimal tick.now) to.old to.new result }
 {
     let mut digits = Digits::new();
     print_word(digits.format(*tick).as_bytes(), to)
 }
 
-fn print_flag(flag: bool, to: &mut Buffer) -> Result<(), NoMemory>
+/// Appends `1` or `0` behind a space.
+pub fn print_flag(flag: bool, to: &mut Buffer) -> Result<(), NoMemory>
     ensures { Writes (32 ∷ flag_field flag) to.old to.new result }
 {
     if flag {

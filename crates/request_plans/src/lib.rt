@@ -8,6 +8,3 @@ mod plans;
 pub use laws::plans_may_be_searched;
 pub use places::planned_place;
 pub use plans::plan_of;
-
-#[cfg(test)]
-mod tests;

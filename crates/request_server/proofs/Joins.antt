@@ -1,5 +1,5 @@
 -- One client's pass more is joined.
-use Rattle.std.proofs.Common.{◌≡◌, ℕ, suc, refl, ◌+◌, ◌-◌, ◌^◌, ◌≤◌, ◌<◌, List, [], ◌∷◌, ◌++◌, All, IsPermutation, flat_map, get_or, length, reverse, ap, sym, ◌∙◌, subst, arith}
+use Rattle.std.proofs.Common.{◌≡◌, ℕ, ◌+◌, ◌-◌, ◌^◌, ◌≤◌, ◌<◌, List, [], ◌∷◌, ◌++◌, All, IsPermutation, flat_map, reverse, ap, sym, ◌∙◌, subst, arith}
 use Rattle.std.proofs.lemmas.List.{append-nil, append_assoc, reverse-append}
 use Rattle.std.proofs.lemmas.List.Concat.{flat_map-append}
 use Rattle.std.proofs.lemmas.List.Elements.{All-head, All-tail, All-weaker, All-push, All-nil, All-append, Contains-append_left, Contains-append_right}
@@ -16,6 +16,14 @@ use Rattle.request_server.specs.Talks.{AreBelowEnd, AreSettledWithin, Callers, f
 use Rattle.request_server.proofs.Histories.{talk_longer}
 use Rattle.request_server.proofs.Replies.{All-left, All-right}
 use Rattle.request_server.proofs.Told.{told_more}
+
+-- what holds of the lists joined into a pass with another's holds of those joined before, and of what the other has seen
+pub joined_parts : (P : List Entry → Type 0) (v w new : Sight) → new ≡ joining v w → All P new.joined → All P v.joined × P w.seen
+joined_parts P v w new same all =
+    let whole : All P ((v.joined ++ w.joined) ++ v.seen ∷ w.seen ∷ []) = subst (All P) (ap (λ (x : Sight). x.joined) same) all in (
+      All-left P v.joined w.joined (All-left P (v.joined ++ w.joined) (v.seen ∷ w.seen ∷ []) whole),
+      All-head P w.seen [] (All-tail P v.seen (w.seen ∷ []) (All-right P (v.joined ++ w.joined) (v.seen ∷ w.seen ∷ []) whole)),
+    )
 
 module _ (callers : List ℕ → Callers) (least : ℕ) where
   pub joined_none : (v : Sight) → v.turns ≡ [] → AreJoined callers least v []
@@ -37,12 +45,9 @@ module _ (callers : List ℕ → Callers) (least : ℕ) where
       → AreJoined callers least new (talks ++ talk ∷ [])
   joined_more v w new talks talk joined replies mine counts told settles same turns entries rise = record {
     replies = λ history ends.
-        let P : List Entry → Type 0 = λ list. StartsWith history list in
-        let all : All P ((v.joined ++ w.joined) ++ v.seen ∷ w.seen ∷ []) = subst (All P) (ap (λ (x : Sight). x.joined) same) ends in
-        let seen = All-head P w.seen [] (All-tail P v.seen (w.seen ∷ []) (All-right P (v.joined ++ w.joined) (v.seen ∷ w.seen ∷ []) all)) in
-        All-push (IsTalkOf callers least history) talks talk
-        (joined.replies history (All-left P v.joined w.joined (All-left P (v.joined ++ w.joined) (v.seen ∷ w.seen ∷ []) all)))
-        (talk_longer history w.seen (callers talk.name) least talk.traffic.told seen replies);
+        let parts = joined_parts (λ list. StartsWith history list) v w new same ends in
+        All-push (IsTalkOf callers least history) talks talk (joined.replies history parts.0)
+        (talk_longer history w.seen (callers talk.name) least talk.rules talk.traffic.told parts.1 replies);
     entries =
         let f : Talk → List ℕ = λ t. printed t.traffic.told in
         let theirs : flat_map f (talks ++ talk ∷ []) ≡ flat_map f talks ++ own w.turns = flat_map-append f talks (talk ∷ []) ∙ ap (λ l. flat_map f talks ++ l) (append-nil (f talk) ∙ sym mine) in

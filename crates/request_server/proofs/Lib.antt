@@ -1,8 +1,9 @@
 pub mod Counts
 pub mod Shares
 pub mod Told
-pub mod Histories
 pub mod Rows
+pub mod Owned
+pub mod Histories
 pub mod Settles
 pub mod Replies
 pub mod Joins

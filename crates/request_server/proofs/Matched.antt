@@ -3,23 +3,28 @@ use Rattle.std.proofs.Common.{◌≡◌, ◌≢◌, ℕ, suc, ◌+◌, ◌<◌, 
 use Rattle.std.proofs.Math.ListN.{get_or-map}
 use Rattle.std.proofs.lemmas.List.{append-nil, append_assoc, get_or_default, length-map, nil_from_length, reverse-append}
 use Rattle.std.proofs.lemmas.List.Elements.{All-cons, All-head, All-nil, All-tail}
+use Rattle.admission_rules.specs.declared.rules.Rule.{Ghosts as Rules}
 use Rattle.book_gate.specs.Passes.{view}
 use Rattle.book_gate.specs.Steps.{joining}
-use Rattle.book_gate.specs.Views.{own, rises}
+use Rattle.book_gate.specs.Views.{StartsWith, own, rises}
+use Rattle.client_rules.specs.Ruled.{stand}
+use Rattle.client_rules.specs.Told.{told_at}
 use Rattle.client_turns.specs.Turns.{IsReady, Sight, timetable_at}
 use Rattle.line_answers.specs.Callers.{caller_of}
 use Rattle.line_answers.specs.declared.shared.Shared.{Shared}
 use Rattle.line_sessions.specs.Ends.{Streams}
 use Rattle.line_sessions.specs.Told.{Told}
+use Rattle.rail_types.specs.declared.entries.Entry.{Entry}
 use Rattle.request_server.specs.declared.plans.Job.{Job}
 use Rattle.request_server.specs.declared.plans.Plan.{Plan}
 use Rattle.request_server.specs.declared.plans.Session.{Session}
-use Rattle.request_server.specs.declared.seats.Seat.{Seat}
-use Rattle.request_server.specs.Jobs.{AreJoined, found_at, IsBack, IsDoneJob, IsReadyJob, plan_of, WasServed}
-use Rattle.request_server.specs.Runs.{AreMatched, callers_of, IsServed}
+use Rattle.request_server.specs.Jobs.{AreJoined, Begun, begun, begun_of, found_at, HasPassed, IsDoneJob, IsReadyJob, session_of, WasServed}
+use Rattle.request_server.specs.Runs.{AreMatched, callers_of, IsServed, owned}
 use Rattle.request_server.specs.Talks.{Callers, IsTalk, printed, Talk}
-use Rattle.request_server.proofs.Joins.{joined_more, joined_none}
+use Rattle.request_server.proofs.Histories.{given_within}
+use Rattle.request_server.proofs.Joins.{joined_more, joined_none, joined_parts}
 use Rattle.request_server.proofs.Replies.{seat_callers, Seated, seated_all, talk_of}
+use Rattle.request_server.proofs.Owned.{told_at-longer, told_whole}
 
 module _ {X Y Z : Type 0} (R : X → Y → Z → Type 0) where
   matched_push : (xs : List X) (ys : List Y) (zs : List Z) (x : X) (y : Y) (z : Z) → AreMatched R xs ys zs → R x y z
@@ -135,28 +140,29 @@ apart_alike f g xs zs same apart =
 abbrev pub shared_callers : {D : Type 0} → Shared D → List ℕ → Callers
 shared_callers shared = callers_of shared.known (timetable_at shared.gate)
 
-module _ {D Src Snk Btw : Type 0} (shared : Shared D) (streams : Streams Src Snk) where
-  abbrev pub talk_in : (old new : Job D Src Snk Btw) → WasServed streams old new → Talk
-  talk_in old new was = record { name = old.session.name; traffic = was.ends.traffic }
+module _ {D Src Snk Btw L : Type 0} (kind : Rules L) (shared : Shared D) (streams : Streams Src Snk) where
+  abbrev pub talk_in : (old new : Job D Src Snk Btw L) → WasServed kind streams old new → Talk
+  talk_in old new was = record { name = old.name; rules = stand kind old.seat.rules.items; traffic = was.ends.traffic }
 
-  one_done : (old new : Job D Src Snk Btw) → IsReadyJob shared old → (was : WasServed streams old new)
-      → IsDoneJob (shared_callers shared) shared streams (plan_of old) new (talk_in old new was)
+  one_done : (old new : Job D Src Snk Btw L) → IsReadyJob shared old → (was : WasServed kind streams old new)
+      → IsDoneJob kind (shared_callers shared) shared streams (begun_of kind old) new (talk_in old new was)
   one_done old new ready was =
       let told : List Told = was.ends.traffic.told in
-      let seated : Seated old.seat new.seat (seat_callers old.seat) told = seated_all old.seat new.seat told was.ends.answered in
+      let rules = stand kind old.seat.rules.items in
+      let seated : Seated kind old.seat new.seat (seat_callers kind old.seat) told = seated_all kind old.seat new.seat told was.ends.answered in
       let serves = seated.serving.serves in
       let gate : new.seat.shared.now ≡ shared = ap (λ s. s.now) seated.shared ∙ ready.shared_is in
-      let callers : seat_callers old.seat ≡ shared_callers shared old.session.name =
-      ap {A = Shared D} {B = Callers} (λ s number. caller_of s old.seat.client.name number) ready.shared_is
-      ∙ ap {A = List ℕ} {B = Callers} (λ name number. caller_of shared name number) ready.name in record {
-        served = record { name = was.name; talk_name = refl; passes = was.ends.passes };
+      let callers : seat_callers kind old.seat ≡ shared_callers shared old.name =
+      ap {A = Shared D} {B = Callers} (λ s number its. caller_of s its old.seat.client.name number) ready.shared_is
+      ∙ ap {A = List ℕ} {B = Callers} (λ name number its. caller_of shared its name number) ready.name in record {
+        passed = record { name = was.name; talk_name = refl; rules = refl; passes = was.ends.passes; told = seated.serving.ruled };
         back = record {
           ready = subst (λ (s : Shared D). IsReady s.gate new.seat.pass) gate was.seated.ready;
           share = serves.share ∙ ready.share;
         };
-        replies = subst (λ (n : ℕ). IsTalk (view new.seat.pass).seen (shared_callers shared old.session.name) n told) (ap length ready.seen)
-            (subst (λ (c : Callers). IsTalk (view new.seat.pass).seen c (length (view old.seat.pass).seen) told) callers
-            (talk_of (view old.seat.pass) (view new.seat.pass) (seat_callers old.seat) told seated.serving));
+        replies = subst (λ (n : ℕ). IsTalk (view new.seat.pass).seen (shared_callers shared old.name) n rules told) (ap length ready.seen)
+            (subst (λ (c : Callers). IsTalk (view new.seat.pass).seen c (length (view old.seat.pass).seen) rules told) callers
+            (talk_of (view old.seat.pass) (view new.seat.pass) (seat_callers kind old.seat) rules (stand kind new.seat.rules.items) told seated.serving));
         own_entries = serves.own_entries ∙ ap (λ ts. own ts ++ printed told) ready.turns;
         counts = λ below. let all = serves.counts below in omega arith;
         told_so = serves.told_so ready.turns;
@@ -164,78 +170,133 @@ module _ {D Src Snk Btw : Type 0} (shared : Shared D) (streams : Streams Src Snk
       }
 
   -- where each was served, all are done
-  pub all_done : (olds news : List (Job D Src Snk Btw)) → length news ≡ length olds → All (IsReadyJob shared) olds
-      → ((k : ℕ) (d : Job D Src Snk Btw) → k < length olds → WasServed streams (get_or olds k d) (get_or news k d))
-      → (talks : List Talk) × AreMatched (IsDoneJob (shared_callers shared) shared streams) (map plan_of olds) news talks
+  pub all_done : (olds news : List (Job D Src Snk Btw L)) → length news ≡ length olds → All (IsReadyJob shared) olds
+      → ((k : ℕ) (d : Job D Src Snk Btw L) → k < length olds → WasServed kind streams (get_or olds k d) (get_or news k d))
+      → (talks : List Talk) × AreMatched (IsDoneJob kind (shared_callers shared) shared streams) (map (begun_of kind) olds) news talks
   all_done [] [] long ready each = ([], tt)
   all_done [] (new ∷ news) long ready each = absurd (omega arith)
   all_done (old ∷ olds) [] long ready each = absurd (omega arith)
   all_done (old ∷ olds) (new ∷ news) long ready each =
-      let was : WasServed streams old new = each 0 old (omega arith) in
+      let was : WasServed kind streams old new = each 0 old (omega arith) in
       let rest = all_done olds news (omega arith) (All-tail (IsReadyJob shared) old olds ready) (λ k d below. each (suc k) d (omega arith)) in
       (talk_in old new was ∷ rest.0, (one_done old new (All-head (IsReadyJob shared) old olds ready) was, rest.1))
 
   -- ---- passes that are taken in
 
+  -- what passed by what a pass has seen passed by each longer history
+  passed_longer : (history : List Entry) (client : Begun Src Snk Btw) (job : Job D Src Snk Btw L) (talk : Talk) → StartsWith history (view job.seat.pass).seen
+      → IsDoneJob kind (shared_callers shared) shared streams client job talk → HasPassed kind streams history client (session_of job) talk
+  passed_longer history client job talk more done =
+      let passed = done.passed in
+      let told : List Told = talk.traffic.told in let seen : List Entry = (view job.seat.pass).seen in
+      let within = given_within seen (shared_callers shared talk.name) 1 (length (found_at shared.gate)) talk.rules told done.replies.given in record {
+        name = passed.name;
+        talk_name = passed.talk_name;
+        rules = passed.rules;
+        passes = passed.passes;
+        told = passed.told ∙ sym (told_at-longer history seen (printed told) talk.rules more within);
+      }
+
   -- some clients, from the last job on, were taken in
-  pub record Joining (plans : List (Plan Src Snk Btw)) (talks : List Talk) (jobs : List (Job D Src Snk Btw)) (sessions : List (Session Src Snk)) (v : Sight) : Type 0 where
-    pub plans_in : List (Plan Src Snk Btw)
-    pub plans_out : List (Plan Src Snk Btw)
+  pub record Joining (clients : List (Begun Src Snk Btw)) (talks : List Talk) (jobs : List (Job D Src Snk Btw L)) (sessions : List (Session Src Snk L)) (v : Sight) : Type 0 where
+    pub clients_in : List (Begun Src Snk Btw)
+    pub clients_out : List (Begun Src Snk Btw)
     pub talks_in : List Talk
     pub talks_out : List Talk
-    pub plans_are : plans ≡ plans_in ++ plans_out
+    pub clients_are : clients ≡ clients_in ++ clients_out
     pub talks_are : talks ≡ talks_in ++ talks_out
-    pub served : AreMatched (IsServed streams) plans_in sessions talks_in
-    pub out : AreMatched (IsDoneJob (shared_callers shared) shared streams) plans_out (reverse jobs) talks_out
+    pub passed : (history : List Entry) → All (λ list. StartsWith history list) v.joined → AreMatched (HasPassed kind streams history) clients_in sessions talks_in
+    pub out : AreMatched (IsDoneJob kind (shared_callers shared) shared streams) clients_out (reverse jobs) talks_out
     pub joined : AreJoined (shared_callers shared) (length (found_at shared.gate)) v talks_in
 
-  pub joining_none : (plans : List (Plan Src Snk Btw)) (talks : List Talk) (jobs : List (Job D Src Snk Btw)) (v : Sight)
-      → AreMatched (IsDoneJob (shared_callers shared) shared streams) plans (reverse jobs) talks → v.turns ≡ []
-      → Joining plans talks jobs [] v
-  joining_none plans talks jobs v all none = record {
-    plans_in = [];
-    plans_out = plans;
+  pub joining_none : (clients : List (Begun Src Snk Btw)) (talks : List Talk) (jobs : List (Job D Src Snk Btw L)) (v : Sight)
+      → AreMatched (IsDoneJob kind (shared_callers shared) shared streams) clients (reverse jobs) talks → v.turns ≡ []
+      → Joining clients talks jobs [] v
+  joining_none clients talks jobs v all none = record {
+    clients_in = [];
+    clients_out = clients;
     talks_in = [];
     talks_out = talks;
-    plans_are = refl;
+    clients_are = refl;
     talks_are = refl;
-    served = tt;
+    passed = λ history ends. tt;
     out = all;
     joined = joined_none (shared_callers shared) (length (found_at shared.gate)) v none;
   }
 
-  pub joining_more : (plans : List (Plan Src Snk Btw)) (talks : List Talk) (rest : List (Job D Src Snk Btw)) (job : Job D Src Snk Btw) (sessions : List (Session Src Snk)) (v new : Sight)
-      → Joining plans talks (rest ++ job ∷ []) sessions v → new ≡ joining v (view job.seat.pass)
+  pub joining_more : (clients : List (Begun Src Snk Btw)) (talks : List Talk) (rest : List (Job D Src Snk Btw L)) (job : Job D Src Snk Btw L) (sessions : List (Session Src Snk L)) (v new : Sight)
+      → Joining clients talks (rest ++ job ∷ []) sessions v → new ≡ joining v (view job.seat.pass)
       → IsPermutation (v.turns ++ (view job.seat.pass).turns) new.turns
       → IsPermutation (own v.turns ++ own (view job.seat.pass).turns) (own new.turns)
       → rises new.turns ≡ rises v.turns + rises (view job.seat.pass).turns
-      → Joining plans talks rest (sessions ++ job.session ∷ []) new
-  joining_more plans talks rest job sessions v new j same turns entries rise =
-      let R = IsDoneJob (shared_callers shared) shared streams in
-      let out : AreMatched R j.plans_out (job ∷ reverse rest) j.talks_out =
-      subst (λ l. AreMatched R j.plans_out l j.talks_out) (reverse-append rest (job ∷ [])) j.out in
-      let f : First R j.plans_out job (reverse rest) j.talks_out = first_of R j.plans_out job (reverse rest) j.talks_out out in record {
-        plans_in = j.plans_in ++ f.x ∷ [];
-        plans_out = f.others;
+      → Joining clients talks rest (sessions ++ session_of job ∷ []) new
+  joining_more clients talks rest job sessions v new j same turns entries rise =
+      let R = IsDoneJob kind (shared_callers shared) shared streams in
+      let out : AreMatched R j.clients_out (job ∷ reverse rest) j.talks_out =
+      subst (λ l. AreMatched R j.clients_out l j.talks_out) (reverse-append rest (job ∷ [])) j.out in
+      let f : First R j.clients_out job (reverse rest) j.talks_out = first_of R j.clients_out job (reverse rest) j.talks_out out in record {
+        clients_in = j.clients_in ++ f.x ∷ [];
+        clients_out = f.others;
         talks_in = j.talks_in ++ f.z ∷ [];
         talks_out = f.rest;
-        plans_are = j.plans_are ∙ ap (λ l. j.plans_in ++ l) f.xs_are ∙ sym (append_assoc j.plans_in (f.x ∷ []) f.others);
+        clients_are = j.clients_are ∙ ap (λ l. j.clients_in ++ l) f.xs_are ∙ sym (append_assoc j.clients_in (f.x ∷ []) f.others);
         talks_are = j.talks_are ∙ ap (λ l. j.talks_in ++ l) f.zs_are ∙ sym (append_assoc j.talks_in (f.z ∷ []) f.rest);
-        served = matched_push (IsServed streams) j.plans_in sessions j.talks_in f.x job.session f.z j.served f.one.served;
+        passed = λ history ends.
+            let parts = joined_parts (λ list. StartsWith history list) v (view job.seat.pass) new same ends in
+            matched_push (HasPassed kind streams history) j.clients_in sessions j.talks_in f.x (session_of job) f.z (j.passed history parts.0) (passed_longer history f.x job f.z parts.1 f.one);
         out = f.left;
         joined = joined_more (shared_callers shared) (length (found_at shared.gate)) v (view job.seat.pass) new j.talks_in f.z j.joined f.one.replies f.one.own_entries f.one.counts f.one.told_so f.one.settled same turns entries rise;
       }
 
-  pub joining_all : (plans : List (Plan Src Snk Btw)) (talks : List Talk) (jobs : List (Job D Src Snk Btw)) (sessions : List (Session Src Snk)) (v : Sight)
-      → Joining plans talks jobs sessions v → length jobs ≡ 0
-      → AreMatched (IsServed streams) plans sessions talks × AreJoined (shared_callers shared) (length (found_at shared.gate)) v talks
-  joining_all plans talks jobs sessions v j empty =
+  pub joining_all : (clients : List (Begun Src Snk Btw)) (talks : List Talk) (jobs : List (Job D Src Snk Btw L)) (sessions : List (Session Src Snk L)) (v : Sight)
+      → Joining clients talks jobs sessions v → length jobs ≡ 0
+      → ((history : List Entry) → All (λ list. StartsWith history list) v.joined → AreMatched (HasPassed kind streams history) clients sessions talks)
+      × AreJoined (shared_callers shared) (length (found_at shared.gate)) v talks
+  joining_all clients talks jobs sessions v j empty =
       let none = nil_from_length jobs empty in
-      let R = IsDoneJob (shared_callers shared) shared streams in
-      let left = none_left R j.plans_out j.talks_out (subst (λ l. AreMatched R j.plans_out (reverse l) j.talks_out) none j.out) in
-      let all_plans : j.plans_in ≡ plans = sym (j.plans_are ∙ ap (λ l. j.plans_in ++ l) left.0 ∙ append-nil j.plans_in) in
+      let R = IsDoneJob kind (shared_callers shared) shared streams in
+      let left = none_left R j.clients_out j.talks_out (subst (λ l. AreMatched R j.clients_out (reverse l) j.talks_out) none j.out) in
+      let all_clients : j.clients_in ≡ clients = sym (j.clients_are ∙ ap (λ l. j.clients_in ++ l) left.0 ∙ append-nil j.clients_in) in
       let all_talks : j.talks_in ≡ talks = sym (j.talks_are ∙ ap (λ l. j.talks_in ++ l) left.1 ∙ append-nil j.talks_in) in (
-        subst (λ l. AreMatched (IsServed streams) l sessions talks) all_plans
-            (subst (λ l. AreMatched (IsServed streams) j.plans_in sessions l) all_talks j.served),
+        λ history ends.
+            subst (λ l. AreMatched (HasPassed kind streams history) l sessions talks) all_clients
+            (subst (λ l. AreMatched (HasPassed kind streams history) j.clients_in sessions l) all_talks (j.passed history ends)),
         subst (AreJoined (shared_callers shared) (length (found_at shared.gate)) v) all_talks j.joined,
+      )
+
+-- ---- what the clients were told, by the history left
+
+module _ {Src Snk Btw L : Type 0} (kind : Rules L) (streams : Streams Src Snk) (found left : List Entry) where
+  pub names_begun : (plans : List (Plan Src Snk Btw L)) → map (λ (b : Begun Src Snk Btw). b.name) (map (begun kind found) plans) ≡ map (λ (p : Plan Src Snk Btw L). p.name) plans
+  names_begun [] = refl
+  names_begun (p ∷ plans) = ap (λ l. p.name ∷ l) (names_begun plans)
+
+  one_served : (plan : Plan Src Snk Btw L) (session : Session Src Snk L) (talk : Talk) → StartsWith left found → HasPassed kind streams left (begun kind found plan) session talk
+      → owned left talk.name (length found) ≡ printed talk.traffic.told → IsServed kind streams found left plan session talk
+  one_served plan session talk more passed entries = record {
+    name = passed.name;
+    talk_name = passed.talk_name;
+    passes = passed.passes;
+    begun = passed.rules;
+    told = passed.told ∙ ap (λ ps. told_at left ps talk.rules) (sym entries)
+        ∙ ap (λ name. told_at left (owned left name (length found)) talk.rules) passed.talk_name
+        ∙ ap (told_at left (owned left plan.name (length found))) passed.rules
+        ∙ told_whole left found plan.name (stand kind plan.rules.items) more;
+  }
+
+  pub all_served : (plans : List (Plan Src Snk Btw L)) (sessions : List (Session Src Snk L)) (talks : List Talk) → StartsWith left found
+      → AreMatched (HasPassed kind streams left) (map (begun kind found) plans) sessions talks
+      → All (λ (t : Talk). owned left t.name (length found) ≡ printed t.traffic.told) talks
+      → AreMatched (IsServed kind streams found left) plans sessions talks
+  all_served [] [] [] more all entries = tt
+  all_served [] [] (t ∷ talks) more all entries = absurd all
+  all_served [] (s ∷ sessions) [] more all entries = absurd all
+  all_served [] (s ∷ sessions) (t ∷ talks) more all entries = absurd all
+  all_served (p ∷ plans) [] [] more all entries = absurd all
+  all_served (p ∷ plans) [] (t ∷ talks) more all entries = absurd all
+  all_served (p ∷ plans) (s ∷ sessions) [] more all entries = absurd all
+  all_served (p ∷ plans) (s ∷ sessions) (t ∷ talks) more all entries =
+      let P : Talk → Type 0 = λ u. owned left u.name (length found) ≡ printed u.traffic.told in (
+        one_served p s t more all.0 (All-head P t talks entries),
+        all_served plans sessions talks more all.1 (All-tail P t talks entries),
       )

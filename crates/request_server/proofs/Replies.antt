@@ -1,5 +1,5 @@
 -- One reply more in a session.
-use Rattle.std.proofs.Common.{◌≡◌, ℕ, ◌+◌, ◌-◌, ◌^◌, ◌≤◌, ◌<◌, All, AllPairs, List, [], ◌∷◌, ◌++◌, Some, length, get_or, min, ap, sym, ◌∙◌, subst, refl, arith, append_assoc, length-append}
+use Rattle.std.proofs.Common.{◌≡◌, ℕ, ◌+◌, ◌-◌, ◌^◌, ◌≤◌, ◌<◌, All, AllPairs, List, [], ◌∷◌, ◌++◌, Some, length, get_or, ap, sym, ◌∙◌, subst, refl, arith, append_assoc, length-append}
 use mathlib.Core.Logic.{⊎_elim}
 use Rattle.std.proofs.lemmas.Bool.{cases_lt}
 use Rattle.std.proofs.lemmas.List.{append-nil, length_push, get_or_append_left, get_or_push, get_or-append-add}
@@ -9,21 +9,24 @@ use Rattle.std.proofs.lemmas.List.Sums.{sum_by-append, sum_by_push}
 use Rattle.book_gate.specs.declared.views.Turn.{Turn}
 use Rattle.book_gate.specs.Passes.{view}
 use Rattle.book_gate.specs.Views.{StartsWith, positions, own, rises}
+use Rattle.admission_rules.specs.declared.rules.Rule.{Ghosts as Rules}
+use Rattle.client_rules.specs.Ruled.{Ruled, stand}
+use Rattle.client_rules.specs.Told.{told_at}
 use Rattle.client_turns.specs.Turns.{Sight}
-use Rattle.line_answers.specs.Answers.{Caller}
 use Rattle.line_answers.specs.Callers.{caller_of}
 use Rattle.line_answers.specs.Calls.{AnswersBetween, EndInFault, IsToldIn, Settle}
 use Rattle.line_answers.specs.Points.{added, fault, point, unsettled_by}
+use Rattle.line_answers.specs.Rules.{told_by}
 use Rattle.line_sessions.specs.Told.{AreAnswered, Told}
-use Rattle.rail_types.specs.declared.entries.Entry.{Entry}
 use Rattle.reply_texts.specs.declared.replies.Reply.{Reply}
 use Rattle.reply_texts.specs.declared.replies.Reply.TheVariants as reply
 use Rattle.request_server.specs.declared.seats.Seat.{Seat}
 use Rattle.request_server.specs.Seats.{AnswersAt}
-use Rattle.request_server.specs.Talks.{AreBelowEnd, AreGiven, AreSettledWithin, Callers, IsNoOlder, IsTalk, IsWithinSettled, printed, Serves, unsettled}
-use Rattle.request_server.proofs.Histories.{given_longer, given_more, least_behind, least_more, least_within, starts_refl, starts_trans}
+use Rattle.request_server.specs.Talks.{AreBelowEnd, AreGiven, AreSettledWithin, Callers, IsAnswer, IsNoOlder, IsTalk, IsWithinSettled, printed, Serves, unsettled}
+use Rattle.request_server.proofs.Histories.{given_longer, given_more, given_within, least_behind, least_more, least_within, starts_refl, starts_trans}
 use Rattle.request_server.proofs.Rows.{point_left}
 use Rattle.request_server.proofs.Settles.{reply_within}
+use Rattle.request_server.proofs.Owned.{told_at-append, told_at-longer}
 use Rattle.request_server.proofs.Told.{told_more}
 
 pub All-left : {X : Type 0} (P : X → Type 0) (xs ys : List X) → All P (xs ++ ys) → All P xs
@@ -32,10 +35,11 @@ All-left P xs ys h = λ k d below. subst P (get_or_append_left xs ys d k below) 
 pub All-right : {X : Type 0} (P : X → Type 0) (xs ys : List X) → All P (xs ++ ys) → All P ys
 All-right P xs ys h = λ k d below. subst P (get_or-append-add xs ys k d) (h (length xs + k) d (let both = length-append xs ys in omega arith))
 
--- a session so far, by what its pass has seen
-pub record Serving (v w : Sight) (callers : Callers) (told : List Told) : Type 0 where
+-- a session so far, by what its pass has seen: its rules stood as the first ones, and stand as the last ones
+pub record Serving (v w : Sight) (callers : Callers) (first last : List Ruled) (told : List Told) : Type 0 where
   pub serves : Serves v w told
-  pub given : AreGiven w.seen callers 1 (length v.seen) told
+  pub given : AreGiven w.seen callers 1 (length v.seen) first told
+  pub ruled : last ≡ told_at w.seen (printed told) first
   pub least : least_behind (length v.seen) told ≤ length w.seen
   pub points : All (λ one. (k : ℕ) → point one.reply ≡ Some k → k ≤ length w.seen) told
   pub rise : AllPairs IsNoOlder told
@@ -92,8 +96,8 @@ AllPairs-push R xs x pairs new i j d less below =
     (subst (λ a. R a x) (sym (get_or_append_left xs (x ∷ []) d i (omega arith))) (new i d (omega arith))))
     (cases_lt j (length xs))
 
-serving_none : (v : Sight) (callers : Callers) → Serving v v callers []
-serving_none v callers = record {
+serving_none : (v : Sight) (callers : Callers) (first : List Ruled) → Serving v v callers first first []
+serving_none v callers first = record {
   serves = record {
     share = refl;
     goes_on = starts_refl v.seen;
@@ -103,20 +107,23 @@ serving_none v callers = record {
     settled = λ most within. All-nil (IsWithinSettled most);
   };
   given = tt;
+  ruled = refl;
   least = omega arith;
   points = All-nil (λ (one : Told). (k : ℕ) → point one.reply ≡ Some k → k ≤ length v.seen);
   rise = λ i j d less below. absurd (omega arith);
 }
 
-serving_more : (v u w : Sight) (callers : Callers) (one : Told) (told : List Told) (number : ℕ) → Serving v u callers told
-    → number ≡ 1 + length told → AnswersBetween (callers number) one.line one.reply u w
-    → Serving v w callers (told ++ one ∷ [])
-serving_more v u w callers one told number so is a =
+serving_more : (v u w : Sight) (callers : Callers) (first mid last : List Ruled) (one : Told) (told : List Told) (number : ℕ) → Serving v u callers first mid told
+    → number ≡ 1 + length told → AnswersBetween (callers number mid) one.line one.reply u w → last ≡ told_by w.seen one.reply mid
+    → Serving v w callers first last (told ++ one ∷ [])
+serving_more v u w callers first mid last one told number so is a ruled =
     let r : Reply = one.reply in
     let longer : StartsWith w.seen u.seen =
     starts_trans w.seen a.g u.seen a.keeps (starts_trans a.g a.h u.seen a.answers.later a.goes_on) in
     let long : length u.seen ≤ length w.seen = let e = ap length longer.1 in let both = length-append u.seen longer.0 in omega arith in
-    let front = λ (k : ℕ) (prints : point r ≡ Some k). point_left (callers number) one.line r a.h a.g w.seen k a.answers.gives prints in record {
+    let before : mid ≡ told_at w.seen (printed told) first =
+    so.ruled ∙ sym (told_at-longer w.seen u.seen (printed told) first longer (given_within u.seen callers 1 (length v.seen) first told so.given)) in
+    let front = λ (k : ℕ) (prints : point r ≡ Some k). point_left (callers number mid) one.line r a.h a.g w.seen k a.answers.gives prints in record {
       serves = record {
         share = a.share ∙ so.serves.share;
         goes_on = starts_trans w.seen u.seen v.seen longer so.serves.goes_on;
@@ -144,17 +151,21 @@ serving_more v u w callers one told number so is a =
             let P : Turn → Type 0 = λ t. t.left.settled ≤ most in
             let both = subst (λ ts. AreSettledWithin ts most) a.taken within in
             All-push (IsWithinSettled most) told one (so.serves.settled most (All-left P u.turns a.turns both))
-            (λ k says. reply_within (callers number) one.line a.turns a.h a.g w.seen most (All-right P u.turns a.turns both) r k a.answers says);
+            (λ k says. reply_within (callers number mid) one.line a.turns a.h a.g w.seen most (All-right P u.turns a.turns both) r k a.answers says);
       };
-      given = given_more w.seen callers 1 (length v.seen) told one number (given_longer w.seen u.seen callers 1 (length v.seen) told longer so.given) is record {
-        h = a.h;
-        g = a.g;
-        left = w.seen;
-        gives = a.answers.gives;
-        later = a.answers.later;
-        within = starts_refl w.seen;
-        fresh = let was = so.least in let first = ap length a.goes_on.1 in let both = length-append u.seen a.goes_on.0 in omega arith;
-      };
+      given = given_more w.seen callers 1 (length v.seen) first told one number (given_longer w.seen u.seen callers 1 (length v.seen) first told longer so.given) is
+          (subst (λ r. IsAnswer w.seen (callers number r) (least_behind (length v.seen) told) one) before record {
+            h = a.h;
+            g = a.g;
+            left = w.seen;
+            gives = a.answers.gives;
+            later = a.answers.later;
+            within = starts_refl w.seen;
+            fresh = let was = so.least in let begins = ap length a.goes_on.1 in let both = length-append u.seen a.goes_on.0 in omega arith;
+          });
+      ruled = ruled ∙ ap (told_by w.seen one.reply) before ∙ sym (told_at-append w.seen (printed told) (added one.reply) first)
+          ∙ ap (λ ps. told_at w.seen (printed told ++ ps) first) (sym (append-nil (added one.reply)))
+          ∙ ap (λ ps. told_at w.seen ps first) (sym (flat_map-append (λ (b : Told). added b.reply) told (one ∷ [])));
       least = subst (λ n. n ≤ length w.seen) (sym (least_more (length v.seen) told one))
           (least_within (least_behind (length v.seen) told) (length w.seen) (point r) (let was = so.least in omega arith) (λ k prints. let at = front k prints in omega arith));
       points = All-push (λ (b : Told). (k : ℕ) → point b.reply ≡ Some k → k ≤ length w.seen) told one
@@ -163,39 +174,41 @@ serving_more v u w callers one told number so is a =
       rise = AllPairs-push IsNoOlder told one so.rise (λ i d below k l prints says. let was : k ≤ length u.seen = so.points i d below k prints in let at = front l says in omega arith);
     }
 
--- what a whole session of a seat says
-pub record Seated {D Btw : Type 0} (old new : Seat D Btw) (callers : Callers) (told : List Told) : Type 0 where
-  pub shared : new.shared ≡ old.shared
-  pub name : new.client.name ≡ old.client.name
-  pub serving : Serving (view old.pass) (view new.pass) callers told
+module _ {D Btw L : Type 0} (kind : Rules L) where
+  -- what a whole session of a seat says
+  pub record Seated (old new : Seat D Btw L) (callers : Callers) (told : List Told) : Type 0 where
+    pub shared : new.shared ≡ old.shared
+    pub name : new.client.name ≡ old.client.name
+    pub serving : Serving (view old.pass) (view new.pass) callers (stand kind old.rules.items) (stand kind new.rules.items) told
 
--- the callers of a seat's lines
-abbrev pub seat_callers : {D Btw : Type 0} → Seat D Btw → Callers
-seat_callers seat = λ number. caller_of seat.shared.now seat.client.name number
+  -- the callers of a seat's lines
+  abbrev pub seat_callers : Seat D Btw L → Callers
+  seat_callers seat = λ number rules. caller_of seat.shared.now rules seat.client.name number
 
-seated_more : {D Btw : Type 0} (old mid new : Seat D Btw) (before told : List Told) (number : ℕ) → Seated old mid (seat_callers old) before
-    → number ≡ 1 + length before → AreAnswered AnswersAt number told mid new → Seated old new (seat_callers old) (before ++ told)
-seated_more old mid new before [] number so is same =
-    subst (λ s. Seated old s (seat_callers old) (before ++ [])) (sym same)
-    (subst (Seated old mid (seat_callers old)) (sym (append-nil before)) so)
-seated_more old mid new before (one ∷ told) number so is all =
-    let step : AnswersAt mid number one.line one.reply all.0 = all.1 in
-    let caller : caller_of mid.shared.now mid.client.name number ≡ seat_callers old number =
-    ap (λ s. caller_of s.now mid.client.name number) so.shared ∙ ap (λ n. caller_of old.shared.now n number) so.name in
-    let between = subst (λ c. AnswersBetween c one.line one.reply (view mid.pass) (view all.0.pass)) caller step.between in
-    let next : Seated old all.0 (seat_callers old) (before ++ one ∷ []) = record {
-      shared = step.shared ∙ so.shared;
-      name = step.name ∙ so.name;
-      serving = serving_more (view old.pass) (view mid.pass) (view all.0.pass) (seat_callers old) one before number so.serving is between;
-    } in
-    let long = length_push before one in
-    subst (Seated old new (seat_callers old)) (append_assoc before (one ∷ []) told)
-    (seated_more old all.0 new (before ++ one ∷ []) told (number + 1) next (omega (arith, is)) all.2)
+  seated_more : (old mid new : Seat D Btw L) (before told : List Told) (number : ℕ) → Seated old mid (seat_callers old) before
+      → number ≡ 1 + length before → AreAnswered (AnswersAt kind) number told mid new → Seated old new (seat_callers old) (before ++ told)
+  seated_more old mid new before [] number so is same =
+      subst (λ s. Seated old s (seat_callers old) (before ++ [])) (sym same)
+      (subst (Seated old mid (seat_callers old)) (sym (append-nil before)) so)
+  seated_more old mid new before (one ∷ told) number so is all =
+      let step : AnswersAt kind mid number one.line one.reply all.0 = all.1 in
+      let rules : List Ruled = stand kind mid.rules.items in
+      let caller : caller_of mid.shared.now rules mid.client.name number ≡ seat_callers old number rules =
+      ap (λ s. caller_of s.now rules mid.client.name number) so.shared ∙ ap (λ n. caller_of old.shared.now rules n number) so.name in
+      let between = subst (λ c. AnswersBetween c one.line one.reply (view mid.pass) (view all.0.pass)) caller step.between in
+      let next : Seated old all.0 (seat_callers old) (before ++ one ∷ []) = record {
+        shared = step.shared ∙ so.shared;
+        name = step.name ∙ so.name;
+        serving = serving_more (view old.pass) (view mid.pass) (view all.0.pass) (seat_callers old) (stand kind old.rules.items) rules (stand kind all.0.rules.items) one before number so.serving is between step.ruled;
+      } in
+      let long = length_push before one in
+      subst (Seated old new (seat_callers old)) (append_assoc before (one ∷ []) told)
+      (seated_more old all.0 new (before ++ one ∷ []) told (number + 1) next (omega (arith, is)) all.2)
 
--- the answers of a seat, from its first line on, are a session over what its pass has seen at the end
-pub seated_all : {D Btw : Type 0} (old new : Seat D Btw) (told : List Told) → AreAnswered AnswersAt 1 told old new → Seated old new (seat_callers old) told
-seated_all old new told all =
-    seated_more old old new [] told 1 (record { shared = refl; name = refl; serving = serving_none (view old.pass) (seat_callers old) }) refl all
+  -- the answers of a seat, from its first line on, are a session over what its pass has seen at the end
+  pub seated_all : (old new : Seat D Btw L) (told : List Told) → AreAnswered (AnswersAt kind) 1 told old new → Seated old new (seat_callers old) told
+  seated_all old new told all =
+      seated_more old old new [] told 1 (record { shared = refl; name = refl; serving = serving_none (view old.pass) (seat_callers old) (stand kind old.rules.items) }) refl all
 
-pub talk_of : (v w : Sight) (callers : Callers) (told : List Told) → Serving v w callers told → IsTalk w.seen callers (length v.seen) told
-talk_of v w callers told so = record { given = so.given; points = so.rise }
+pub talk_of : (v w : Sight) (callers : Callers) (first last : List Ruled) (told : List Told) → Serving v w callers first last told → IsTalk w.seen callers (length v.seen) first told
+talk_of v w callers first last told so = record { given = so.given; points = so.rise }

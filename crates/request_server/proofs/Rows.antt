@@ -1,12 +1,14 @@
 -- What a reply says of the positions and the front that it prints.
-use Rattle.std.proofs.Common.{◌≡◌, ℕ, ◌+◌, ◌≤◌, true, List, [], ◌∷◌, ◌++◌, All, AllPairs, Some, flat_map, length, slice_get, get_or, ap, sym, ◌∙◌, refl, arith}
+use Rattle.std.proofs.Common.{◌≡◌, ℕ, ◌+◌, ◌≤◌, true, List, [], ◌∷◌, ◌++◌, All, AllPairs, Some, flat_map, length, slice_get, ap, sym, ◌∙◌, refl, arith}
 use Rattle.std.proofs.lemmas.List.{length_push}
-use Rattle.std.proofs.lemmas.List.Elements.{All-head, All-tail, All-weaker, All-nil, All-cons, All-append}
+use Rattle.std.proofs.lemmas.List.Elements.{All-head, All-tail, All-nil, All-cons, All-append}
 use Rattle.std.proofs.lemmas.Slice.Eq.{bytes_eq-Decides}
 use Rattle.book_gate.specs.Views.{StartsWith}
 use Rattle.client_lines.specs.declared.asks.Ask.{Ask}
+use Rattle.client_rules.specs.Ruled.{Ruled}
 use Rattle.line_answers.specs.Answers.{Adds, Caller, GivesLine, Leaves}
 use Rattle.line_answers.specs.Points.{added, point}
+use Rattle.line_answers.specs.Rules.{told_by}
 use Rattle.line_sessions.specs.Told.{Told}
 use Rattle.rail_types.specs.declared.entries.Entry.{Entry}
 use Rattle.reply_texts.specs.declared.replies.Reply.{Reply}
@@ -115,36 +117,36 @@ All-flat_map P f (x ∷ xs) h =
 
 -- the callers of one client have its name
 abbrev pub AreNamed : List ℕ → Callers → Type 0
-AreNamed name callers = (number : ℕ) → (callers number).name ≡ name
+AreNamed name callers = (number : ℕ) (rules : List Ruled) → (callers number rules).name ≡ name
 
 module _ (history : List Entry) (name : List ℕ) (callers : Callers) (named : AreNamed name callers) where
   abbrev pub owned_by : ℕ → Type 0
   owned_by p = is_owned name (slice_get history p) ≡ true
 
   -- what holds of each position of an entry of this name whose front is printed holds of those that a reply prints
-  answer_are : (P : ℕ → Type 0) (number least : ℕ) (one : Told) → IsAnswer history (callers number) least one
+  answer_are : (P : ℕ → Type 0) (number least : ℕ) (rules : List Ruled) (one : Told) → IsAnswer history (callers number rules) least one
       → ((p : ℕ) → point one.reply ≡ Some (p + 1) → owned_by p → P p) → All P (added one.reply)
-  answer_are P number least one x f =
-      added_are history (callers number) one.line x.h x.g x.left P one.reply x.gives x.within
-      (λ p prints its. f p prints (ap (λ n. is_owned n (slice_get history p)) (sym (named number)) ∙ its))
+  answer_are P number least rules one x f =
+      added_are history (callers number rules) one.line x.h x.g x.left P one.reply x.gives x.within
+      (λ p prints its. f p prints (ap (λ n. is_owned n (slice_get history p)) (sym (named number rules)) ∙ its))
 
   -- the positions that a session prints are those of the client's entries
-  pub printed_owned : (number least : ℕ) (told : List Told) → AreGiven history callers number least told → All owned_by (printed told)
-  printed_owned number least [] given = All-nil owned_by
-  printed_owned number least (one ∷ told) given =
+  pub printed_owned : (number least : ℕ) (rules : List Ruled) (told : List Told) → AreGiven history callers number least rules told → All owned_by (printed told)
+  printed_owned number least rules [] given = All-nil owned_by
+  printed_owned number least rules (one ∷ told) given =
       All-append owned_by (added one.reply) (printed told)
-      (answer_are owned_by number least one given.0 (λ p prints its. its))
-      (printed_owned (number + 1) (next_least least (point one.reply)) told given.1)
+      (answer_are owned_by number least rules one given.0 (λ p prints its. its))
+      (printed_owned (number + 1) (next_least least (point one.reply)) (told_by history one.reply rules) told given.1)
 
   -- the positions printed later are not less than one at which a front is printed before
-  later_are : (p number least : ℕ) (told : List Told) → AreGiven history callers number least told
+  later_are : (p number least : ℕ) (rules : List Ruled) (told : List Told) → AreGiven history callers number least rules told
       → All (λ one. (l : ℕ) → point one.reply ≡ Some l → p + 1 ≤ l) told → All (λ q. p ≤ q) (printed told)
-  later_are p number least [] given later = All-nil (λ q. p ≤ q)
-  later_are p number least (one ∷ told) given later =
+  later_are p number least rules [] given later = All-nil (λ q. p ≤ q)
+  later_are p number least rules (one ∷ told) given later =
       All-append (λ q. p ≤ q) (added one.reply) (printed told)
-      (answer_are (λ q. p ≤ q) number least one given.0 (λ q prints its.
+      (answer_are (λ q. p ≤ q) number least rules one given.0 (λ q prints its.
       let r : p + 1 ≤ q + 1 = All-head (λ (x : Told). (l : ℕ) → point x.reply ≡ Some l → p + 1 ≤ l) one told later (q + 1) prints in omega arith))
-      (later_are p (number + 1) (next_least least (point one.reply)) told given.1 (All-tail (λ (x : Told). (l : ℕ) → point x.reply ≡ Some l → p + 1 ≤ l) one told later))
+      (later_are p (number + 1) (next_least least (point one.reply)) (told_by history one.reply rules) told given.1 (All-tail (λ (x : Told). (l : ℕ) → point x.reply ≡ Some l → p + 1 ≤ l) one told later))
 
 ordered_front : (r : Reply) (rest : List ℕ) → Ordered rest → All (λ p. All (λ q. p ≤ q) rest) (added r) → Ordered (added r ++ rest)
 ordered_front (reply.Held number at front) rest o h = (All-head (λ p. All (λ q. p ≤ q) rest) at [] h, o)
@@ -173,12 +175,13 @@ ordered_front reply.DiskFault rest o h = o
 ordered_front reply.NoMemory rest o h = o
 
 module _ (history : List Entry) (name : List ℕ) (callers : Callers) (named : AreNamed name callers) where
-  pub printed_ordered : (number least : ℕ) (told : List Told) → AreGiven history callers number least told → AllPairs IsNoOlder told
+  pub printed_ordered : (number least : ℕ) (rules : List Ruled) (told : List Told) → AreGiven history callers number least rules told → AllPairs IsNoOlder told
       → Ordered (printed told)
-  printed_ordered number least [] given rise = tt
-  printed_ordered number least (one ∷ told) given rise =
+  printed_ordered number least rules [] given rise = tt
+  printed_ordered number least rules (one ∷ told) given rise =
       let later = AllPairs-head IsNoOlder one told rise in
+      let next = told_by history one.reply rules in
       ordered_front one.reply (printed told)
-      (printed_ordered (number + 1) (next_least least (point one.reply)) told given.1 (AllPairs-tail IsNoOlder one told rise))
-      (answer_are history name callers named (λ p. All (λ q. p ≤ q) (printed told)) number least one given.0 (λ p prints its.
-      later_are history name callers named p (number + 1) (next_least least (point one.reply)) told given.1 (λ k d below l says. later k d below (p + 1) l prints says)))
+      (printed_ordered (number + 1) (next_least least (point one.reply)) next told given.1 (AllPairs-tail IsNoOlder one told rise))
+      (answer_are history name callers named (λ p. All (λ q. p ≤ q) (printed told)) number least rules one given.0 (λ p prints its.
+      later_are history name callers named p (number + 1) (next_least least (point one.reply)) next told given.1 (λ k d below l says. later k d below (p + 1) l prints says)))

@@ -1,5 +1,5 @@
 -- What a reply says is settled, a turn of its call left settled.
-use Rattle.std.proofs.Common.{◌≡◌, ◌≢◌, ◌⊎◌, ℕ, zero, suc, ◌+◌, ◌-◌, ◌≤◌, All, Contains, List, [], ◌∷◌, ◌++◌, Some, length, ap, sym, ◌∙◌, subst, refl, arith}
+use Rattle.std.proofs.Common.{◌≡◌, ◌≢◌, ◌⊎◌, ℕ, zero, suc, ◌+◌, ◌-◌, ◌≤◌, All, Contains, List, [], ◌∷◌, ◌++◌, Some, length, ap, ◌∙◌, subst, refl, arith}
 use mathlib.Core.Logic.{⊎_elim, inl, inr}
 use Rattle.std.proofs.lemmas.List.Elements.{All-head, All-tail}
 use Rattle.book_gate.specs.declared.views.Turn.{Turn}

@@ -57,8 +57,8 @@ module _ (callers : List ℕ → Callers) (named : (name : List ℕ) → AreName
   pub theirs : AllPairs (λ (a b : Talk). a.name ≢ b.name) talks → All (λ t. owned history t.name (length found) ≡ printed t.traffic.told) talks
   theirs apart = shares_are (λ (t : Talk). t.name) (λ t. printed t.traffic.told) (λ n p. is_owned n (slice_get history p)) (one_owner history)
       (positions (length found) (length history - length found)) talks apart all_shares (Ordered-positions (length found) (length history - length found))
-      (λ k d below. let s = replies k d below in let t : Talk = get_or talks k d in printed_owned history t.name (callers t.name) (named t.name) 1 least t.traffic.told s.given)
-      (λ k d below. let s = replies k d below in let t : Talk = get_or talks k d in printed_ordered history t.name (callers t.name) (named t.name) 1 least t.traffic.told s.given s.points)
+      (λ k d below. let s = replies k d below in let t : Talk = get_or talks k d in printed_owned history t.name (callers t.name) (named t.name) 1 least t.rules t.traffic.told s.given)
+      (λ k d below. let s = replies k d below in let t : Talk = get_or talks k d in printed_ordered history t.name (callers t.name) (named t.name) 1 least t.rules t.traffic.told s.given s.points)
 
   abbrev IsSomeones : ℕ → Type 0
   IsSomeones p = (e : Entry) → slice_get history p ≡ Some e → Any (λ (t : Talk). e.owner ≡ t.name) talks
@@ -71,7 +71,7 @@ module _ (callers : List ℕ → Callers) (named : (name : List ℕ) → AreName
       let t : Talk = get_or talks j b in
       All-weaker (λ p. is_owned t.name (slice_get history p) ≡ true) IsSomeones
       (λ p its e at. (j, t, less, get_or_default talks j t b less, owner_there history t.name p e its at))
-      (printed t.traffic.told) (printed_owned history t.name (callers t.name) (named t.name) 1 least t.traffic.told (replies j b less).given))))
+      (printed t.traffic.told) (printed_owned history t.name (callers t.name) (named t.name) 1 least t.rules t.traffic.told (replies j b less).given))))
       k (omega arith) (get_or (drop (length found) history) k d) (slice_get-drop history (length found) k d below)
 
 pub run_is : {D : Type 0} (disk_faults : D → ℕ) (known : Names) (found left : Ledger D) (first last : Mark) (v : Sight) (talks : List Talk)
@@ -85,8 +85,8 @@ run_is disk_faults known found left first last v talks joined apart begins ends 
   begins = begins;
   legal = legal;
   replies = joined.replies left.entries ends;
-  entries = theirs (callers_of known found.timetable) (λ name number. refl) (length found.entries) found.entries left.entries v talks joined ends entries apart;
-  owners = owners (callers_of known found.timetable) (λ name number. refl) (length found.entries) found.entries left.entries v talks joined ends entries;
+  entries = theirs (callers_of known found.timetable) (λ name number rules. refl) (length found.entries) found.entries left.entries v talks joined ends entries apart;
+  owners = owners (callers_of known found.timetable) (λ name number rules. refl) (length found.entries) found.entries left.entries v talks joined ends entries;
   count = ⊎_elim (λ below. inr (let within = joined.counts (All-weaker (IsWithin 0 (length v.turns) first last) (λ t. t.left.count < 2 ^ 64 - 1) (λ t w. let c = w.counted in omega arith) v.turns (chain_all 0 (length v.turns) first last v.turns (omega arith) chain)) in omega arith))
       (λ above. inl above) (cases_lt (disk_faults left.disk) (2 ^ 64 - 1));
   settled_left = let all : List ℕ = flat_map (λ (t : Talk). unsettled t.traffic.told) talks in

@@ -1,9 +1,12 @@
 -- What many clients at once are told.
 use Rattle.std.specs.Prelude.{◌≡◌, ◌⊎◌, ℕ, ◌+◌, ◌-◌, ◌^◌, ◌≤◌, Bool, false, bytes_eq, All, Any, Contains, Option, Some, None, List, [], ◌∷◌, filter, flat_map, drop, length, slice_get, sum_by}
+use Rattle.admission_rules.specs.declared.rules.Rule.{Ghosts as Rules}
 use Rattle.book_gate.specs.Views.{StartsWith, positions}
 use Rattle.client_lines.specs.Names.{Names}
+use Rattle.client_rules.specs.Ruled.{Ruled, stand}
+use Rattle.client_rules.specs.Told.{told_at}
 use Rattle.grant_log.specs.Legal.{IsLegal}
-use Rattle.line_answers.specs.Answers.{Caller}
+use Rattle.line_answers.specs.Rules.{denial}
 use Rattle.line_sessions.specs.Ends.{Passes, Streams}
 use Rattle.path_commit.specs.Ledgers.{Ledger, settled_of}
 use Rattle.rail_types.specs.declared.entries.Entry.{Entry}
@@ -12,14 +15,14 @@ use Rattle.request_server.specs.declared.plans.Plan.{Plan}
 use Rattle.request_server.specs.declared.plans.Session.{Session}
 use Rattle.request_server.specs.Talks.{Callers, faults, IsTalk, IsWithinSettled, printed, Talk, unsettled}
 
--- the callers of the lines of a client of this name, who has no rules
+-- the callers of the lines of a client of this name: its rules, as they stand then, may deny a line
 abbrev pub callers_of : Names → Timetable → List ℕ → Callers
-callers_of known timetable name = λ line_number. record {
+callers_of known timetable name = λ line_number rules. record {
   known = known;
   timetable = timetable;
   name = name;
   line_number = line_number;
-  denied = λ history line. None;
+  denied = λ history line. denial rules line;
 }
 
 -- ---- positions and owners
@@ -34,6 +37,10 @@ abbrev pub owned : List Entry → List ℕ → ℕ → List ℕ
 owned history name n =
     filter (λ p. is_owned name (slice_get history p)) (positions n (length history - n))
 
+-- rules, once they were told of that owner's entries of a history, each once and in order
+abbrev pub told_own : List Entry → List ℕ → List Ruled → List Ruled
+told_own history name rules = told_at history (owned history name 0) rules
+
 -- ---- one history
 
 -- Clients were told this over one history, which began with the entries found.
@@ -44,7 +51,7 @@ pub record IsRun {D : Type 0} (disk_faults : D → ℕ) (known : Names) (found l
   -- each reply is what a beginning of the history gives, with no fewer entries than were found or this client had been
   -- printed, at fronts that do not fall along a session
   pub replies : All (λ talk. IsTalk left.entries (callers_of known found.timetable talk.name)
-      (length found.entries) talk.traffic.told) talks
+      (length found.entries) talk.rules talk.traffic.told) talks
   -- the entries behind those found are those of the replies, each once, owner by owner
   pub entries : All (λ talk. owned left.entries talk.name (length found.entries)
       ≡ printed talk.traffic.told) talks
@@ -63,13 +70,17 @@ pub record IsRun {D : Type 0} (disk_faults : D → ℕ) (known : Names) (found l
 
 -- ---- the clients
 
--- the client of this plan was served so: this passed in its session, whose end its streams show
-pub record IsServed {Src Snk Btw : Type 0} (streams : Streams Src Snk) (plan : Plan Src Snk Btw)
-    (session : Session Src Snk) (talk : Talk) : Type 0 where
+-- The client of this plan was served so: this passed in its session, whose end its streams show. Its rules were told its
+-- own entries: before its first line those of the history found, and behind the session those of the history left.
+pub record IsServed {Src Snk Btw L : Type 0} (kind : Rules L) (streams : Streams Src Snk)
+    (found left : List Entry) (plan : Plan Src Snk Btw L) (session : Session Src Snk L)
+    (talk : Talk) : Type 0 where
   pub name : session.name ≡ plan.name
   pub talk_name : talk.name ≡ plan.name
   pub passes : Passes streams session.ended talk.traffic
       plan.source session.source plan.sink session.sink
+  pub begun : talk.rules ≡ told_own found plan.name (stand kind plan.rules.items)
+  pub told : stand kind session.rules.items ≡ told_own left plan.name (stand kind plan.rules.items)
 
 -- three lists are as long, and stand so to one another place by place
 abbrev pub AreMatched : {X Y Z : Type 0} → (X → Y → Z → Type 0) → List X → List Y → List Z → Type 0
@@ -83,9 +94,9 @@ AreMatched R (x ∷ xs) (y ∷ ys) [] = ⊥
 AreMatched R (x ∷ xs) (y ∷ ys) (z ∷ zs) = R x y z × AreMatched R xs ys zs
 
 -- The clients of these plans were served, each in its session, and were told one history.
-pub record WereServed {D Src Snk Btw : Type 0} (disk_faults : D → ℕ) (streams : Streams Src Snk)
-    (known : Names) (found left : Ledger D) (plans : List (Plan Src Snk Btw))
-    (sessions : List (Session Src Snk)) : Type 0 where
+pub record WereServed {D Src Snk Btw L : Type 0} (kind : Rules L) (disk_faults : D → ℕ)
+    (streams : Streams Src Snk) (known : Names) (found left : Ledger D)
+    (plans : List (Plan Src Snk Btw L)) (sessions : List (Session Src Snk L)) : Type 0 where
   pub talks : List Talk
-  pub served : AreMatched (IsServed streams) plans sessions talks
+  pub served : AreMatched (IsServed kind streams found.entries left.entries) plans sessions talks
   pub run : IsRun disk_faults known found left talks

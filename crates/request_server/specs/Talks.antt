@@ -2,24 +2,27 @@
 use Rattle.std.specs.Prelude.{◌≡◌, ℕ, ◌+◌, ◌-◌, ◌^◌, ◌≤◌, ◌<◌, All, AllPairs, List, ◌++◌, [], ◌∷◌, flat_map, length, sum_by, Option, Some, None}
 use Rattle.book_gate.specs.declared.views.Turn.{Turn}
 use Rattle.book_gate.specs.Views.{StartsWith, own, rises}
+use Rattle.client_rules.specs.Ruled.{Ruled}
 use Rattle.client_turns.specs.Turns.{Sight}
 use Rattle.line_answers.specs.Answers.{Caller, GivesLine}
 use Rattle.line_answers.specs.Calls.{IsToldIn}
 use Rattle.line_answers.specs.Points.{point, added, fault, unsettled_by}
+use Rattle.line_answers.specs.Rules.{told_by}
 use Rattle.line_sessions.specs.Ends.{Traffic}
 use Rattle.line_sessions.specs.Told.{Told}
 use Rattle.rail_types.specs.declared.entries.Entry.{Entry}
 use Rattle.reply_texts.specs.declared.replies.Reply.{Reply}
 use Rattle.reply_texts.specs.declared.replies.Reply.TheVariants as reply
 
--- a client's name, and what passed in its session
+-- a client's name, its rules as they stood before its first line, and what passed in its session
 pub record Talk : Type 0 where
   pub name : List ℕ
+  pub rules : List Ruled
   pub traffic : Traffic
 
--- the callers of a client's lines, by their numbers
+-- the callers of a client's lines, by their numbers and by the rules as they stand then
 abbrev pub Callers : Type 0
-Callers = ℕ → Caller
+Callers = ℕ → List Ruled → Caller
 
 -- the least front at which the next reply may be, behind one that prints this: the last front that was printed
 abbrev pub next_least : ℕ → Option ℕ → ℕ
@@ -39,12 +42,13 @@ pub record IsAnswer (history : List Entry) (caller : Caller) (least : ℕ) (one 
   pub fresh : least ≤ length h
 
 -- each reply is what the history gives to its line, the first of which has this number, and this is the least front for
--- it
-abbrev pub AreGiven : List Entry → Callers → ℕ → ℕ → List Told → Type 0
-AreGiven history callers number least [] = Unit {0}
-AreGiven history callers number least (one ∷ told) =
-    IsAnswer history (callers number) least one
-    × AreGiven history callers (number + 1) (next_least least (point one.reply)) told
+-- it; the rules stand as these before it, and each reply tells them of the own entry that it tells
+abbrev pub AreGiven : List Entry → Callers → ℕ → ℕ → List Ruled → List Told → Type 0
+AreGiven history callers number least rules [] = Unit {0}
+AreGiven history callers number least rules (one ∷ told) =
+    IsAnswer history (callers number rules) least one
+    × AreGiven history callers (number + 1) (next_least least (point one.reply))
+    (told_by history one.reply rules) told
 
 -- where both print fronts, the later one is not less
 abbrev pub IsNoOlder : Told → Told → Type 0
@@ -73,10 +77,10 @@ abbrev pub IsWithinSettled : ℕ → Told → Type 0
 IsWithinSettled settled one = (front : ℕ) → settled_point one.reply ≡ Some front → front ≤ settled
 
 -- each line, the first of which is 1, has the reply that the history gives, by no fewer entries than this or than the
--- client was printed before, at fronts that do not fall
-pub record IsTalk (history : List Entry) (callers : Callers) (least : ℕ) (told : List Told)
-    : Type 0 where
-  pub given : AreGiven history callers 1 least told
+-- client was printed before, at fronts that do not fall; the rules stand as these before the first line
+pub record IsTalk (history : List Entry) (callers : Callers) (least : ℕ) (rules : List Ruled)
+    (told : List Told) : Type 0 where
+  pub given : AreGiven history callers 1 least rules told
   pub points : AllPairs IsNoOlder told
 
 -- ---- inside

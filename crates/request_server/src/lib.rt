@@ -1,10 +1,11 @@
-//! Many clients at once over one book: each has a seat at the gate, its lines are answered one after another, and what
-//! all of them are told is one history.
+//! Many clients at once over one book: each has a seat at the gate, its lines are answered one after another by its rules,
+//! and what all of them are told is one history.
 #![tactic(auto)]
 
 mod plans;
 mod runs;
 mod seats;
+mod tellings;
 
 pub use plans::{Plan, Session};
 pub use runs::serve_clients;

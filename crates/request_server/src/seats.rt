@@ -4,6 +4,7 @@ ghost use Rattle.std.specs.Prelude.{◌/◌};
 ghost use Rattle.book_gate.specs.Passes.{turns_left};
 ghost use Rattle.request_server.specs.Seats.{AnswersAt, IsSeated};
 
+use admission_rules::Rule;
 use book_gate::Pass;
 use byte_fields::Buffer;
 use client_turns::Client;
@@ -16,18 +17,19 @@ use reply_texts::Reply;
 use std::alloc::Global;
 use std::sync::Wait;
 
-/// A client with its pass at the gate that it shares, and what happens between its searches.
+/// A client with its pass at the gate that it shares, what happens between its searches, and its rules.
 #[derive(Drop)]
-pub(crate) struct Seat<'a, D: Disk, B: Between> {
+pub(crate) struct Seat<'a, D: Disk, B: Between, L: Rule> {
     pub(crate) shared: &'a Shared<D>,
     pub(crate) pass: Pass<Book<D>>,
     pub(crate) client: Client,
     pub(crate) between: B,
+    pub(crate) rules: Vec<L>,
 }
 
 /// Each line takes at most four turns.
-impl<'a, D: Disk, B: Between> Desk for Seat<'a, D, B> {
-    ghost answers = { λ old number line told new. AnswersAt old number line told new };
+impl<'a, D: Disk, B: Between, L: Rule> Desk for Seat<'a, D, B, L> {
+    ghost answers = { λ old number line told new. AnswersAt L.Rule old number line told new };
 
     ghost lines_left = { λ seat. turns_left seat.pass / 4 };
 
@@ -47,6 +49,7 @@ impl<'a, D: Disk, B: Between> Desk for Seat<'a, D, B> {
             self.shared,
             &mut self.pass,
             &mut self.client,
+            self.rules.as_mut_slice(),
             line_number,
             line,
             text,

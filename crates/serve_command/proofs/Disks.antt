@@ -1,19 +1,21 @@
 -- A journal's disk, opened and put back.
-use Rattle.std.proofs.Common.{◌≡◌, ◌≢◌, ◌∙◌, ◌+◌, ◌≤◌, ◌++◌, ℕ, zero, suc, List, [], ◌∷◌, Option, None, Some, length, IfSome, take, Result, Ok, Err, codes, inl, inr, refl, sym, ap, subst, arith}
+use Rattle.std.proofs.Common.{◌≡◌, ◌≢◌, ◌∙◌, ◌+◌, ℕ, suc, List, [], ◌∷◌, Option, None, Some, length, IfSome, take, Result, Ok, Err, codes, inl, inr, refl, sym, ap, subst, arith}
 use Rattle.outside_io.specs.Faults.{Rose}
 use Rattle.outside_io.specs.declared.failures.Failed.{Failed}
-use Rattle.outside_io.specs.Openings.{Answers, disk_at, Opening, Opens as CallsOf, source_at, sink_at, Standing, StandsAgain}
-use Rattle.outside_io.specs.Places.{HandsOut, Place, place_once_opened, place_once_returned, TakesBack, Untouched}
+use Rattle.outside_io.specs.Openings.{Answers, disk_at, Opening, Opens as CallsOf, source_at, sink_at, StandsAgain}
+use Rattle.outside_io.specs.Places.{HandsOut, place_once_returned, TakesBack, Untouched}
 use Rattle.outside_io.specs.declared.disks.Disk.{Ghosts as Disks}
 use Rattle.outside_io.specs.declared.sinks.Sink.{Ghosts as Sinks}
 use Rattle.outside_io.specs.declared.sources.Source.{Ghosts as Sources}
 use Rattle.outside_io.proofs.Places.{Replaces-round}
 use Rattle.exit_status.specs.declared.Status.TheVariants.{Opening as not_opened}
-use Rattle.file_rounds.specs.Scenes.{IsReady, IsShut, Opens, Scene}
+use Rattle.file_rounds.specs.Scenes.{Scene}
 use Rattle.client_lines.specs.Names.{Names}
+use Rattle.admission_rules.specs.declared.rules.Rule.{Ghosts as Rules}
+use Rattle.client_rules.specs.declared.clients.ClientRules.{ClientRules}
 use Rattle.client_streams.specs.Clients.{client_calls, HadStreams, IsExchanged}
-use Rattle.client_streams.specs.Lending.{IsAsBefore, returned_of, streams_of}
-use Rattle.client_streams.specs.Refusing.{AreMade, CannotOpen, IsOpen, WhyStopped}
+use Rattle.client_streams.specs.Lending.{returned_of, streams_of}
+use Rattle.client_streams.specs.Refusing.{AreMade, IsOpen}
 use Rattle.client_words.specs.declared.clients.ClientWord.{ClientWord}
 use Rattle.client_streams.proofs.Lists.{calls_both}
 use Rattle.client_streams.proofs.Nests.{exchanged_at}
@@ -33,15 +35,15 @@ use Rattle.outside_io.specs.declared.betweens.NoBetween.{NoBetween}
 use Rattle.request_server.specs.declared.plans.Plan.{Plan}
 use Rattle.request_server.specs.declared.plans.Session.{Session}
 use Rattle.serve_reports.specs.declared.ends.Ends.{Ends}
-use Rattle.serve_command.specs.Journals.{DiskHalts, DiskRefuses, DiskSays, DiskServes, IsFound, IsFoundOnly, IsHalted, IsJournalRefused, IsNoJournal, IsNotOpened, known_by, Refuses, Remains, Serves, ServeSays, ServeStep}
-use Rattle.serve_command.specs.Serving.{BookSays, IsClosed, IsServing, IsUnserved}
+use Rattle.serve_command.specs.Journals.{DiskHalts, DiskRefuses, DiskSays, IsFound, IsFoundOnly, IsNoJournal, known_by, Refuses, Remains, ServeStep}
+use Rattle.serve_command.specs.Serving.{BookSays, IsClosed, IsServing}
 use Rattle.serve_command.specs.declared.works.Files.{Files}
 
 -- what is said of the disk of a book over which clients were served, or not
-pub disk_by : {Src Snk Dsk : Type 0} (source : Sources Src) (sink : Sinks Snk) (disk : Disks Dsk) (files : Files) (name : List ℕ) (clients : List ClientWord) (before after : Dsk) (found : Ledger Dsk) (old new : Scene Src Snk Dsk) (result : Result Ends Refusal)
-    → IsFound disk files before found → BookSays source sink disk (known_by files) clients found after old new result → DiskSays source sink disk files name clients before after old new result
-disk_by source sink disk files name clients before after found old new (Ok ends) opened says = record { found = found; opened = opened; serving = says }
-disk_by source sink disk files name clients before after found old new (Err refusal) opened says = inr (record { found = found; opened = opened; unserved = says })
+pub disk_by : {Src Snk Dsk L : Type 0} (source : Sources Src) (sink : Sinks Snk) (disk : Disks Dsk) (rule_kind : Rules L) (files : Files) (name : List ℕ) (clients : List ClientWord) (rules : List (ClientRules L)) (before after : Dsk) (found : Ledger Dsk) (old new : Scene Src Snk Dsk) (result : Result Ends Refusal)
+    → IsFound disk files before found → BookSays source sink disk rule_kind (known_by files) clients rules found after old new result → DiskSays source sink disk rule_kind files name clients rules before after old new result
+disk_by source sink disk rule_kind files name clients rules before after found old new (Ok ends) opened says = record { found = found; opened = opened; serving = says }
+disk_by source sink disk rule_kind files name clients rules before after found old new (Err refusal) opened says = inr (record { found = found; opened = opened; unserved = says })
 
 -- what a file reads as, by the digests of the files
 prefix_by : (n n' b b' : List ℕ) (bodies : List (List ℕ)) (least least' : ℕ) (file : List ℕ) → n ≡ n' → b ≡ b' → least ≡ least' → ReadsAsPrefix (header_of n b) bodies least file → ReadsAsPrefix (header_of n' b') bodies least' file
@@ -83,9 +85,9 @@ pub record DiskIsRefused {Src Snk Dsk : Type 0} (name : List ℕ) (failed : Fail
   pub sinks : Untouched old.sinks new.sinks
   pub report : new.report ≡ old.report
 
-pub unopened_step : {Src Snk Dsk : Type 0} (source : Sources Src) (sink : Sinks Snk) (disk : Disks Dsk) (files : Files) (name : List ℕ) (clients : List ClientWord) (failed : Failed) (old new : Scene Src Snk Dsk) (refusal : Refusal) → DiskIsRefused name failed old new
-    → IsTold not_opened (line_with (codes "open: ") name) refusal → ServeStep source sink disk files name clients old new (Err refusal)
-unopened_step {Dsk = Dsk} source sink disk files name clients failed old new refusal refused told = record {
+pub unopened_step : {Src Snk Dsk L : Type 0} (source : Sources Src) (sink : Sinks Snk) (disk : Disks Dsk) (rule_kind : Rules L) (files : Files) (name : List ℕ) (clients : List ClientWord) (rules : List (ClientRules L)) (failed : Failed) (old new : Scene Src Snk Dsk) (refusal : Refusal) → DiskIsRefused name failed old new
+    → IsTold not_opened (line_with (codes "open: ") name) refusal → ServeStep source sink disk rule_kind files name clients rules old new (Err refusal)
+unopened_step {Dsk = Dsk} source sink disk rule_kind files name clients rules failed old new refusal refused told = record {
   says = record {
     why = inl (record { unready = not_ready Dsk failed (old.standing (disk_at name)) refused.ready.told; same = refused.object.refused; rose = refused.rose; told = told });
     sources = refused.sources;
@@ -154,9 +156,9 @@ module _ {Src Snk Dsk : Type 0} (name : List ℕ) (clients : List ClientWord) (b
     after_is = round.returned.object ∙ ap (place_once_returned after) (stays keeps ∙ round.out.opened);
   }
 
-  had_around : (list : List ClientWord) (plans : List (Plan Src Snk NoBetween)) (sessions : List (Session Src Snk))
-      → AreMatched (λ (client : ClientWord) (plan : Plan Src Snk NoBetween) (session : Session Src Snk). HadStreams s1 s2 client (streams_of plan) (returned_of session)) list plans sessions
-      → AreMatched (λ (client : ClientWord) (plan : Plan Src Snk NoBetween) (session : Session Src Snk). HadStreams s0 s3 client (streams_of plan) (returned_of session)) list plans sessions
+  had_around : {L : Type 0} (list : List ClientWord) (plans : List (Plan Src Snk NoBetween L)) (sessions : List (Session Src Snk L))
+      → AreMatched (λ (client : ClientWord) (plan : Plan Src Snk NoBetween L) (session : Session Src Snk L). HadStreams s1 s2 client (streams_of plan) (returned_of session)) list plans sessions
+      → AreMatched (λ (client : ClientWord) (plan : Plan Src Snk NoBetween L) (session : Session Src Snk L). HadStreams s0 s3 client (streams_of plan) (returned_of session)) list plans sessions
   had_around [] [] [] had = had
   had_around [] [] (q ∷ qs) had = absurd had
   had_around [] (p ∷ ps) [] had = absurd had
@@ -178,14 +180,16 @@ module _ {Src Snk Dsk : Type 0} (name : List ℕ) (clients : List ClientWord) (b
   disk_open : IsOpen s0.standing (disk_at name)
   disk_open = open_told before (s0.standing (disk_at name)) round.ready.told
 
-  serving_around : (source : Sources Src) (sink : Sinks Snk) (disk : Disks Dsk) (known : Names) (found : Ledger Dsk) (ends : Ends) → IsServing source sink disk known clients found after s1 s2 ends → IsServing source sink disk known clients found after s0 s3 ends
-  serving_around source sink disk known found ends serving = record {
+  serving_around : {L : Type 0} (source : Sources Src) (sink : Sinks Snk) (disk : Disks Dsk) (rule_kind : Rules L) (known : Names) (rules : List (ClientRules L)) (found : Ledger Dsk) (ends : Ends) → IsServing source sink disk rule_kind known clients rules found after s1 s2 ends
+      → IsServing source sink disk rule_kind known clients rules found after s0 s3 ends
+  serving_around source sink disk rule_kind known rules found ends serving = record {
     opens = opens_moved_all clients s1.standing s0.standing (λ input. sym (other_stands (source_at input) (λ e. cc))) (λ output. sym (other_stands (sink_at output) (λ e. cc))) serving.opens;
     quiet = round.quiet_still ∙ (serving.quiet ∙ round.quiet);
     left = serving.left;
     plans = serving.plans;
     sessions = serving.sessions;
     names = serving.names;
+    given = serving.given;
     had = had_around clients serving.plans serving.sessions serving.had;
     served = serving.served;
     footing = serving.footing;
@@ -228,10 +232,10 @@ module _ {Src Snk Dsk : Type 0} (name : List ℕ) (clients : List ClientWord) (b
       }
 
   -- the step that serves, by what was said of the disk while it was out
-  pub step_by : (source : Sources Src) (sink : Sinks Snk) (disk : Disks Dsk) (files : Files) (result : Result Ends Refusal) → DiskSays source sink disk files name clients before after s1 s2 result → KeepsTo (client_calls clients) s1 s2 result
-      → ServeStep source sink disk files name clients s0 s3 result
+  pub step_by : {L : Type 0} (source : Sources Src) (sink : Sinks Snk) (disk : Disks Dsk) (rule_kind : Rules L) (rules : List (ClientRules L)) (files : Files) (result : Result Ends Refusal) → DiskSays source sink disk rule_kind files name clients rules before after s1 s2 result → KeepsTo (client_calls clients) s1 s2 result
+      → ServeStep source sink disk rule_kind files name clients rules s0 s3 result
   unfolding serving_around
-  step_by source sink disk files (Ok ends) says only = record {
+  step_by source sink disk rule_kind rules files (Ok ends) says only = record {
     says = record {
       before = before;
       after = after;
@@ -239,10 +243,10 @@ module _ {Src Snk Dsk : Type 0} (name : List ℕ) (clients : List ClientWord) (b
       name_open = disk_open;
       exchanged = exchanged only.keeps;
       opened = says.opened;
-      serving = serving_around source sink disk (known_by files) says.found ends says.serving;
+      serving = serving_around source sink disk rule_kind (known_by files) rules says.found ends says.serving;
       remains = remains_by disk files before after says.found says.serving.left says.opened says.serving.footing says.serving.closed;
     };
     only = round_only (Ok ends) only;
   }
-  step_by source sink disk files (Err refusal) (inl refuses) only = record { says = refused_step disk files refusal refuses; only = round_only (Err refusal) only }
-  step_by source sink disk files (Err refusal) (inr halts) only = record { says = halted_step disk files refusal halts; only = round_only (Err refusal) only }
+  step_by source sink disk rule_kind rules files (Err refusal) (inl refuses) only = record { says = refused_step disk files refusal refuses; only = round_only (Err refusal) only }
+  step_by source sink disk rule_kind rules files (Err refusal) (inr halts) only = record { says = halted_step disk files refusal halts; only = round_only (Err refusal) only }

@@ -1,6 +1,5 @@
 -- What a run of `serve` comes to.
 use Rattle.std.proofs.Common.{◌≡◌, ◌≢◌, ◌∙◌, ◌⊎◌, ℕ, Bool, true, false, List, [], ◌∷◌, All, Option, None, Some, Result, Ok, Err, inl, inr, refl, sym, subst, ap, if◌then◌else◌, ◌||◌}
-use Rattle.std.specs.List.{list_any}
 use Rattle.std.proofs.lemmas.List.Elements.{All-cons, All-nil}
 use Rattle.outside_io.specs.Openings.{Opening, Standing, disk_at}
 use Rattle.outside_io.specs.Places.{Untouched}
@@ -8,7 +7,7 @@ use Rattle.outside_io.specs.declared.disks.Disk.{Ghosts as Disks}
 use Rattle.outside_io.specs.declared.sinks.Sink.{Ghosts as Sinks}
 use Rattle.outside_io.specs.declared.sources.Source.{Ghosts as Sources}
 use Rattle.exit_status.specs.declared.Status.{Status}
-use Rattle.exit_status.specs.declared.Status.TheVariants.{Done, No, Words, Network, Base, Trains, Journal, Opening as not_opened, DiskFault, ClientEnd, Report, Memory}
+use Rattle.exit_status.specs.declared.Status.TheVariants.{Done, Words, Network, Base, Trains, Journal, Opening as not_opened, DiskFault, ClientEnd, Report, Memory}
 use Rattle.file_rounds.specs.Scenes.{Scene}
 use Rattle.file_rounds.specs.Writing.{ReportSays}
 use Rattle.file_rounds.specs.declared.writing.OutFault.{OutFault}
@@ -28,14 +27,16 @@ use Rattle.command_files.proofs.Refused.{file_other, memory_other, told_other}
 use Rattle.path_recover.specs.Texts.{fault_text}
 use Rattle.rail_types.specs.declared.trains.Train.{Train}
 use Rattle.request_server.specs.declared.plans.Session.{Session}
+use Rattle.admission_rules.specs.declared.rules.Rule.{Ghosts as Rules}
+use Rattle.client_rules.specs.declared.clients.ClientRules.{ClientRules}
 use Rattle.client_streams.specs.Clients.{client_calls}
 use Rattle.client_streams.specs.Refusing.{AreMade, WhyStopped}
 use Rattle.client_words.specs.declared.clients.ClientWord.{ClientWord}
-use Rattle.serve_reports.specs.Ends.{EndsSay, ends_status, has_faulty, has_wanting, IsEnds, is_faulty, is_wanting, line_of, report_text, status_behind, status_unreported, status_untold}
+use Rattle.serve_reports.specs.Ends.{EndsSay, has_faulty, has_wanting, IsEnds, is_faulty, is_wanting, line_of, report_text, status_behind, status_unreported, status_untold}
 use Rattle.serve_reports.specs.declared.ends.Ends.{Ends}
 use Rattle.serve_command.specs.Journals.{Refuses, ServeStep, TellsOpen, TellsText}
 use Rattle.serve_command.specs.Runs.{EndsRun, IsServed, RunsServe}
-use Rattle.serve_command.specs.Works.{files_of, ReadsBase, ReadsNetwork, ReadsTrains, serve_calls}
+use Rattle.serve_command.specs.Works.{files_of, ReadsBase, ReadsNetwork, ReadsTrains}
 use Rattle.serve_command.specs.declared.works.Files.{Files}
 
 -- ---- which statuses a refusal cannot have
@@ -75,7 +76,7 @@ stopped_other : (calls : List Opening) (made : List Opening → Type 0) (standin
 stopped_other calls made standing faults faults' refusal other is (inl cannot) = told_other not_opened other _ refusal cannot.told is.opening is.memory
 stopped_other calls made standing faults faults' refusal other is (inr memory) = memory_other other refusal memory is.memory
 
-module _ {Src Snk Dsk : Type 0} (source : Sources Src) (sink : Sinks Snk) (disk : Disks Dsk) (journal : List ℕ) (clients : List ClientWord) where
+module _ {Src Snk Dsk L : Type 0} (source : Sources Src) (sink : Sinks Snk) (disk : Disks Dsk) (rule_kind : Rules L) (journal : List ℕ) (clients : List ClientWord) (rules : List (ClientRules L)) where
   refuses_other : (files : Files) (old new : Scene Src Snk Dsk) (refusal : Refusal) (other : Status) → IsOther other → Refuses disk files journal clients old new refusal → status_of refusal ≢ other
   refuses_other files old new refusal other is refuses = elim refuses.why [
     | inl unopened ↦ told_other not_opened other _ refusal unopened.told is.opening is.memory
@@ -83,31 +84,31 @@ module _ {Src Snk Dsk : Type 0} (source : Sources Src) (sink : Sinks Snk) (disk 
     | inr (inr halted) ↦ stopped_other (client_calls clients) (λ calls. AreMade old new (disk_at journal ∷ calls)) old.standing old.faults new.faults refusal other is halted.why
   ]
 
-  trains_other : (trains : List ℕ) (network : NetworkFile) (base : BaseFile) (old new : Scene Src Snk Dsk) (refusal : Refusal) (other : Status) → IsOther other → ReadsTrains source sink disk trains journal clients network base old new (Err refusal) → status_of refusal ≢ other
+  trains_other : (trains : List ℕ) (network : NetworkFile) (base : BaseFile) (old new : Scene Src Snk Dsk) (refusal : Refusal) (other : Status) → IsOther other → ReadsTrains source sink disk rule_kind trains journal clients rules network base old new (Err refusal) → status_of refusal ≢ other
   trains_other trains network base old new refusal other is (inl stopped) = file_other kind.Trains source trains IsTrainFile HasTrainFault old new refusal other stopped.says is.opening is.trains is.memory
   trains_other trains network base old new refusal other is (inr goes) = refuses_other (files_of network base goes.given) goes.between new refusal other is goes.next.says
 
-  base_other : (base trains : List ℕ) (network : NetworkFile) (old new : Scene Src Snk Dsk) (refusal : Refusal) (other : Status) → IsOther other → ReadsBase source sink disk base trains journal clients network old new (Err refusal) → status_of refusal ≢ other
+  base_other : (base trains : List ℕ) (network : NetworkFile) (old new : Scene Src Snk Dsk) (refusal : Refusal) (other : Status) → IsOther other → ReadsBase source sink disk rule_kind base trains journal clients rules network old new (Err refusal) → status_of refusal ≢ other
   base_other base trains network old new refusal other is (inl stopped) = file_other kind.Base source base (IsBaseFile network.named.network.zones) (HasBaseFault network.named.network.zones) old new refusal other stopped.says is.opening is.base is.memory
   base_other base trains network old new refusal other is (inr goes) = trains_other trains network goes.given goes.between new refusal other is goes.next
 
-  works_other : (network base trains : List ℕ) (old new : Scene Src Snk Dsk) (refusal : Refusal) (other : Status) → IsOther other → ReadsNetwork source sink disk network base trains journal clients old new (Err refusal) → status_of refusal ≢ other
+  works_other : (network base trains : List ℕ) (old new : Scene Src Snk Dsk) (refusal : Refusal) (other : Status) → IsOther other → ReadsNetwork source sink disk rule_kind network base trains journal clients rules old new (Err refusal) → status_of refusal ≢ other
   works_other network base trains old new refusal other is (inl stopped) = file_other kind.Network source network IsNetworkFile HasNetworkFault old new refusal other stopped.says is.opening is.network is.memory
   works_other network base trains old new refusal other is (inr goes) = base_other base trains goes.given goes.between new refusal other is goes.next
 
   -- ---- refusals change no sink
 
-  trains_clean : (trains : List ℕ) (network : NetworkFile) (base : BaseFile) (old new : Scene Src Snk Dsk) (refusal : Refusal) → ReadsTrains source sink disk trains journal clients network base old new (Err refusal) → Untouched old.sinks new.sinks
+  trains_clean : (trains : List ℕ) (network : NetworkFile) (base : BaseFile) (old new : Scene Src Snk Dsk) (refusal : Refusal) → ReadsTrains source sink disk rule_kind trains journal clients rules network base old new (Err refusal) → Untouched old.sinks new.sinks
   trains_clean trains network base old new refusal works =
-      follows_clean (TrainStep source trains) (λ (read : List Train). ServeStep source sink disk (files_of network base read) journal clients) (λ before after result step. step.only.sinks) (λ read before after refused step. step.says.sinks) old new refusal works
+      follows_clean (TrainStep source trains) (λ (read : List Train). ServeStep source sink disk rule_kind (files_of network base read) journal clients rules) (λ before after result step. step.only.sinks) (λ read before after refused step. step.says.sinks) old new refusal works
 
-  base_clean : (base trains : List ℕ) (network : NetworkFile) (old new : Scene Src Snk Dsk) (refusal : Refusal) → ReadsBase source sink disk base trains journal clients network old new (Err refusal) → Untouched old.sinks new.sinks
+  base_clean : (base trains : List ℕ) (network : NetworkFile) (old new : Scene Src Snk Dsk) (refusal : Refusal) → ReadsBase source sink disk rule_kind base trains journal clients rules network old new (Err refusal) → Untouched old.sinks new.sinks
   base_clean base trains network old new refusal works =
-      follows_clean (BaseStep source network.named.network.zones base) (λ (file : BaseFile). ReadsTrains source sink disk trains journal clients network file) (λ before after result step. step.only.sinks) (λ file. trains_clean trains network file) old new refusal works
+      follows_clean (BaseStep source network.named.network.zones base) (λ (file : BaseFile). ReadsTrains source sink disk rule_kind trains journal clients rules network file) (λ before after result step. step.only.sinks) (λ file. trains_clean trains network file) old new refusal works
 
-  works_clean : (network base trains : List ℕ) (old new : Scene Src Snk Dsk) (refusal : Refusal) → ReadsNetwork source sink disk network base trains journal clients old new (Err refusal) → Untouched old.sinks new.sinks
+  works_clean : (network base trains : List ℕ) (old new : Scene Src Snk Dsk) (refusal : Refusal) → ReadsNetwork source sink disk rule_kind network base trains journal clients rules old new (Err refusal) → Untouched old.sinks new.sinks
   works_clean network base trains old new refusal works =
-      follows_clean (NetworkStep source network) (λ (file : NetworkFile). ReadsBase source sink disk base trains journal clients file) (λ before after result step. step.only.sinks) (λ file. base_clean base trains file) old new refusal works
+      follows_clean (NetworkStep source network) (λ (file : NetworkFile). ReadsBase source sink disk rule_kind base trains journal clients rules file) (λ before after result step. step.only.sinks) (λ file. base_clean base trains file) old new refusal works
 
   -- ---- the ends and their statuses
 
@@ -137,7 +138,7 @@ module _ {Src Snk Dsk : Type 0} (source : Sources Src) (sink : Sinks Snk) (disk 
   told_at false true = no_memory
   told_at false false = all_done
 
-  ends_at : (sessions : List (Session Src Snk)) (ends : Ends) → IsEnds sessions ends → AtEnd ends.status
+  ends_at : (sessions : List (Session Src Snk L)) (ends : Ends) → IsEnds rule_kind sessions ends → AtEnd ends.status
   ends_at sessions ends (inl is) = subst AtEnd (sym (ap (λ (e : Ends). e.status) is)) (told_at (has_faulty sessions) (has_wanting sessions))
   ends_at sessions ends (inr is) = subst AtEnd (sym (ap (λ (e : Ends). e.status) is)) (untold_at (has_faulty sessions) (has_wanting sessions))
 
@@ -165,7 +166,7 @@ module _ {Src Snk Dsk : Type 0} (source : Sources Src) (sink : Sinks Snk) (disk 
   input_of why.LineCount faulty wanting = cc
   input_of why.Memory faulty wanting = cc
 
-  all_input : (sessions : List (Session Src Snk)) → has_faulty sessions ≡ false → has_wanting sessions ≡ false → All (λ session. session.ended.why ≡ why.Input) sessions
+  all_input : (sessions : List (Session Src Snk L)) → has_faulty sessions ≡ false → has_wanting sessions ≡ false → All (λ session. session.ended.why ≡ why.Input) sessions
   all_input [] faulty wanting = All-nil (λ session. session.ended.why ≡ why.Input)
   all_input (one ∷ sessions) faulty wanting =
       let f = or_false (is_faulty one.ended.why) (has_faulty sessions) faulty in
@@ -193,11 +194,11 @@ module _ {Src Snk Dsk : Type 0} (source : Sources Src) (sink : Sinks Snk) (disk 
   behind_done status (Err fault) at is = absurd (failed_not status at is)
 
   -- what was reported where the status is Done
-  record AllInput (sessions : List (Session Src Snk)) (old new : Scene Src Snk Dsk) : Type 0 where
+  record AllInput (sessions : List (Session Src Snk L)) (old new : Scene Src Snk Dsk) : Type 0 where
     pub inputs : All (λ session. session.ended.why ≡ why.Input) sessions
-    pub told : ReportSays sink (report_text sessions) old new (Ok tt)
+    pub told : ReportSays sink (report_text rule_kind sessions) old new (Ok tt)
 
-  ends_done : (sessions : List (Session Src Snk)) (ends : Ends) (old new : Scene Src Snk Dsk) (status : Status) → IsEnds sessions ends → EndsSay sink ends old new status → status ≡ Done → AllInput sessions old new
+  ends_done : (sessions : List (Session Src Snk L)) (ends : Ends) (old new : Scene Src Snk Dsk) (status : Status) → IsEnds rule_kind sessions ends → EndsSay sink ends old new status → status ≡ Done → AllInput sessions old new
   ends_done sessions ends old new status (inr are) say is =
       let both = behind_done ends.status say.result (ends_at sessions ends (inr are)) (sym say.status_is ∙ is) in
       absurd (untold_not (has_faulty sessions) (has_wanting sessions) (sym (ap (λ (e : Ends). e.status) are) ∙ both.1))
@@ -209,18 +210,18 @@ module _ {Src Snk Dsk : Type 0} (source : Sources Src) (sink : Sinks Snk) (disk 
         told = subst (λ (text : List ℕ). ReportSays sink text old new (Ok tt)) (ap line_of are) (subst (λ (r : Result (Unit {0}) OutFault). ReportSays sink (line_of ends) old new r) both.0 say.says);
       }
 
-  refusal_not : (network base trains : List ℕ) (old between new : Scene Src Snk Dsk) (refusal : Refusal) (status other : Status) → IsOther other → ReadsNetwork source sink disk network base trains journal clients old between (Err refusal)
+  refusal_not : (network base trains : List ℕ) (old between new : Scene Src Snk Dsk) (refusal : Refusal) (status other : Status) → IsOther other → ReadsNetwork source sink disk rule_kind network base trains journal clients rules old between (Err refusal)
       → EndsRun sink between new (Err refusal) status → status ≢ other
   refusal_not network base trains old between new refusal status other is works ends same = works_other network base trains old between refusal other is works (sym ends.status_is ∙ same)
 
-  served_by : (network base trains : List ℕ) (old between new : Scene Src Snk Dsk) (outcome : Result Ends Refusal) (status : Status) → ReadsNetwork source sink disk network base trains journal clients old between outcome → EndsRun sink between new outcome status
-      → status ≡ Done → IsServed source sink disk network base trains journal clients old new
+  served_by : (network base trains : List ℕ) (old between new : Scene Src Snk Dsk) (outcome : Result Ends Refusal) (status : Status) → ReadsNetwork source sink disk rule_kind network base trains journal clients rules old between outcome → EndsRun sink between new outcome status
+      → status ≡ Done → IsServed source sink disk rule_kind network base trains journal clients rules old new
   served_by network base trains old between new (Err refusal) status works ends is = absurd (refusal_not network base trains old between new refusal status Done done_other works ends is)
   served_by network base trains old between new (Ok ends) status (inl stopped) say is = absurd stopped
   served_by network base trains old between new (Ok ends) status (inr goes) say is = base_served goes.next
     where
       last : (base_file : BaseFile) (second third : Scene Src Snk Dsk) (list : List Train) → BaseStep source goes.given.named.network.zones base goes.between second (Ok base_file) → TrainStep source trains second third (Ok list)
-          → ServeStep source sink disk (files_of goes.given base_file list) journal clients third between (Ok ends) → IsServed source sink disk network base trains journal clients old new
+          → ServeStep source sink disk rule_kind (files_of goes.given base_file list) journal clients rules third between (Ok ends) → IsServed source sink disk rule_kind network base trains journal clients rules old new
       last base_file second third list read_base read_trains step =
           let whole = ends_done step.says.serving.sessions ends between new status step.says.serving.ends_are say is in
           record {
@@ -241,31 +242,31 @@ module _ {Src Snk Dsk : Type 0} (source : Sources Src) (sink : Sinks Snk) (disk 
             only = say.only;
           }
 
-      trains_served : (base_file : BaseFile) (second : Scene Src Snk Dsk) → BaseStep source goes.given.named.network.zones base goes.between second (Ok base_file) → ReadsTrains source sink disk trains journal clients goes.given base_file second between (Ok ends)
-          → IsServed source sink disk network base trains journal clients old new
+      trains_served : (base_file : BaseFile) (second : Scene Src Snk Dsk) → BaseStep source goes.given.named.network.zones base goes.between second (Ok base_file) → ReadsTrains source sink disk rule_kind trains journal clients rules goes.given base_file second between (Ok ends)
+          → IsServed source sink disk rule_kind network base trains journal clients rules old new
       trains_served base_file second read_base (inl stopped) = absurd stopped
       trains_served base_file second read_base (inr on) = last base_file second on.between on.given read_base on.first on.next
 
-      base_served : ReadsBase source sink disk base trains journal clients goes.given goes.between between (Ok ends) → IsServed source sink disk network base trains journal clients old new
+      base_served : ReadsBase source sink disk rule_kind base trains journal clients rules goes.given goes.between between (Ok ends) → IsServed source sink disk rule_kind network base trains journal clients rules old new
       base_served (inl stopped) = absurd stopped
       base_served (inr on) = trains_served on.given on.between on.first on.next
 
   -- at Done all was done
-  pub serve_done : (network base trains : List ℕ) (old new : Scene Src Snk Dsk) (status : Status) → RunsServe source sink disk network base trains journal clients old new status → status ≡ Done → IsServed source sink disk network base trains journal clients old new
+  pub serve_done : (network base trains : List ℕ) (old new : Scene Src Snk Dsk) (status : Status) → RunsServe source sink disk rule_kind network base trains journal clients rules old new status → status ≡ Done → IsServed source sink disk rule_kind network base trains journal clients rules old new
   serve_done network base trains old new status runs is = served_by network base trains old runs.between new runs.outcome status runs.works runs.ends is
 
-  ends_of_served : (network base trains : List ℕ) (old between new : Scene Src Snk Dsk) (ends : Ends) (status : Status) → ReadsNetwork source sink disk network base trains journal clients old between (Ok ends) → EndsRun sink between new (Ok ends) status → AtEnd status
+  ends_of_served : (network base trains : List ℕ) (old between new : Scene Src Snk Dsk) (ends : Ends) (status : Status) → ReadsNetwork source sink disk rule_kind network base trains journal clients rules old between (Ok ends) → EndsRun sink between new (Ok ends) status → AtEnd status
   ends_of_served network base trains old between new ends status (inl stopped) say = absurd stopped
   ends_of_served network base trains old between new ends status (inr goes) say = at_base goes.next
     where
-      at_last : (files : Files) (third : Scene Src Snk Dsk) → ServeStep source sink disk files journal clients third between (Ok ends) → AtEnd status
+      at_last : (files : Files) (third : Scene Src Snk Dsk) → ServeStep source sink disk rule_kind files journal clients rules third between (Ok ends) → AtEnd status
       at_last files third step = subst AtEnd (sym say.status_is) (behind_at ends.status say.result (ends_at step.says.serving.sessions ends step.says.serving.ends_are))
 
-      at_trains : (base_file : BaseFile) (second : Scene Src Snk Dsk) → ReadsTrains source sink disk trains journal clients goes.given base_file second between (Ok ends) → AtEnd status
+      at_trains : (base_file : BaseFile) (second : Scene Src Snk Dsk) → ReadsTrains source sink disk rule_kind trains journal clients rules goes.given base_file second between (Ok ends) → AtEnd status
       at_trains base_file second (inl stopped) = absurd stopped
       at_trains base_file second (inr on) = at_last (files_of goes.given base_file on.given) on.between on.next
 
-      at_base : ReadsBase source sink disk base trains journal clients goes.given goes.between between (Ok ends) → AtEnd status
+      at_base : ReadsBase source sink disk rule_kind base trains journal clients rules goes.given goes.between between (Ok ends) → AtEnd status
       at_base (inl stopped) = absurd stopped
       at_base (inr on) = at_trains on.given on.between on.next
 
@@ -275,13 +276,13 @@ module _ {Src Snk Dsk : Type 0} (source : Sources Src) (sink : Sinks Snk) (disk 
   not_words status (inr (inr (inl at))) is = let e : Report ≡ Words = sym at ∙ is in cc
   not_words status (inr (inr (inr at))) is = let e : Memory ≡ Words = sym at ∙ is in cc
 
-  words_by : (network base trains : List ℕ) (old between new : Scene Src Snk Dsk) (outcome : Result Ends Refusal) (status : Status) → ReadsNetwork source sink disk network base trains journal clients old between outcome → EndsRun sink between new outcome status
+  words_by : (network base trains : List ℕ) (old between new : Scene Src Snk Dsk) (outcome : Result Ends Refusal) (status : Status) → ReadsNetwork source sink disk rule_kind network base trains journal clients rules old between outcome → EndsRun sink between new outcome status
       → status ≢ Words
   words_by network base trains old between new (Err refusal) status works ends = refusal_not network base trains old between new refusal status Words words_other works ends
   words_by network base trains old between new (Ok ends) status works say = not_words status (ends_of_served network base trains old between new ends status works say)
 
   -- names that are given are never refused as words
-  pub serve_words : (network base trains : List ℕ) (old new : Scene Src Snk Dsk) (status : Status) → RunsServe source sink disk network base trains journal clients old new status → status ≢ Words
+  pub serve_words : (network base trains : List ℕ) (old new : Scene Src Snk Dsk) (status : Status) → RunsServe source sink disk rule_kind network base trains journal clients rules old new status → status ≢ Words
   serve_words network base trains old new status runs = words_by network base trains old runs.between new runs.outcome status runs.works runs.ends
 
   other_end : (status : Status) → AtEnd status → status ≢ Done → status ≢ ClientEnd → status ≢ Report → status ≢ Memory → ⊥
@@ -290,13 +291,13 @@ module _ {Src Snk Dsk : Type 0} (source : Sources Src) (sink : Sinks Snk) (disk 
   other_end status (inr (inr (inl at))) d c r m = r at
   other_end status (inr (inr (inr at))) d c r m = m at
 
-  clean_by : (network base trains : List ℕ) (old between new : Scene Src Snk Dsk) (outcome : Result Ends Refusal) (status : Status) → ReadsNetwork source sink disk network base trains journal clients old between outcome → EndsRun sink between new outcome status
+  clean_by : (network base trains : List ℕ) (old between new : Scene Src Snk Dsk) (outcome : Result Ends Refusal) (status : Status) → ReadsNetwork source sink disk rule_kind network base trains journal clients rules old between outcome → EndsRun sink between new outcome status
       → status ≢ Done → status ≢ ClientEnd → status ≢ Report → status ≢ Memory → Untouched old.sinks new.sinks
   clean_by network base trains old between new (Err refusal) status works ends d c r m = λ name. ends.reports.only.sinks name ∙ works_clean network base trains old between refusal works name
   clean_by network base trains old between new (Ok ends) status works say d c r m = absurd (other_end status (ends_of_served network base trains old between new ends status works say) d c r m)
 
   -- at a refusal no sink gained anything
-  pub serve_clean : (network base trains : List ℕ) (old new : Scene Src Snk Dsk) (status : Status) → RunsServe source sink disk network base trains journal clients old new status → status ≢ Done → status ≢ ClientEnd → status ≢ Report → status ≢ Memory
+  pub serve_clean : (network base trains : List ℕ) (old new : Scene Src Snk Dsk) (status : Status) → RunsServe source sink disk rule_kind network base trains journal clients rules old new status → status ≢ Done → status ≢ ClientEnd → status ≢ Report → status ≢ Memory
       → Untouched old.sinks new.sinks
   serve_clean network base trains old new status runs d c r m = clean_by network base trains old runs.between new runs.outcome status runs.works runs.ends d c r m
 
@@ -311,6 +312,6 @@ module _ {Src Snk Dsk : Type 0} (source : Sources Src) (sink : Sinks Snk) (disk 
   ends_disks old new (Err refusal) status said = said.reports.only.disks
 
   -- no disk but the journal's changed
-  pub serve_disks : (network base trains : List ℕ) (old new : Scene Src Snk Dsk) (status : Status) → RunsServe source sink disk network base trains journal clients old new status → (name : List ℕ) → name ≢ journal → new.disks name ≡ old.disks name
+  pub serve_disks : (network base trains : List ℕ) (old new : Scene Src Snk Dsk) (status : Status) → RunsServe source sink disk rule_kind network base trains journal clients rules old new status → (name : List ℕ) → name ≢ journal → new.disks name ≡ old.disks name
   serve_disks network base trains old new status runs name differs =
       ends_disks runs.between new runs.outcome status runs.ends name ∙ runs.keeps.keeps.disks name ((λ e. cc), ((λ e. cc), ((λ e. cc), ((λ e. differs cc), no_disk name clients))))

@@ -1,6 +1,6 @@
 -- Clients served over a book, and their streams.
-use Rattle.std.proofs.Common.{◌≡◌, ◌≢◌, ◌∙◌, ◌++◌, ℕ, List, [], ◌∷◌, All, length, map, take, Result, Ok, Err, inl, inr, refl, sym, ap, subst}
-use Rattle.std.proofs.lemmas.List.{append-nil, length-map}
+use Rattle.std.proofs.Common.{◌≡◌, ◌∙◌, ℕ, List, [], All, length, map, take, Ok, Err, inr, refl, sym, ap, subst}
+use Rattle.std.proofs.lemmas.List.{append-nil}
 use Rattle.std.proofs.Math.Seq.{take-length}
 use Rattle.outside_io.specs.Openings.{Opening, Opens as CallsOf}
 use Rattle.file_rounds.specs.Scenes.{Scene}
@@ -53,7 +53,7 @@ all_taken : {X : Type 0} (xs : List X) (n : ℕ) → n ≡ length xs → take n 
 all_taken {X} xs n same = ap (λ (k : ℕ). take k xs) same ∙ take-length xs
 
 -- memory was wanted for the clients, and their streams were put back as they were
-pub unserved_again : {Src Snk Dsk : Type 0} (clients : List ClientWord) (found : Ledger Dsk) (after : Dsk) (plans : List (Plan Src Snk NoBetween)) (s0 s1 s2 : Scene Src Snk Dsk) → after ≡ found.disk → length plans ≡ length clients → AreOut clients (map streams_of plans) s0 s1
+pub unserved_again : {Src Snk Dsk L : Type 0} (clients : List ClientWord) (found : Ledger Dsk) (after : Dsk) (plans : List (Plan Src Snk NoBetween L)) (s0 s1 s2 : Scene Src Snk Dsk) → after ≡ found.disk → length plans ≡ length clients → AreOut clients (map streams_of plans) s0 s1
     → AreIn (take (length plans) clients) (map streams_of plans) s1 s2 → Unserved clients found after s0 s2 Memory
 unserved_again {Src} {Snk} {Dsk} clients found after plans s0 s1 s2 disk long outs ins =
     let streams : List (Src × Snk) = map streams_of plans in
@@ -69,22 +69,22 @@ unserved_again {Src} {Snk} {Dsk} clients found after plans s0 s1 s2 disk long ou
     }
 
 -- what is said of the streams of clients that were served
-pub record Rounds {Src Snk Dsk : Type 0} (clients : List ClientWord) (plans : List (Plan Src Snk NoBetween)) (sessions : List (Session Src Snk)) (s0 s2 : Scene Src Snk Dsk) (ends : Ends) : Type 0 where
-  pub had : AreMatched (λ (client : ClientWord) (plan : Plan Src Snk NoBetween) (session : Session Src Snk). HadStreams s0 s2 client (streams_of plan) (returned_of session)) clients plans sessions
+pub record Rounds {Src Snk Dsk L : Type 0} (clients : List ClientWord) (plans : List (Plan Src Snk NoBetween L)) (sessions : List (Session Src Snk L)) (s0 s2 : Scene Src Snk Dsk) (ends : Ends) : Type 0 where
+  pub had : AreMatched (λ (client : ClientWord) (plan : Plan Src Snk NoBetween L) (session : Session Src Snk L). HadStreams s0 s2 client (streams_of plan) (returned_of session)) clients plans sessions
   pub keeps : KeepsTo {A = Ends} (client_calls clients) s0 s2 (Ok ends)
   pub opens : All (IsOpen s0.standing) (client_calls clients)
   pub quiet : s2.faults ≡ s0.faults
 
-pub rounds_by : {Src Snk Dsk : Type 0} (clients : List ClientWord) (plans : List (Plan Src Snk NoBetween)) (sessions : List (Session Src Snk)) (s0 s1 s2 : Scene Src Snk Dsk) (ends : Ends) → AreClients clients → length sessions ≡ length clients
+pub rounds_by : {Src Snk Dsk L : Type 0} (clients : List ClientWord) (plans : List (Plan Src Snk NoBetween L)) (sessions : List (Session Src Snk L)) (s0 s1 s2 : Scene Src Snk Dsk) (ends : Ends) → AreClients clients → length sessions ≡ length clients
     → AreOut clients (map streams_of plans) s0 s1 → AreIn (take (length sessions) clients) (map returned_of sessions) s1 s2 → Rounds clients plans sessions s0 s2 ends
-rounds_by {Src} {Snk} {Dsk} clients plans sessions s0 s1 s2 ends are long outs ins =
+rounds_by {Src} {Snk} {Dsk} {L} clients plans sessions s0 s1 s2 ends are long outs ins =
     let streams : List (Src × Snk) = map streams_of plans in
     let returned : List (Src × Snk) = map returned_of sessions in
     let back : AreIn clients returned s1 s2 = subst (λ (cs : List ClientWord). AreIn cs returned s1 s2) (all_taken clients (length sessions) long) ins in
     let nest = nested_keeps clients streams returned s0 s1 s1 s2 are.inputs are.outputs outs (as_before s1) back in
     let opened : CallsOf (client_calls clients) s0.opened s2.opened = rw (in_calls clients returned s1 s2 back) (out_calls clients streams s0 s1 outs) in
     record {
-      had = matched_parts (HadStreams s0 s2) (λ (plan : Plan Src Snk NoBetween). streams_of plan) (λ (session : Session Src Snk). returned_of session) clients plans sessions nest.had;
+      had = matched_parts (HadStreams s0 s2) (λ (plan : Plan Src Snk NoBetween L). streams_of plan) (λ (session : Session Src Snk L). returned_of session) clients plans sessions nest.had;
       keeps = record { keeps = nest.keeps; opens = opened };
       opens = out_open clients streams s0 s1 are.inputs are.outputs outs;
       quiet = in_quiet clients returned s1 s2 back ∙ out_quiet clients streams s0 s1 outs;

@@ -1,6 +1,8 @@
 -- A journal that is opened, served and put back.
 use Rattle.std.specs.Prelude.{◌≡◌, ◌⊎◌, ℕ, ◌+◌, ◌≤◌, List, ◌∷◌, length, IfSome, Option, None, Some, Result, Ok, Err, codes}
+use Rattle.admission_rules.specs.declared.rules.Rule.{Ghosts as Rules}
 use Rattle.client_lines.specs.Names.{Names}
+use Rattle.client_rules.specs.declared.clients.ClientRules.{ClientRules}
 use Rattle.client_streams.specs.Clients.{client_calls, IsExchanged}
 use Rattle.client_streams.specs.Refusing.{AreMade, IsOpen, WhyStopped}
 use Rattle.client_words.specs.declared.clients.ClientWord.{ClientWord}
@@ -128,41 +130,45 @@ pub record Remains {D : Type 0} (disk : Disks D) (files : Files) (before after :
       (settled_of left) file)
 
 -- the journal was opened, and the clients were served over it
-pub record Serves {Src Snk Dsk : Type 0} (source : Sources Src) (sink : Sinks Snk)
-    (disk : Disks Dsk) (files : Files) (name : List ℕ) (clients : List ClientWord)
-    (old new : Scene Src Snk Dsk) (ends : Ends) : Type 0 where
+pub record Serves {Src Snk Dsk L : Type 0} (source : Sources Src) (sink : Sinks Snk)
+    (disk : Disks Dsk) (kind : Rules L) (files : Files) (name : List ℕ) (clients : List ClientWord)
+    (rules : List (ClientRules L)) (old new : Scene Src Snk Dsk) (ends : Ends) : Type 0 where
   pub before : Dsk
   pub after : Dsk
   pub found : Ledger Dsk
   pub name_open : IsOpen old.standing (disk_at name)
   pub exchanged : IsExchanged (old.disks name) (new.disks name) before after
   pub opened : IsFound disk files before found
-  pub serving : IsServing source sink disk (known_by files) clients found after old new ends
+  pub serving : IsServing source sink disk kind (known_by files) clients rules found after
+      old new ends
   pub remains : Remains disk files before after found serving.left
 
 -- the clients were served, or why not
-abbrev pub ServeSays : {Src Snk Dsk : Type 0} → Sources Src → Sinks Snk → Disks Dsk → Files
-    → List ℕ → List ClientWord → Scene Src Snk Dsk → Scene Src Snk Dsk → Result Ends Refusal
-    → Type 0
-ServeSays source sink disk files name clients old new (Ok ends) =
-    Serves source sink disk files name clients old new ends
-ServeSays source sink disk files name clients old new (Err refusal) =
+abbrev pub ServeSays : {Src Snk Dsk L : Type 0} → Sources Src → Sinks Snk → Disks Dsk → Rules L
+    → Files → List ℕ → List ClientWord → List (ClientRules L) → Scene Src Snk Dsk
+    → Scene Src Snk Dsk → Result Ends Refusal → Type 0
+ServeSays source sink disk kind files name clients rules old new (Ok ends) =
+    Serves source sink disk kind files name clients rules old new ends
+ServeSays source sink disk kind files name clients rules old new (Err refusal) =
     Refuses disk files name clients old new refusal
 
 -- The step that serves: the journal's disk is opened, then the clients' streams, each once, and all are put back.
-pub record ServeStep {Src Snk Dsk : Type 0} (source : Sources Src) (sink : Sinks Snk)
-    (disk : Disks Dsk) (files : Files) (name : List ℕ) (clients : List ClientWord)
-    (old new : Scene Src Snk Dsk) (result : Result Ends Refusal) : Type 0 where
-  pub says : ServeSays source sink disk files name clients old new result
+pub record ServeStep {Src Snk Dsk L : Type 0} (source : Sources Src) (sink : Sinks Snk)
+    (disk : Disks Dsk) (kind : Rules L) (files : Files) (name : List ℕ) (clients : List ClientWord)
+    (rules : List (ClientRules L)) (old new : Scene Src Snk Dsk) (result : Result Ends Refusal)
+    : Type 0 where
+  pub says : ServeSays source sink disk kind files name clients rules old new result
   pub only : KeepsTo (disk_at name ∷ client_calls clients) old new result
 
 -- *inside*: a disk on which the journal was opened or refused
-pub record DiskServes {Src Snk Dsk : Type 0} (source : Sources Src) (sink : Sinks Snk)
-    (disk : Disks Dsk) (files : Files) (clients : List ClientWord) (before after : Dsk)
-    (old new : Scene Src Snk Dsk) (ends : Ends) : Type 0 where
+pub record DiskServes {Src Snk Dsk L : Type 0} (source : Sources Src) (sink : Sinks Snk)
+    (disk : Disks Dsk) (kind : Rules L) (files : Files) (clients : List ClientWord)
+    (rules : List (ClientRules L)) (before after : Dsk) (old new : Scene Src Snk Dsk) (ends : Ends)
+    : Type 0 where
   pub found : Ledger Dsk
   pub opened : IsFound disk files before found
-  pub serving : IsServing source sink disk (known_by files) clients found after old new ends
+  pub serving : IsServing source sink disk kind (known_by files) clients rules found after
+      old new ends
 
 pub record DiskRefuses {Src Snk Dsk : Type 0} (disk : Disks Dsk) (files : Files)
     (name : List ℕ) (before after : Dsk) (old new : Scene Src Snk Dsk) (refusal : Refusal)
@@ -179,11 +185,11 @@ pub record DiskHalts {Src Snk Dsk : Type 0} (disk : Disks Dsk) (files : Files)
   pub opened : IsFound disk files before found
   pub unserved : IsUnserved clients found after old new refusal
 
-abbrev pub DiskSays : {Src Snk Dsk : Type 0} → Sources Src → Sinks Snk → Disks Dsk → Files
-    → List ℕ → List ClientWord → Dsk → Dsk → Scene Src Snk Dsk → Scene Src Snk Dsk
-    → Result Ends Refusal → Type 0
-DiskSays source sink disk files name clients before after old new (Ok ends) =
-    DiskServes source sink disk files clients before after old new ends
-DiskSays source sink disk files name clients before after old new (Err refusal) =
+abbrev pub DiskSays : {Src Snk Dsk L : Type 0} → Sources Src → Sinks Snk → Disks Dsk → Rules L
+    → Files → List ℕ → List ClientWord → List (ClientRules L) → Dsk → Dsk → Scene Src Snk Dsk
+    → Scene Src Snk Dsk → Result Ends Refusal → Type 0
+DiskSays source sink disk kind files name clients rules before after old new (Ok ends) =
+    DiskServes source sink disk kind files clients rules before after old new ends
+DiskSays source sink disk kind files name clients rules before after old new (Err refusal) =
     DiskRefuses disk files name before after old new refusal
     ⊎ DiskHalts disk files clients before after old new refusal

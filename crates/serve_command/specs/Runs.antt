@@ -1,5 +1,7 @@
 -- The run of `serve`.
 use Rattle.std.specs.Prelude.{◌≡◌, ℕ, All, List, Result, Ok, Err}
+use Rattle.admission_rules.specs.declared.rules.Rule.{Ghosts as Rules}
+use Rattle.client_rules.specs.declared.clients.ClientRules.{ClientRules}
 use Rattle.client_words.specs.declared.clients.ClientWord.{ClientWord}
 use Rattle.command_files.specs.Files.{BaseStep, NetworkStep, TrainStep}
 use Rattle.command_files.specs.declared.bases.BaseFile.{BaseFile}
@@ -28,21 +30,23 @@ EndsRun sink old new (Err refusal) status = TellsRefusal sink refusal old new st
 
 -- The files were read, the journal was opened, the clients were served, and this was reported: in this order, each name
 -- opened once, and all put back.
-pub record RunsServe {Src Snk Dsk : Type 0} (source : Sources Src) (sink : Sinks Snk)
-    (disk : Disks Dsk) (network base trains journal : List ℕ) (clients : List ClientWord)
-    (old new : Scene Src Snk Dsk) (status : Status) : Type 0 where
+pub record RunsServe {Src Snk Dsk L : Type 0} (source : Sources Src) (sink : Sinks Snk)
+    (disk : Disks Dsk) (kind : Rules L) (network base trains journal : List ℕ)
+    (clients : List ClientWord) (rules : List (ClientRules L)) (old new : Scene Src Snk Dsk)
+    (status : Status) : Type 0 where
   pub between : Scene Src Snk Dsk
   pub outcome : Result Ends Refusal
-  pub works : ReadsNetwork source sink disk network base trains journal clients
+  pub works : ReadsNetwork source sink disk kind network base trains journal clients rules
       old between outcome
   pub keeps : KeepsTo (serve_calls network base trains journal clients) old between outcome
   pub ends : EndsRun sink between new outcome status
 
 -- All was done: the files were read, the journal was opened, the clients were served over it, the input of each was read
--- to its end, and a line for each was reported.
-pub record IsServed {Src Snk Dsk : Type 0} (source : Sources Src) (sink : Sinks Snk)
-    (disk : Disks Dsk) (network base trains journal : List ℕ) (clients : List ClientWord)
-    (old new : Scene Src Snk Dsk) : Type 0 where
+-- to its end, and a line for each and for each of its rules was reported.
+pub record IsServed {Src Snk Dsk L : Type 0} (source : Sources Src) (sink : Sinks Snk)
+    (disk : Disks Dsk) (kind : Rules L) (network base trains journal : List ℕ)
+    (clients : List ClientWord) (rules : List (ClientRules L)) (old new : Scene Src Snk Dsk)
+    : Type 0 where
   pub network_file : NetworkFile
   pub base_file : BaseFile
   pub train_list : List Train
@@ -54,8 +58,8 @@ pub record IsServed {Src Snk Dsk : Type 0} (source : Sources Src) (sink : Sinks 
   pub read_base : BaseStep source network_file.named.network.zones base first second (Ok base_file)
   pub read_trains : TrainStep source trains second third (Ok train_list)
   pub ends : Ends
-  pub serves : Serves source sink disk (files_of network_file base_file train_list) journal
-      clients third fourth ends
+  pub serves : Serves source sink disk kind (files_of network_file base_file train_list) journal
+      clients rules third fourth ends
   pub inputs : All (λ session. session.ended.why ≡ Input) serves.serving.sessions
-  pub told : ReportSays sink (report_text serves.serving.sessions) fourth new (Ok tt)
+  pub told : ReportSays sink (report_text kind serves.serving.sessions) fourth new (Ok tt)
   pub only : ChangesOnlyReport fourth new

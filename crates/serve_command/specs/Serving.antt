@@ -1,6 +1,9 @@
 -- What clients that are served over a journal come to.
 use Rattle.std.specs.Prelude.{◌≡◌, ℕ, ◌≤◌, All, IfSome, List, map, Result, Ok, Err}
+use Rattle.admission_rules.specs.declared.rules.Rule.{Ghosts as Rules}
 use Rattle.client_lines.specs.Names.{Names}
+use Rattle.client_rules.specs.Clients.{rules_named}
+use Rattle.client_rules.specs.declared.clients.ClientRules.{ClientRules}
 use Rattle.client_streams.specs.Clients.{client_calls, HadStreams}
 use Rattle.client_streams.specs.Lending.{IsAsBefore, returned_of, streams_of}
 use Rattle.client_streams.specs.Refusing.{AreMade, IsOpen, WhyStopped}
@@ -40,24 +43,28 @@ pub record IsClosed {D : Type 0} (disk : Disks D) (book : Ledger D) (after : D) 
   pub contents : IfSome (disk.contents after) (IsPrefixOf book (settled_of book))
 
 -- The clients were served over the book that was found: no name of theirs is told not to be ready, and each was served
--- with the streams under its names, all by one history, that of the book that is left, which is kept on the disk handed
--- back. These are the ends of their sessions.
-pub record IsServing {Src Snk Dsk : Type 0} (source : Sources Src) (sink : Sinks Snk)
-    (disk : Disks Dsk) (known : Names) (clients : List ClientWord) (found : Ledger Dsk)
-    (after : Dsk) (old new : Scene Src Snk Dsk) (ends : Ends) : Type 0 where
+-- with the streams under its names and by its rules, all by one history, that of the book that is left, which is kept on
+-- the disk handed back. The rules of a client are those in the elements with its name, in order. These are the ends of
+-- their sessions.
+pub record IsServing {Src Snk Dsk L : Type 0} (source : Sources Src) (sink : Sinks Snk)
+    (disk : Disks Dsk) (kind : Rules L) (known : Names) (clients : List ClientWord)
+    (rules : List (ClientRules L)) (found : Ledger Dsk) (after : Dsk) (old new : Scene Src Snk Dsk)
+    (ends : Ends) : Type 0 where
   pub left : Ledger Dsk
-  pub plans : List (Plan Src Snk NoBetween)
-  pub sessions : List (Session Src Snk)
+  pub plans : List (Plan Src Snk NoBetween L)
+  pub sessions : List (Session Src Snk L)
   pub opens : All (IsOpen old.standing) (client_calls clients)
   pub quiet : new.faults ≡ old.faults
   pub names : map (λ plan. plan.name) plans ≡ map (λ client. client.client) clients
+  pub given : map (λ plan. plan.rules.items) plans
+      ≡ map (λ client. rules_named client.client rules) clients
   pub had : AreMatched
       (λ client plan session. HadStreams old new client (streams_of plan) (returned_of session))
       clients plans sessions
-  pub served : WereServed disk.faults (streams_by source sink) known found left plans sessions
+  pub served : WereServed kind disk.faults (streams_by source sink) known found left plans sessions
   pub footing : footing_of left ≡ footing_of found
   pub closed : IsClosed disk left after
-  pub ends_are : IsEnds sessions ends
+  pub ends_are : IsEnds kind sessions ends
 
 -- No client was served, since one of their names could not be opened or memory was wanted; all is as it was before.
 pub record IsUnserved {Src Snk Dsk : Type 0} (clients : List ClientWord) (found : Ledger Dsk)
@@ -68,10 +75,10 @@ pub record IsUnserved {Src Snk Dsk : Type 0} (clients : List ClientWord) (found 
       old.standing old.faults new.faults refusal
 
 -- what is said of a book over which clients are served
-abbrev pub BookSays : {Src Snk Dsk : Type 0} → Sources Src → Sinks Snk → Disks Dsk → Names
-    → List ClientWord → Ledger Dsk → Dsk → Scene Src Snk Dsk → Scene Src Snk Dsk
-    → Result Ends Refusal → Type 0
-BookSays source sink disk known clients found after old new (Ok ends) =
-    IsServing source sink disk known clients found after old new ends
-BookSays source sink disk known clients found after old new (Err refusal) =
+abbrev pub BookSays : {Src Snk Dsk L : Type 0} → Sources Src → Sinks Snk → Disks Dsk → Rules L
+    → Names → List ClientWord → List (ClientRules L) → Ledger Dsk → Dsk → Scene Src Snk Dsk
+    → Scene Src Snk Dsk → Result Ends Refusal → Type 0
+BookSays source sink disk kind known clients rules found after old new (Ok ends) =
+    IsServing source sink disk kind known clients rules found after old new ends
+BookSays source sink disk kind known clients rules found after old new (Err refusal) =
     IsUnserved clients found after old new refusal

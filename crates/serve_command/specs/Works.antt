@@ -1,6 +1,8 @@
 -- The work of `serve`: the network, the base timetable and the trains are read, and then clients are served.
 use Rattle.std.specs.Prelude.{ℕ, All, List, ◌∷◌, Result}
+use Rattle.admission_rules.specs.declared.rules.Rule.{Ghosts as Rules}
 use Rattle.base_file.specs.Sound.{IsBaseOn}
+use Rattle.client_rules.specs.declared.clients.ClientRules.{ClientRules}
 use Rattle.client_streams.specs.Clients.{client_calls}
 use Rattle.client_words.specs.declared.clients.ClientWord.{ClientWord}
 use Rattle.command_files.specs.Files.{BaseStep, NetworkStep, TrainStep}
@@ -26,31 +28,32 @@ abbrev pub files_of : NetworkFile → BaseFile → List Train → Files
 files_of network base trains = record { network = network; base = base; trains = trains }
 
 -- the trains are read, and then clients are served
-abbrev pub ReadsTrains : {Src Snk Dsk : Type 0} → Sources Src → Sinks Snk → Disks Dsk → List ℕ
-    → List ℕ → List ClientWord → NetworkFile → BaseFile → Scene Src Snk Dsk
-    → Scene Src Snk Dsk → Result Ends Refusal → Type 0
-ReadsTrains source sink disk trains journal clients network base old new result =
+abbrev pub ReadsTrains : {Src Snk Dsk L : Type 0} → Sources Src → Sinks Snk → Disks Dsk → Rules L
+    → List ℕ → List ℕ → List ClientWord → List (ClientRules L) → NetworkFile → BaseFile
+    → Scene Src Snk Dsk → Scene Src Snk Dsk → Result Ends Refusal → Type 0
+ReadsTrains source sink disk kind trains journal clients rules network base old new result =
     Follows (TrainStep source trains)
     (λ (read : List Train).
-    ServeStep source sink disk (files_of network base read) journal clients) old new result
+    ServeStep source sink disk kind (files_of network base read) journal clients rules)
+    old new result
 
 -- the base timetable is read on the zones of the network, and then the trains
-abbrev pub ReadsBase : {Src Snk Dsk : Type 0} → Sources Src → Sinks Snk → Disks Dsk → List ℕ
-    → List ℕ → List ℕ → List ClientWord → NetworkFile → Scene Src Snk Dsk → Scene Src Snk Dsk
-    → Result Ends Refusal → Type 0
-ReadsBase source sink disk base trains journal clients network old new result =
+abbrev pub ReadsBase : {Src Snk Dsk L : Type 0} → Sources Src → Sinks Snk → Disks Dsk → Rules L
+    → List ℕ → List ℕ → List ℕ → List ClientWord → List (ClientRules L) → NetworkFile
+    → Scene Src Snk Dsk → Scene Src Snk Dsk → Result Ends Refusal → Type 0
+ReadsBase source sink disk kind base trains journal clients rules network old new result =
     Follows (BaseStep source network.named.network.zones base)
-    (λ (file : BaseFile). ReadsTrains source sink disk trains journal clients network file)
-    old new result
+    (λ (file : BaseFile).
+    ReadsTrains source sink disk kind trains journal clients rules network file) old new result
 
 -- the network is read, and then the base timetable
-abbrev pub ReadsNetwork : {Src Snk Dsk : Type 0} → Sources Src → Sinks Snk → Disks Dsk → List ℕ
-    → List ℕ → List ℕ → List ℕ → List ClientWord → Scene Src Snk Dsk → Scene Src Snk Dsk
-    → Result Ends Refusal → Type 0
-ReadsNetwork source sink disk network base trains journal clients old new result =
+abbrev pub ReadsNetwork : {Src Snk Dsk L : Type 0} → Sources Src → Sinks Snk → Disks Dsk → Rules L
+    → List ℕ → List ℕ → List ℕ → List ℕ → List ClientWord → List (ClientRules L)
+    → Scene Src Snk Dsk → Scene Src Snk Dsk → Result Ends Refusal → Type 0
+ReadsNetwork source sink disk kind network base trains journal clients rules old new result =
     Follows (NetworkStep source network)
-    (λ (file : NetworkFile). ReadsBase source sink disk base trains journal clients file)
-    old new result
+    (λ (file : NetworkFile).
+    ReadsBase source sink disk kind base trains journal clients rules file) old new result
 
 -- the opening calls of `serve`, in order
 abbrev pub serve_calls : List ℕ → List ℕ → List ℕ → List ℕ → List ClientWord → List Opening

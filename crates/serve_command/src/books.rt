@@ -8,7 +8,9 @@ ghost use Rattle.file_rounds.specs.Scenes.{scene};
 ghost use Rattle.path_commit.specs.Ledgers.{settled_of};
 ghost use Rattle.serve_command.specs.Serving.{BookSays, IsClosed, names_of};
 
+use admission_rules::Rule;
 use client_lines::Known;
+use client_rules::ClientRules;
 use client_streams::{open_clients, put_back_plans, put_back_sessions};
 use client_words::ClientWord;
 use command_reports::Refusal;
@@ -23,28 +25,31 @@ use std::sync::Wait;
 use std::thread::Threads;
 use train_file::Trains;
 
-/// Opens the streams of the clients, serves the clients over a book, puts the streams back, and hands back the book's disk.
-pub(crate) fn serve_book<R: AllocGlobal + Threads + Wait + Sync, O: Outside>(
+/// Opens the streams of the clients, serves the clients over a book by the rules of each, puts the streams back, and hands
+/// back the book's disk.
+pub(crate) fn serve_book<R: AllocGlobal + Threads + Wait + Sync, O: Outside, L: Rule + Send>(
     rt: &R,
     book: Book<O::Dsk>,
     named: Named,
     trains: Trains,
     clients: &[ClientWord],
+    mut rules: Vec<ClientRules<L>>,
     outside: &mut O,
 ) -> (O::Dsk, Result<Ends, Refusal>)
     requires clients { AreClients clients.now }
     requires settled { settled_of book ≡ length book.entries }
     requires sound { AreSound (names_of named trains) }
     requires network { named.network ≡ book.timetable.net }
-    ensures says { BookSays O.Src.Source O.Snk.Sink O.Dsk.Disk (names_of named trains) clients.now
-        book result.0 (scene O.Outside outside.old) (scene O.Outside outside.new) result.1 }
+    ensures says { BookSays O.Src.Source O.Snk.Sink O.Dsk.Disk L.Rule (names_of named trains)
+        clients.now rules.items book result.0 (scene O.Outside outside.old)
+        (scene O.Outside outside.new) result.1 }
     ensures keeps { KeepsTo (client_calls clients.now) (scene O.Outside outside.old)
         (scene O.Outside outside.new) result.1 }
 {
     let Ok(known) = Known::new(rt.alloc(), named, trains) else {
         return (book.close(), Err(Refusal::Memory));
     };
-    let plans = match open_clients(rt.alloc(), clients, outside) {
+    let plans = match open_clients(rt.alloc(), clients, rules.as_mut_slice(), outside) {
         Ok(plans) => plans,
         Err(refusal) => return (book.close(), Err(refusal)),
     };

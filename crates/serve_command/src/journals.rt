@@ -9,6 +9,8 @@ ghost use Rattle.serve_command.specs.Works.{AreFiles};
 use crate::books::serve_book;
 use crate::refusals::{journal_refusal, not_opened};
 use crate::works::Files;
+use admission_rules::Rule;
+use client_rules::ClientRules;
 use client_words::ClientWord;
 use command_files::{BaseFile, NetworkFile};
 use command_reports::Refusal;
@@ -20,39 +22,42 @@ use std::sync::Wait;
 use std::thread::Threads;
 
 /// Opens the disk of the journal, serves the clients over it, and puts it back.
-pub(crate) fn serve_files<R: AllocGlobal + Threads + Wait + Sync, O: Outside>(
+pub(crate) fn serve_files<R: AllocGlobal + Threads + Wait + Sync, O: Outside, L: Rule + Send>(
     rt: &R,
     files: Files,
     journal: &str,
     clients: &[ClientWord],
+    rules: Vec<ClientRules<L>>,
     outside: &mut O,
 ) -> Result<Ends, Refusal>
     requires clients { AreClients clients.now }
     requires files { AreFiles files }
-    ensures step { ServeStep O.Src.Source O.Snk.Sink O.Dsk.Disk files journal.now clients.now
-        (scene O.Outside outside.old) (scene O.Outside outside.new) result }
+    ensures step { ServeStep O.Src.Source O.Snk.Sink O.Dsk.Disk L.Rule files journal.now
+        clients.now rules.items (scene O.Outside outside.old) (scene O.Outside outside.new) result }
 {
     let Ok(disk) = outside.disk(journal) else {
         return Err(not_opened(rt.alloc(), journal));
     };
-    let (disk, outcome) = serve_disk(rt, disk, files, journal, clients, outside);
+    let (disk, outcome) = serve_disk(rt, disk, files, journal, clients, rules, outside);
     outside.put_back_disk(journal, disk);
     outcome
 }
 
 // Opens the journal on a disk, serves the clients over it, and hands the disk back.
-fn serve_disk<R: AllocGlobal + Threads + Wait + Sync, O: Outside>(
+fn serve_disk<R: AllocGlobal + Threads + Wait + Sync, O: Outside, L: Rule + Send>(
     rt: &R,
     disk: O::Dsk,
     files: Files,
     journal: &str,
     clients: &[ClientWord],
+    rules: Vec<ClientRules<L>>,
     outside: &mut O,
 ) -> (O::Dsk, Result<Ends, Refusal>)
     requires clients { AreClients clients.now }
     requires files { AreFiles files }
-    ensures says { DiskSays O.Src.Source O.Snk.Sink O.Dsk.Disk files journal.now clients.now
-        disk result.0 (scene O.Outside outside.old) (scene O.Outside outside.new) result.1 }
+    ensures says { DiskSays O.Src.Source O.Snk.Sink O.Dsk.Disk L.Rule files journal.now
+        clients.now rules.items disk result.0 (scene O.Outside outside.old)
+        (scene O.Outside outside.new) result.1 }
     ensures keeps { KeepsTo (client_calls clients.now) (scene O.Outside outside.old)
         (scene O.Outside outside.new) result.1 }
 {
@@ -71,7 +76,7 @@ fn serve_disk<R: AllocGlobal + Threads + Wait + Sync, O: Outside>(
     } = base;
     let net = &named.network;
     match open(rt.alloc(), disk, net, base, &network_digest, &base_digest) {
-        Ok(book) => serve_book(rt, book, named, trains, clients, outside),
+        Ok(book) => serve_book(rt, book, named, trains, clients, rules, outside),
         Err((disk, fault)) => (disk, Err(journal_refusal(rt.alloc(), journal, &fault))),
     }
 }

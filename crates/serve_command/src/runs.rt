@@ -8,6 +8,8 @@ ghost use Rattle.outside_io.specs.Places.{Untouched};
 ghost use Rattle.serve_command.specs.Runs.{EndsRun, IsServed, RunsServe};
 
 use crate::works::serve;
+use admission_rules::Rule;
+use client_rules::ClientRules;
 use client_words::ClientWord;
 use command_reports::{Refusal, finish};
 use exit_status::Status;
@@ -17,28 +19,30 @@ use std::alloc::AllocGlobal;
 use std::sync::Wait;
 use std::thread::Threads;
 
-/// Runs `serve` over the names of a network's file, a train file, a base timetable's and a journal, and 1 to 16 clients.
-/// It reads the files, opens the journal, opens the source and the sink of each client, answers the lines of all clients at
-/// once, each in a thread where one can be made, puts all back, and reports how each client's session ended, or what
-/// refused.
-pub fn run_serve<R: AllocGlobal + Threads + Wait + Sync, O: Outside>(
+/// Runs `serve` over the names of a network's file, a train file, a base timetable's and a journal, 1 to 16 clients, and
+/// rules of clients. It reads the files, opens the journal, opens the source and the sink of each client, answers the lines
+/// of all clients at once, each in a thread where one can be made, puts all back, and reports how each client's session ended
+/// and what its rules were told, or what refused. The rules of a client are those in the elements with its name, in order;
+/// elements with other names are dropped.
+pub fn run_serve<R: AllocGlobal + Threads + Wait + Sync, O: Outside, L: Rule + Send>(
     rt: &R,
     network: &str,
     trains: &str,
     base: &str,
     journal: &str,
     clients: &[ClientWord],
+    rules: Vec<ClientRules<L>>,
     outside: &mut O,
 ) -> Status
     requires clients { AreClients clients.now }
     // All that is done, by the status and the report.
-    ensures runs { RunsServe O.Src.Source O.Snk.Sink O.Dsk.Disk network.now base.now trains.now
-        journal.now clients.now (scene O.Outside outside.old) (scene O.Outside outside.new)
-        result }
-    // At Done each line of each client was answered, and a line for each client was reported.
-    ensures done { result ≡ Status.Done → IsServed O.Src.Source O.Snk.Sink O.Dsk.Disk network.now
-        base.now trains.now journal.now clients.now (scene O.Outside outside.old)
-        (scene O.Outside outside.new) }
+    ensures runs { RunsServe O.Src.Source O.Snk.Sink O.Dsk.Disk L.Rule network.now base.now
+        trains.now journal.now clients.now rules.items (scene O.Outside outside.old)
+        (scene O.Outside outside.new) result }
+    // At Done each line of each client was answered, and a line for each client and for each of its rules was reported.
+    ensures done { result ≡ Status.Done → IsServed O.Src.Source O.Snk.Sink O.Dsk.Disk L.Rule
+        network.now base.now trains.now journal.now clients.now rules.items
+        (scene O.Outside outside.old) (scene O.Outside outside.new) }
     // At a refusal no sink but the report gained anything.
     ensures clean { result ≢ Status.Done → result ≢ Status.ClientEnd → result ≢ Status.Report
         → result ≢ Status.Memory → Untouched (O.sinks outside.old) (O.sinks outside.new) }
@@ -49,7 +53,7 @@ pub fn run_serve<R: AllocGlobal + Threads + Wait + Sync, O: Outside>(
     ensures disks { (name : List ℕ) → name ≢ journal.now
         → O.disks outside.new name ≡ O.disks outside.old name }
 {
-    let outcome = serve(rt, network, base, trains, journal, clients, outside);
+    let outcome = serve(rt, network, base, trains, journal, clients, rules, outside);
     end(outcome, outside)
 }
 

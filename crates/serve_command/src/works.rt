@@ -5,7 +5,9 @@ ghost use Rattle.file_rounds.specs.Scenes.{scene};
 ghost use Rattle.serve_command.specs.Works.{IsBaseRead, IsNetworkRead, ReadsBase, ReadsNetwork, ReadsTrains};
 
 use crate::journals::serve_files;
+use admission_rules::Rule;
 use base_file::bases_make_timetables;
+use client_rules::ClientRules;
 use client_words::ClientWord;
 use command_files::{BaseFile, NetworkFile, read_base_file, read_network_file, read_train_file};
 use command_reports::Refusal;
@@ -25,58 +27,62 @@ pub struct Files {
 }
 
 /// The work of `serve`.
-pub(crate) fn serve<R: AllocGlobal + Threads + Wait + Sync, O: Outside>(
+pub(crate) fn serve<R: AllocGlobal + Threads + Wait + Sync, O: Outside, L: Rule + Send>(
     rt: &R,
     network: &str,
     base: &str,
     trains: &str,
     journal: &str,
     clients: &[ClientWord],
+    rules: Vec<ClientRules<L>>,
     outside: &mut O,
 ) -> Result<Ends, Refusal>
     requires clients { AreClients clients.now }
-    ensures works { ReadsNetwork O.Src.Source O.Snk.Sink O.Dsk.Disk network.now base.now trains.now
-        journal.now clients.now (scene O.Outside outside.old) (scene O.Outside outside.new)
-        result }
+    ensures works { ReadsNetwork O.Src.Source O.Snk.Sink O.Dsk.Disk L.Rule network.now base.now
+        trains.now journal.now clients.now rules.items (scene O.Outside outside.old)
+        (scene O.Outside outside.new) result }
 {
     let network = read_network_file(rt.alloc(), network, outside)?;
-    serve_network(rt, network, base, trains, journal, clients, outside)
+    serve_network(rt, network, base, trains, journal, clients, rules, outside)
 }
 
 // The same, once the network is read.
-fn serve_network<R: AllocGlobal + Threads + Wait + Sync, O: Outside>(
+fn serve_network<R: AllocGlobal + Threads + Wait + Sync, O: Outside, L: Rule + Send>(
     rt: &R,
     network: NetworkFile,
     base: &str,
     trains: &str,
     journal: &str,
     clients: &[ClientWord],
+    rules: Vec<ClientRules<L>>,
     outside: &mut O,
 ) -> Result<Ends, Refusal>
     requires clients { AreClients clients.now }
     requires network { IsNetworkRead network }
-    ensures works { ReadsBase O.Src.Source O.Snk.Sink O.Dsk.Disk base.now trains.now journal.now
-        clients.now network (scene O.Outside outside.old) (scene O.Outside outside.new) result }
+    ensures works { ReadsBase O.Src.Source O.Snk.Sink O.Dsk.Disk L.Rule base.now trains.now
+        journal.now clients.now rules.items network (scene O.Outside outside.old)
+        (scene O.Outside outside.new) result }
 {
     let base = read_base_file(rt.alloc(), base, network.named.network.zones, outside)?;
-    serve_base(rt, network, base, trains, journal, clients, outside)
+    serve_base(rt, network, base, trains, journal, clients, rules, outside)
 }
 
 // The same, once the base timetable is read.
-fn serve_base<R: AllocGlobal + Threads + Wait + Sync, O: Outside>(
+fn serve_base<R: AllocGlobal + Threads + Wait + Sync, O: Outside, L: Rule + Send>(
     rt: &R,
     network: NetworkFile,
     base: BaseFile,
     trains: &str,
     journal: &str,
     clients: &[ClientWord],
+    rules: Vec<ClientRules<L>>,
     outside: &mut O,
 ) -> Result<Ends, Refusal>
     requires clients { AreClients clients.now }
     requires base { IsBaseRead network base }
-    ensures works { ReadsTrains O.Src.Source O.Snk.Sink O.Dsk.Disk trains.now journal.now
-        clients.now network base (scene O.Outside outside.old) (scene O.Outside outside.new)
-        result }
+    ensures works { ReadsTrains O.Src.Source O.Snk.Sink O.Dsk.Disk L.Rule trains.now journal.now
+        clients.now rules.items network base (scene O.Outside outside.old)
+        (scene O.Outside outside.new) result }
 {
     bases_make_timetables();
     let trains = read_train_file(rt.alloc(), trains, outside)?;
@@ -85,5 +91,5 @@ fn serve_base<R: AllocGlobal + Threads + Wait + Sync, O: Outside>(
         base,
         trains,
     };
-    serve_files(rt, files, journal, clients, outside)
+    serve_files(rt, files, journal, clients, rules, outside)
 }

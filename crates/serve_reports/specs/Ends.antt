@@ -10,6 +10,9 @@ use Rattle.request_server.specs.declared.plans.Session.{Session}
 use Rattle.file_rounds.specs.Scenes.{ChangesOnlyReport, Scene}
 use Rattle.file_rounds.specs.Writing.{ReportSays}
 use Rattle.file_rounds.specs.declared.writing.OutFault.{OutFault}
+use Rattle.admission_rules.specs.declared.rules.Rule.{Ghosts as Rules}
+use Rattle.client_rules.specs.Ruled.{stand}
+use Rattle.serve_reports.specs.Rules.{rule_lines}
 use Rattle.serve_reports.specs.declared.ends.Ends.{Ends}
 
 -- why a session ended, in words
@@ -22,14 +25,19 @@ why_text why.LineCount = codes "line-count"
 why_text why.Memory = codes "memory"
 
 -- the line of a session: its client, how many of its lines were answered, and its end
-abbrev pub end_line : {Src Snk : Type 0} → Session Src Snk → List ℕ
+abbrev pub end_line : {Src Snk L : Type 0} → Session Src Snk L → List ℕ
 end_line session =
     codes "client " ++ session.name ++ codes " lines " ++ decimal session.ended.lines
     ++ codes " end " ++ why_text session.ended.why ++ 10 ∷ []
 
+-- the lines of a session: its own, and behind it one for each rule of its client
+abbrev pub session_lines : {Src Snk L : Type 0} → Rules L → Session Src Snk L → List ℕ
+session_lines kind session =
+    end_line session ++ rule_lines session.name (stand kind session.rules.items)
+
 -- the lines of all sessions, in order
-abbrev pub report_text : {Src Snk : Type 0} → List (Session Src Snk) → List ℕ
-report_text sessions = flat_map end_line sessions
+abbrev pub report_text : {Src Snk L : Type 0} → Rules L → List (Session Src Snk L) → List ℕ
+report_text kind sessions = flat_map (session_lines kind) sessions
 
 -- an end that is a fault of a source or a sink, a line that is too long or a line too many
 abbrev pub is_faulty : Why → Bool
@@ -50,14 +58,14 @@ is_wanting why.LineCount = false
 is_wanting why.Memory = true
 
 -- whether one of the sessions has such an end
-abbrev pub has_faulty : {Src Snk : Type 0} → List (Session Src Snk) → Bool
+abbrev pub has_faulty : {Src Snk L : Type 0} → List (Session Src Snk L) → Bool
 has_faulty sessions = list_any (λ session. is_faulty session.ended.why) sessions
 
-abbrev pub has_wanting : {Src Snk : Type 0} → List (Session Src Snk) → Bool
+abbrev pub has_wanting : {Src Snk L : Type 0} → List (Session Src Snk L) → Bool
 has_wanting sessions = list_any (λ session. is_wanting session.ended.why) sessions
 
 -- what the ends of sessions come to
-abbrev pub ends_status : {Src Snk : Type 0} → List (Session Src Snk) → Status
+abbrev pub ends_status : {Src Snk L : Type 0} → List (Session Src Snk L) → Status
 ends_status sessions =
     if has_faulty sessions then ClientEnd
     else if has_wanting sessions then Memory else Done
@@ -93,9 +101,9 @@ status_unreported Report = Report
 status_unreported Memory = Report
 
 -- these are the ends of the sessions: their status and the text of their report, or memory was wanted for the text
-abbrev pub IsEnds : {Src Snk : Type 0} → List (Session Src Snk) → Ends → Type 0
-IsEnds sessions ends =
-    (ends ≡ record { status = ends_status sessions; text = Some (report_text sessions) })
+abbrev pub IsEnds : {Src Snk L : Type 0} → Rules L → List (Session Src Snk L) → Ends → Type 0
+IsEnds kind sessions ends =
+    (ends ≡ record { status = ends_status sessions; text = Some (report_text kind sessions) })
     ⊎ (ends ≡ record { status = status_untold (ends_status sessions); text = None })
 
 -- the text that the report gains

@@ -5,6 +5,7 @@ ghost use Rattle.file_rounds.specs.Scenes.{scene};
 ghost use Rattle.serve_reports.specs.Ends.{EndsSay, ends_status, has_faulty, has_wanting, IsEnds, is_faulty, is_wanting, line_of, status_unreported, status_untold};
 
 use crate::texts::text_of;
+use admission_rules::Rule;
 use exit_status::Status;
 use file_rounds::write_report;
 use line_sessions::Why;
@@ -23,15 +24,16 @@ pub struct Ends {
 }
 
 /// The ends of these sessions: the status is `ClientEnd` where an end is a fault of a source or a sink, a line that is too
-/// long or a line too many; else `Memory` where memory was wanted; else `Done`. The report has a line for each session.
-pub fn ends_of<S: Source, T: Sink>(alloc: Global, sessions: &[Session<S, T>]) -> Ends
-    ensures ends { IsEnds sessions.now result }
+/// long or a line too many; else `Memory` where memory was wanted; else `Done`. The report has a line for each session, and
+/// behind it one for each rule of its client.
+pub fn ends_of<S: Source, T: Sink, L: Rule>(alloc: Global, sessions: &[Session<S, T, L>]) -> Ends
+    ensures ends { IsEnds L.Rule sessions.now result }
 {
     let status = status_of(sessions);
     match text_of(alloc, sessions) {
         Ok(text) => Ends {
             status,
-            text: Some(List::from_vec(text)),
+            text: Some(List::from_vec(text.into_vec())),
         },
         Err(NoMemory) => Ends {
             status: untold(status),
@@ -63,7 +65,7 @@ fn line(ends: &Ends) -> &[u8]
 }
 
 // What the ends come to.
-fn status_of<S: Source, T: Sink>(sessions: &[Session<S, T>]) -> Status
+fn status_of<S: Source, T: Sink, L: Rule>(sessions: &[Session<S, T, L>]) -> Status
     ensures { result ≡ ends_status sessions.now }
 {
     if any_faulty(sessions) {
@@ -75,13 +77,13 @@ fn status_of<S: Source, T: Sink>(sessions: &[Session<S, T>]) -> Status
     Status::Done
 }
 
-fn any_faulty<S: Source, T: Sink>(sessions: &[Session<S, T>]) -> bool
+fn any_faulty<S: Source, T: Sink, L: Rule>(sessions: &[Session<S, T, L>]) -> bool
     ensures { result ≡ has_faulty sessions.now }
 {
     sessions.iter().any(|session| faulty(session.ended.why))
 }
 
-fn any_wanting<S: Source, T: Sink>(sessions: &[Session<S, T>]) -> bool
+fn any_wanting<S: Source, T: Sink, L: Rule>(sessions: &[Session<S, T, L>]) -> bool
     ensures { result ≡ has_wanting sessions.now }
 {
     sessions.iter().any(|session| wanting(session.ended.why))

@@ -2,6 +2,7 @@
 #![tactic(auto)]
 
 mod ends;
+mod rules;
 mod texts;
 
 pub use ends::{Ends, ends_of, tell_ends};

@@ -3,42 +3,46 @@
 ghost use Rattle.std.specs.Prelude.{◌≡◌, ◌++◌, IfOk, OnOk};
 ghost use Rattle.serve_reports.specs.Ends.{end_line, report_text, why_text as text_of_why};
 
-use itoa::Buffer;
+use crate::rules::push_rule_lines;
+use admission_rules::Rule;
+use byte_fields::Buffer;
+use itoa::Buffer as Digits;
 use line_sessions::Why;
 use no_memory::NoMemory;
 use outside_io::{Sink, Source};
 use request_server::Session;
 use std::alloc::Global;
 
-/// A line for each session.
-pub(crate) fn text_of<S: Source, T: Sink>(
+/// A line for each session, and behind it one for each rule of its client.
+pub(crate) fn text_of<S: Source, T: Sink, L: Rule>(
     alloc: Global,
-    sessions: &[Session<S, T>],
-) -> Result<Vec<u8>, NoMemory>
-    ensures { IfOk result (λ text. text.items ≡ report_text sessions.now) }
+    sessions: &[Session<S, T, L>],
+) -> Result<Buffer, NoMemory>
+    ensures { IfOk result (λ text. text.held ≡ report_text L.Rule sessions.now) }
 {
-    let mut text = Vec::new(alloc);
+    let mut text = Buffer::new(alloc);
     for session in sessions {
         push_line(&mut text, session)?;
+        push_rule_lines(&mut text, &session.name, session.rules.as_slice())?;
     }
     Ok(text)
 }
 
 // Appends the line of a session.
-fn push_line<S: Source, T: Sink>(
-    text: &mut Vec<u8>,
-    session: &Session<S, T>,
+fn push_line<S: Source, T: Sink, L: Rule>(
+    text: &mut Buffer,
+    session: &Session<S, T, L>,
 ) -> Result<(), NoMemory>
-    ensures { OnOk result (text.new.items ≡ text.old.items ++ end_line session.now) }
+    ensures { OnOk result (text.new.held ≡ text.old.held ++ end_line session.now) }
 {
-    let mut digits = Buffer::new();
-    text.extend_from_slice(b"client ")?;
-    text.extend_from_slice(session.name.as_bytes())?;
-    text.extend_from_slice(b" lines ")?;
-    text.extend_from_slice(digits.format(session.ended.lines).as_bytes())?;
-    text.extend_from_slice(b" end ")?;
-    text.extend_from_slice(why_text(session.ended.why))?;
-    text.push(b'\n')?;
+    let mut digits = Digits::new();
+    text.extend(b"client ")?;
+    text.extend(session.name.as_bytes())?;
+    text.extend(b" lines ")?;
+    text.extend(digits.format(session.ended.lines).as_bytes())?;
+    text.extend(b" end ")?;
+    text.extend(why_text(session.ended.why))?;
+    text.extend(b"\n")?;
     Ok(())
 }
 

@@ -11,6 +11,3 @@ pub use laws::{
     steps_are_the_stairway, tails_are_longest,
 };
 pub use places::{Place, Step};
-
-#[cfg(test)]
-mod tests;

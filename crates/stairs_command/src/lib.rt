@@ -6,6 +6,3 @@ mod tables;
 mod works;
 
 pub use runs::run_stairs;
-
-#[cfg(test)]
-mod tests;

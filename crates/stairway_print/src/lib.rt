@@ -9,6 +9,3 @@ mod zones;
 
 pub use networks::network_table;
 pub use stairs::stairs_table;
-
-#[cfg(test)]
-mod tests;

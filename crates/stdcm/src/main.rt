@@ -1,7 +1,7 @@
 //! The program: it runs the command of its words over real files, pipes and standard streams.
 #![tactic(auto)]
 
-use osrd_stdcm::{Status, run};
+use osrd_stdcm::{Status, rules_of_words, run};
 use outside_io::FileOutside;
 use std::io::ErrorKind;
 use std::process::ExitCode;
@@ -14,8 +14,11 @@ fn main(rt: HostRuntime) -> ExitCode {
         Err(error) if error.kind() == ErrorKind::InvalidData => Vec::new(rt.alloc()),
         Err(_) => return ExitCode::from(Status::Memory.number()),
     };
+    let Ok(rules) = rules_of_words(rt.alloc(), &words) else {
+        return ExitCode::from(Status::Memory.number());
+    };
     let mut outside = FileOutside::new(rt);
-    let status = run(&rt, &words, &mut outside);
+    let status = run(&rt, &words, &mut outside, rules);
     ExitCode::from(status.number())
 }
 

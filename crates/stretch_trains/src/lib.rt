@@ -7,6 +7,3 @@ mod orders;
 mod selecting;
 
 pub use selecting::trains_on;
-
-#[cfg(test)]
-mod tests;

@@ -20,6 +20,3 @@ pub use laws::{
 pub use listings::Places;
 pub use moves::{Move, Next};
 pub use searches::places;
-
-#[cfg(test)]
-mod tests;

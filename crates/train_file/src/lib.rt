@@ -12,6 +12,3 @@ pub use fault_texts::fault_text;
 pub use faults::{TrainFault, What};
 pub use files::read_trains;
 pub use objects::Trains;
-
-#[cfg(test)]
-mod tests;

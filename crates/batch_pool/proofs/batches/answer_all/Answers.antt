@@ -45,7 +45,7 @@ finish-served-requires-clause-space g c =
     let space = c.requires.served.1 in omega arith
 
 pub returns-clause-once : goal.returns-clause-once
-returns-clause-once g c = answered_once c.args.todo.now c.finish-served.result.items c.requires.apart c.finish-served.ensures.once
+returns-clause-once g c = answered_once c.args.todo.now c.finish-served.result.items c.finish-served.ensures.once
 
 pub returns-clause-served : goal.returns-clause-served
 returns-clause-served g c =

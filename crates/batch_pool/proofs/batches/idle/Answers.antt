@@ -41,7 +41,7 @@ loop-worker-preserved g c =
 
 pub returns-clause-once : goal.returns-clause-once
 returns-clause-once g c =
-    answered_once c.args.todo.now c.loop-worker.served.items c.requires.apart
+    answered_once c.args.todo.now c.loop-worker.served.items
     (λ h. ap (weigh h) c.requires.none ∙ sym (weigh_all_none h c.loop-worker.served.items c.loop-worker.invariant.none_yet))
 
 pub returns-clause-served : goal.returns-clause-served

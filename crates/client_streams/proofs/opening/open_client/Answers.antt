@@ -1,4 +1,4 @@
-use Rattle.std.proofs.Common.{ℕ, List, codes, inl, inr, subst}
+use Rattle.std.proofs.Common.{ℕ, List, codes, subst}
 use Rattle.exit_status.specs.declared.Status.TheVariants.{Opening as not_opened}
 use Rattle.file_rounds.specs.Scenes.{Scene, scene}
 use Rattle.command_reports.specs.Refusals.{IsTold, line_with}

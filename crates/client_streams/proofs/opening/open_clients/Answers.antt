@@ -1,5 +1,8 @@
-use Rattle.std.proofs.Common.{rules, ◌≡◌, ◌≢◌, ◌+◌, ◌<◌, ◌∙◌, ◌++◌, ◌∷◌, [], ℕ, suc, List, AllPairs, add-one, get_or, drop, length, map, take, ap, sym, subst, arith, length-append}
+use Rattle.std.proofs.Common.{◌≡◌, ◌≢◌, ◌+◌, ◌∙◌, ◌++◌, ◌∷◌, [], ℕ, suc, List, All, AllPairs, get_or, drop, drop-cons, length, map, take, ap, sym, subst, arith, length-append}
 use Rattle.std.proofs.lemmas.List.{map-append, take_more}
+use Rattle.std.proofs.lemmas.List.Elements.{All-head, All-tail}
+use Rattle.client_rules.specs.Clients.{rules_named}
+use Rattle.client_rules.specs.declared.clients.ClientRules.{ClientRules}
 use Rattle.std.proofs.Math.Seq.{split_at}
 use Rattle.file_rounds.specs.Scenes.{Scene, scene}
 use Rattle.outside_io.specs.declared.betweens.NoBetween.{NoBetween}
@@ -7,13 +10,14 @@ use Rattle.request_server.specs.declared.plans.Plan.{Plan}
 use Rattle.client_streams.specs.Lending.{AreIn, AreOut, streams_of}
 use Rattle.client_streams.specs.Refusing.{IsStopped}
 use Rattle.client_words.specs.declared.clients.ClientWord.{ClientWord}
+use Rattle.client_streams.proofs.Lists.{pairs_drop, pairs_head}
 use Rattle.client_streams.proofs.Nests.{out_more}
 use Rattle.client_streams.proofs.Stops.{stops_behind}
 use Rattle.client_streams.proofs.opening.open_clients.Goals as goal
 
 pub returns-in-Err-clause-stopped : goal.returns-in-Err-clause-stopped
 returns-in-Err-clause-stopped g c =
-    let Src = g.row.O-Src.Denot in let Snk = g.row.O-Snk.Denot in let Dsk = g.row.O-Dsk.Denot in
+    let Src = g.row.O-Src.Denot in let Snk = g.row.O-Snk.Denot in let L = g.row.L.Denot in let Dsk = g.row.O-Dsk.Denot in
     let s0 : Scene Src Snk Dsk = scene g.O.Outside c.args.outside.now in
     let s1 : Scene Src Snk Dsk = scene g.O.Outside c.loop-client.outside in
     let s2 : Scene Src Snk Dsk = scene g.O.Outside c.open_client.new.outside in
@@ -21,7 +25,7 @@ returns-in-Err-clause-stopped g c =
     let clients : List ClientWord = c.args.clients.now in let client : ClientWord = c.client-item.result in
     let i : ℕ = c.loop-client.client-index in
     let front : List ClientWord = take i clients in let behind : List ClientWord = drop (suc i) clients in
-    let plans : List (Plan Src Snk NoBetween) = c.loop-client.plans.items in
+    let plans : List (Plan Src Snk NoBetween L) = c.loop-client.plans.items in
     let cut : clients ≡ front ++ client ∷ behind =
     split_at clients i client c.loop-client-test.true ∙ ap (λ (x : ClientWord). front ++ x ∷ behind) (sym c.client-item.is) in
     let ins : AreIn front (map streams_of plans) s2 s3 =
@@ -34,16 +38,27 @@ returns-in-Err-clause-stopped g c =
 
 pub loop-client-preserved : goal.loop-client-preserved
 loop-client-preserved g c =
-    let Src = g.row.O-Src.Denot in let Snk = g.row.O-Snk.Denot in let Dsk = g.row.O-Dsk.Denot in
+    let Src = g.row.O-Src.Denot in let Snk = g.row.O-Snk.Denot in let L = g.row.L.Denot in let Dsk = g.row.O-Dsk.Denot in
     let s0 : Scene Src Snk Dsk = scene g.O.Outside c.args.outside.now in
     let s1 : Scene Src Snk Dsk = scene g.O.Outside c.loop-client.outside in
     let s2 : Scene Src Snk Dsk = scene g.O.Outside c.open_client.new.outside in
     let clients : List ClientWord = c.args.clients.now in let client : ClientWord = c.client-item.result in
     let i : ℕ = c.loop-client.client-index in
-    let plans : List (Plan Src Snk NoBetween) = c.loop-client.plans.items in let plan : Plan Src Snk NoBetween = c.in-Ok-open_client.plan in
+    let plans : List (Plan Src Snk NoBetween L) = c.loop-client.plans.items in let plan : Plan Src Snk NoBetween L = c.in-Ok-open_client.plan in
     let now = c.loop-client.invariant in
-    let f : Plan Src Snk NoBetween → Src × Snk = λ one. streams_of one in
-    let n : Plan Src Snk NoBetween → List ℕ = λ one. one.name in let m : ClientWord → List ℕ = λ one. one.client in
+    let f : Plan Src Snk NoBetween L → Src × Snk = λ one. streams_of one in
+    let n : Plan Src Snk NoBetween L → List ℕ = λ one. one.name in let m : ClientWord → List ℕ = λ one. one.client in
+    let old : List (ClientRules L) = c.args.rules.now in let before : List (ClientRules L) = c.loop-client.rules in let after : List (ClientRules L) = c.open_client.new.all in
+    let r : Plan Src Snk NoBetween L → List L = λ one. one.rules.items in let w : ClientWord → List L = λ one. rules_named one.client old in
+    let Left : List (ClientRules L) → ClientWord → Type 0 = λ all one. rules_named one.client all ≡ rules_named one.client old in
+    let behind : drop i clients ≡ client ∷ drop (suc i) clients =
+    drop-cons clients i client c.loop-client-test.true ∙ ap (λ (x : ClientWord). x ∷ drop (suc i) clients) (sym c.client-item.is) in
+    let left : All (Left before) (client ∷ drop (suc i) clients) = subst (All (Left before)) behind now.left in
+    let its : plan.rules.items ≡ w client = c.in-Ok-open_client.ensures.rules ∙ All-head (Left before) client (drop (suc i) clients) left in
+    let next : suc i ≡ i + 1 = omega arith in
+    let apart : All (λ (other : ClientWord). client.client ≢ other.client) (drop (suc i) clients) =
+    pairs_head (λ (one other : ClientWord). one.client ≢ other.client) client (drop (suc i) clients)
+    (subst (AllPairs (λ (one other : ClientWord). one.client ≢ other.client)) behind (pairs_drop (λ (one other : ClientWord). one.client ≢ other.client) i clients c.requires.clients.names)) in
     let pushed : c.push_reserved.new.self.items ≡ plans ++ plan ∷ [] = c.push_reserved.ensures.items in
     let more : take (i + 1) clients ≡ take i clients ++ client ∷ [] =
     take_more clients i client c.loop-client-test.true ∙ ap (λ (x : ClientWord). take i clients ++ x ∷ []) (sym c.client-item.is) in
@@ -54,6 +69,11 @@ loop-client-preserved g c =
           (out_more (take i clients) (map f plans) client (f plan) s0 s1 s2 now.out c.in-Ok-open_client.ensures.out));
       names = ap (map n) pushed ∙ (map-append n plans (plan ∷ []) ∙ (ap (λ (l : List (List ℕ)). l ++ plan.name ∷ []) now.names
           ∙ (ap (λ (x : List ℕ). map m (take i clients) ++ x ∷ []) c.in-Ok-open_client.ensures.name ∙ (sym (map-append m (take i clients) (client ∷ [])) ∙ ap (map m) (sym more)))));
+      rules = ap (map r) pushed ∙ map-append r plans (plan ∷ []) ∙ ap (λ (l : List (List L)). l ++ plan.rules.items ∷ []) now.rules
+          ∙ ap (λ (x : List L). map w (take i clients) ++ x ∷ []) its ∙ sym (map-append w (take i clients) (client ∷ [])) ∙ ap (map w) (sym more);
+      left = subst (λ (k : ℕ). All (Left after) (drop k clients)) next
+          (λ k d below. c.in-Ok-open_client.ensures.others (get_or (drop (suc i) clients) k d).client (λ same. apart k d below (sym same))
+          ∙ All-tail (Left before) client (drop (suc i) clients) left k d below);
       count = ap length pushed ∙ (length-append plans (plan ∷ []) ∙ ap (λ (k : ℕ). k + 1) now.count);
       room = let same = c.push_reserved.ensures.capacity in let was = now.room in omega arith;
     }

@@ -1,11 +1,11 @@
-use Rattle.std.proofs.Common.{rules, ◌≡◌, ◌≤◌, ◌++◌, ◌∷◌, [], List, get_or, length, map, take, ap, arith, refl, sym, ◌∙◌, subst, length-append}
+use Rattle.std.proofs.Common.{◌≡◌, ◌∷◌, [], List, get_or, length, map, ap, arith, sym, ◌∙◌}
 use Rattle.std.proofs.lemmas.List.{length-map, map-append}
 use Rattle.file_rounds.specs.Scenes.{Scene, scene}
 use Rattle.outside_io.specs.declared.betweens.NoBetween.{NoBetween}
 use Rattle.request_server.specs.declared.plans.Plan.{Plan}
-use Rattle.client_streams.specs.Lending.{AreIn, IsIn, streams_of}
+use Rattle.client_streams.specs.Lending.{streams_of}
 use Rattle.client_words.specs.declared.clients.ClientWord.{ClientWord}
-use Rattle.client_streams.proofs.Comings.{returning_all, returning_more, returning_none}
+use Rattle.client_streams.proofs.Comings.{returning_more, returning_none}
 use Rattle.client_streams.proofs.returning.put_back_plans.Goals as goal
 
 pub loop-plan-init : goal.loop-plan-init
@@ -13,10 +13,10 @@ loop-plan-init g c = returning_none c.args.clients.now (map streams_of c.args.pl
 
 pub loop-plan-preserved : goal.loop-plan-preserved
 loop-plan-preserved g c =
-    let Src = g.row.O-Src.Denot in let Snk = g.row.O-Snk.Denot in let Dsk = g.row.O-Dsk.Denot in
-    let f : Plan Src Snk NoBetween → Src × Snk = λ one. streams_of one in
-    let all : List (Plan Src Snk NoBetween) = c.args.plans.items in let rest : List (Plan Src Snk NoBetween) = c.pop.new.self.items in
-    let one : Plan Src Snk NoBetween = c.in-Some.plan in
+    let Src = g.row.O-Src.Denot in let Snk = g.row.O-Snk.Denot in let L = g.row.L.Denot in let Dsk = g.row.O-Dsk.Denot in
+    let f : Plan Src Snk NoBetween L → Src × Snk = λ one. streams_of one in
+    let all : List (Plan Src Snk NoBetween L) = c.args.plans.items in let rest : List (Plan Src Snk NoBetween L) = c.pop.new.self.items in
+    let one : Plan Src Snk NoBetween L = c.in-Some.plan in
     let clients : List ClientWord = c.args.clients.now in let client : ClientWord = c.index-clients-len.result in
     let s1 : Scene Src Snk Dsk = scene g.O.Outside c.loop-plan.outside in
     let s2 : Scene Src Snk Dsk = scene g.O.Outside c.put_back_client.new.outside in

@@ -1,10 +1,10 @@
-use Rattle.std.proofs.Common.{rules, ◌≡◌, ◌≤◌, ◌++◌, ◌∷◌, [], List, get_or, length, map, take, ap, arith, refl, sym, ◌∙◌, subst, length-append}
+use Rattle.std.proofs.Common.{◌≡◌, ◌∷◌, [], List, get_or, length, map, ap, arith, sym, ◌∙◌}
 use Rattle.std.proofs.lemmas.List.{length-map, map-append}
 use Rattle.file_rounds.specs.Scenes.{Scene, scene}
 use Rattle.request_server.specs.declared.plans.Session.{Session}
-use Rattle.client_streams.specs.Lending.{AreIn, IsIn, returned_of}
+use Rattle.client_streams.specs.Lending.{returned_of}
 use Rattle.client_words.specs.declared.clients.ClientWord.{ClientWord}
-use Rattle.client_streams.proofs.Comings.{returning_all, returning_more, returning_none}
+use Rattle.client_streams.proofs.Comings.{returning_more, returning_none}
 use Rattle.client_streams.proofs.returning.put_back_sessions.Goals as goal
 
 pub loop-session-init : goal.loop-session-init
@@ -12,10 +12,10 @@ loop-session-init g c = returning_none c.args.clients.now (map returned_of c.arg
 
 pub loop-session-preserved : goal.loop-session-preserved
 loop-session-preserved g c =
-    let Src = g.row.O-Src.Denot in let Snk = g.row.O-Snk.Denot in let Dsk = g.row.O-Dsk.Denot in
-    let f : Session Src Snk → Src × Snk = λ one. returned_of one in
-    let all : List (Session Src Snk) = c.args.sessions.items in let rest : List (Session Src Snk) = c.pop.new.self.items in
-    let one : Session Src Snk = c.in-Some.session in
+    let Src = g.row.O-Src.Denot in let Snk = g.row.O-Snk.Denot in let L = g.row.L.Denot in let Dsk = g.row.O-Dsk.Denot in
+    let f : Session Src Snk L → Src × Snk = λ one. returned_of one in
+    let all : List (Session Src Snk L) = c.args.sessions.items in let rest : List (Session Src Snk L) = c.pop.new.self.items in
+    let one : Session Src Snk L = c.in-Some.session in
     let clients : List ClientWord = c.args.clients.now in let client : ClientWord = c.index-clients-len.result in
     let s1 : Scene Src Snk Dsk = scene g.O.Outside c.loop-session.outside in
     let s2 : Scene Src Snk Dsk = scene g.O.Outside c.put_back_client.new.outside in

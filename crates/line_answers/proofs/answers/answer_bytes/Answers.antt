@@ -1,16 +1,38 @@
-use Rattle.std.proofs.Common.{sym, subst}
+use Rattle.std.proofs.Common.{◌≡◌, List, sym, subst}
 use Rattle.book_gate.specs.Passes.{view}
+use Rattle.client_rules.specs.Ruled.{Ruled, stand}
 use Rattle.reply_texts.specs.declared.replies.Reply.{Reply}
 use Rattle.client_turns.specs.Turns.{Sight}
 use Rattle.line_answers.specs.Answers.{Caller}
 use Rattle.line_answers.specs.Callers.{caller_of}
 use Rattle.line_answers.specs.Calls.{AnswersBetween}
+use Rattle.line_answers.specs.Rules.{told_by}
+use Rattle.line_answers.specs.Tells.{fault_reply}
 use Rattle.line_answers.proofs.Rows.{unread_line}
+use Rattle.line_answers.proofs.Told.{fault_adds, read_as, untold_by}
 use Rattle.line_answers.proofs.answers.answer_bytes.Goals as goal
+
+pub returns-in-Ok-clause-answers : goal.returns-in-Ok-clause-answers
+returns-in-Ok-clause-answers g c =
+    c.answer_ruled.ensures.answers c.args.line.now
+    (read_as c.args.shared.now.known c.args.line.now c.in-Ok.line c.in-Ok.ensures.spelled c.in-Ok.ensures.read c.in-Ok.ensures.refused)
+
+pub returns-in-Ok-clause-told : goal.returns-in-Ok-clause-told
+returns-in-Ok-clause-told g c =
+    c.answer_ruled.ensures.told c.args.line.now
+    (read_as c.args.shared.now.known c.args.line.now c.in-Ok.line c.in-Ok.ensures.spelled c.in-Ok.ensures.read c.in-Ok.ensures.refused)
 
 pub returns-in-Err-clause-answers : goal.returns-in-Err-clause-answers
 returns-in-Err-clause-answers g c =
-    let caller : Caller = caller_of c.args.shared.now c.args.client.now.name c.args.line_number in
+    let rules : List Ruled = stand g.L.Rule c.args.rules.now in
+    let caller : Caller = caller_of c.args.shared.now rules c.args.client.now.name c.args.line_number in
     let v : Sight = view c.args.pass.now in
     subst (λ (r : Reply). AnswersBetween caller c.args.line.now r v v) (sym c.unread.ensures)
     (unread_line caller c.args.line.now v c.in-Err.fault c.in-Err.ensures.wrong)
+
+pub returns-in-Err-clause-told : goal.returns-in-Err-clause-told
+returns-in-Err-clause-told g c =
+    let rules : List Ruled = stand g.L.Rule c.args.rules.now in
+    let v : Sight = view c.args.pass.now in
+    subst (λ (r : Reply). rules ≡ told_by v.seen r rules) (sym c.unread.ensures)
+    (sym (untold_by v.seen (fault_reply c.in-Err.fault) (fault_adds c.in-Err.fault) rules))

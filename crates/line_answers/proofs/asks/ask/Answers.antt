@@ -18,24 +18,24 @@ use Rattle.line_answers.proofs.Rows.{halted_line, want_line}
 use Rattle.line_answers.proofs.asks.ask.Goals as goal
 
 pub returns-in_default-clause-answers : goal.returns-in_default-clause-answers
-returns-in_default-clause-answers g c =
-    want_line (caller_of c.args.shared.now c.args.client.now.name c.args.line_number)
+returns-in_default-clause-answers g c rules allowed =
+    want_line (caller_of c.args.shared.now rules c.args.client.now.name c.args.line_number)
     (asking c.args.after c.args.number c.args.request) (view c.args.pass.now)
 
 pub returns-in-Ok-None-clause-answers : goal.returns-in-Ok-None-clause-answers
-returns-in-Ok-None-clause-answers g c =
-    let caller : Caller = caller_of c.args.shared.now c.args.client.now.name c.args.line_number in
+returns-in-Ok-None-clause-answers g c rules allowed =
+    let caller : Caller = caller_of c.args.shared.now rules c.args.client.now.name c.args.line_number in
     let v : Sight = view c.args.pass.now in let u : Sight = view c.find_again.new.pass in
     let found : IsFoundAgain u.found.list c.args.client.now.name c.args.number c.in-Ok.deed None =
     subst (IsFoundAgain u.found.list c.args.client.now.name c.args.number c.in-Ok.deed) c.in-Ok-None.field-0-is c.in-Ok-None.ensures.found in
-    let behind = subst (λ (name : List ℕ). AnswersBehind (caller_of c.args.shared.now name c.args.line_number)
+    let behind = subst (λ (name : List ℕ). AnswersBehind c.args.shared.now name c.args.line_number
     c.args.number c.args.request c.seek_path.result u (view c.seek_path.new.pass)) c.in-Ok-None.ensures.name c.seek_path.ensures.answers in
     behind v c.args.after c.in-Ok-None.ensures.looks c.in-Ok-None.ensures.reached
-    (new_is u.found.list (entry_of caller c.args.number (Free 0)) found)
+    (new_is u.found.list (entry_of caller c.args.number (Free 0)) found) rules allowed
 
 pub returns-in-Ok-Some-clause-answers : goal.returns-in-Ok-Some-clause-answers
-returns-in-Ok-Some-clause-answers g c =
-    let caller : Caller = caller_of c.args.shared.now c.args.client.now.name c.args.line_number in
+returns-in-Ok-Some-clause-answers g c rules allowed =
+    let caller : Caller = caller_of c.args.shared.now rules c.args.client.now.name c.args.line_number in
     let v : Sight = view c.args.pass.now in let w : Sight = view c.find_again.new.pass in
     let told = c.in-Ok-Some.told in
     let path : Path = c.in-Ok.ensures.0 in
@@ -47,8 +47,8 @@ returns-in-Ok-Some-clause-answers g c =
     c.number_told.ensures.tells
 
 pub returns-in-Err-clause-answers : goal.returns-in-Err-clause-answers
-returns-in-Err-clause-answers g c =
-    let caller : Caller = caller_of c.args.shared.now c.args.client.now.name c.args.line_number in
+returns-in-Err-clause-answers g c rules allowed =
+    let caller : Caller = caller_of c.args.shared.now rules c.args.client.now.name c.args.line_number in
     let v : Sight = view c.args.pass.now in let w : Sight = view c.find_again.new.pass in
     subst (λ (r : Reply). AnswersLine caller (asking c.args.after c.args.number c.args.request) r v w) (sym c.halted.ensures)
     (halted_line caller (asking c.args.after c.args.number c.args.request) v w c.in-Err.halt c.in-Err.ensures.halted)

@@ -1,4 +1,4 @@
-use Rattle.std.proofs.Common.{◌⊎◌, length, ap, sym, ◌∙◌, subst, refl, arith}
+use Rattle.std.proofs.Common.{◌⊎◌, length, ap, sym, ◌∙◌, subst, arith}
 use Rattle.book_gate.specs.Passes.{view}
 use Rattle.rail_types.specs.declared.limits.TheConstants.{MAX_PLACES}
 use Rattle.rail_types.specs.declared.tracks.Network.{Network}
@@ -15,25 +15,25 @@ use Rattle.line_answers.proofs.Sought.{asked_line, halted_ask, want_line, wide_l
 use Rattle.line_answers.proofs.asks.seek_path.Goals as goal
 
 pub returns-in-Err-Wide-clause-answers : goal.returns-in-Err-Wide-clause-answers
-returns-in-Err-Wide-clause-answers g c v after looks reached is_new =
-    let caller : Caller = caller_of c.args.shared.now c.args.client.now.name c.args.line_number in
+returns-in-Err-Wide-clause-answers g c v after looks reached is_new rules allowed =
+    let caller : Caller = caller_of c.args.shared.now rules c.args.client.now.name c.args.line_number in
     let u : Sight = view c.args.pass.now in
     let refuses = subst (Refuses c.network_of-net.result.now c.args.request) c.in-Err-Wide.field-0-is c.in-Err-Wide.ensures.wide in
-    wide_line caller c.args.number c.args.request after v u looks reached is_new (λ may. refl) c.front.result
+    wide_line caller c.args.number c.args.request after v u looks reached is_new (λ may. allowed) c.front.result
     (c.front.ensures ∙ c.requires.copy.front ∙ ap length looks.same)
     (subst (λ (n : Network). HasMoreThan MAX_PLACES n c.args.request) c.network_of-net.ensures refuses.1)
 
 pub returns-in-Err-Memory-clause-answers : goal.returns-in-Err-Memory-clause-answers
-returns-in-Err-Memory-clause-answers g c v after looks reached is_new =
-    let caller : Caller = caller_of c.args.shared.now c.args.client.now.name c.args.line_number in
-    want_line caller c.args.number c.args.request after v (view c.args.pass.now) looks reached is_new (λ may. refl)
+returns-in-Err-Memory-clause-answers g c v after looks reached is_new rules allowed =
+    let caller : Caller = caller_of c.args.shared.now rules c.args.client.now.name c.args.line_number in
+    want_line caller c.args.number c.args.request after v (view c.args.pass.now) looks reached is_new (λ may. allowed)
 
 pub returns-in-Ok-try_searches-clause-answers : goal.returns-in-Ok-try_searches-clause-answers
-returns-in-Ok-try_searches-clause-answers g c v after looks reached is_new =
-    let caller : Caller = caller_of c.args.shared.now c.args.client.now.name c.args.line_number in
+returns-in-Ok-try_searches-clause-answers g c v after looks reached is_new rules allowed =
+    let caller : Caller = caller_of c.args.shared.now rules c.args.client.now.name c.args.line_number in
     let u : Sight = view c.args.pass.now in let w : Sight = view c.try_searches.new.pass in
     let told = c.in-Ok-try_searches.outcome in
-    asked_line caller c.args.number c.args.request after v u looks reached is_new (λ may. refl)
+    asked_line caller c.args.number c.args.request after v u looks reached is_new (λ may. allowed)
     (subst (λ (n : Network). ¬ HasMoreThan MAX_PLACES n c.args.request) c.network_of-net.ensures c.in-Ok.ensures.narrow)
     c.in-Ok.places w told c.front-in-Ok-try_searches.result c.ask_told.result
     (subst (λ n. IsTheFront told n w) (sym c.front-in-Ok-try_searches.ensures) c.in-Ok-try_searches.ensures.front)
@@ -45,11 +45,11 @@ returns-in-Ok-try_searches-clause-room g c =
     (let was = c.requires.spare in let more = c.in-Ok-try_searches.ensures.spare in omega arith)
 
 pub returns-clause-answers : goal.returns-clause-answers
-returns-clause-answers g c v after looks reached is_new =
-    let caller : Caller = caller_of c.args.shared.now c.args.client.now.name c.args.line_number in
+returns-clause-answers g c v after looks reached is_new rules allowed =
+    let caller : Caller = caller_of c.args.shared.now rules c.args.client.now.name c.args.line_number in
     let u : Sight = view c.args.pass.now in let w : Sight = view c.try_searches.new.pass in
     subst (λ (r : Reply). AnswersLine caller (asking after c.args.number c.args.request) r v w) (sym c.halted.ensures)
-    (halted_ask caller c.args.number c.args.request after v u looks reached is_new (λ may. refl)
+    (halted_ask caller c.args.number c.args.request after v u looks reached is_new (λ may. allowed)
     (subst (λ (n : Network). ¬ HasMoreThan MAX_PLACES n c.args.request) c.network_of-net.ensures c.in-Ok.ensures.narrow)
     c.in-Ok.places w c.in-Err.halt c.in-Err.ensures.stopped)
 

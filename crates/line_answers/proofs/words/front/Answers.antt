@@ -10,16 +10,16 @@ use Rattle.line_answers.proofs.Rows.{front_line, halted_line}
 use Rattle.line_answers.proofs.words.front.Goals as goal
 
 pub returns-in-Ok-clause-answers : goal.returns-in-Ok-clause-answers
-returns-in-Ok-clause-answers g c =
-    let caller : Caller = caller_of c.args.shared.now c.args.client.now.name c.args.line_number in
+returns-in-Ok-clause-answers g c rules allowed =
+    let caller : Caller = caller_of c.args.shared.now rules c.args.client.now.name c.args.line_number in
     let line : Line = record { after = c.args.after; ask = asks.Front } in
     let v : Sight = view c.args.pass.now in let w : Sight = view c.look.new.pass in
     front_line caller line v w c.in-Ok.ensures.looks c.in-Ok.ensures.reached c.front.result
     (c.front.ensures ∙ c.in-Ok.ensures.copy.front) refl
 
 pub returns-in-Err-clause-answers : goal.returns-in-Err-clause-answers
-returns-in-Err-clause-answers g c =
-    let caller : Caller = caller_of c.args.shared.now c.args.client.now.name c.args.line_number in
+returns-in-Err-clause-answers g c rules allowed =
+    let caller : Caller = caller_of c.args.shared.now rules c.args.client.now.name c.args.line_number in
     let line : Line = record { after = c.args.after; ask = asks.Front } in
     let v : Sight = view c.args.pass.now in let w : Sight = view c.look.new.pass in
     subst (λ (r : Reply). AnswersLine caller line r v w) (sym c.halted.ensures)

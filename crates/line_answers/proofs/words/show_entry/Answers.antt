@@ -11,8 +11,8 @@ use Rattle.line_answers.proofs.Rows.{halted_line, missing_line, past_end, shown_
 use Rattle.line_answers.proofs.words.show_entry.Goals as goal
 
 pub returns-in-Ok-Some-clause-answers : goal.returns-in-Ok-Some-clause-answers
-returns-in-Ok-Some-clause-answers g c =
-    let caller : Caller = caller_of c.args.shared.now c.args.client.now.name c.args.line_number in
+returns-in-Ok-Some-clause-answers g c rules allowed =
+    let caller : Caller = caller_of c.args.shared.now rules c.args.client.now.name c.args.line_number in
     let line : Line = record { after = c.args.after; ask = asks.Show c.args.at } in
     let v : Sight = view c.args.pass.now in let w : Sight = view c.show.new.pass in
     let shows : IsStanding w.found.list c.args.at (Some c.in-Ok-Some.standing) =
@@ -22,8 +22,8 @@ returns-in-Ok-Some-clause-answers g c =
     c.in-Ok-Some.standing.freed_by refl shows.0 shows.1
 
 pub returns-in-Ok-None-clause-answers : goal.returns-in-Ok-None-clause-answers
-returns-in-Ok-None-clause-answers g c =
-    let caller : Caller = caller_of c.args.shared.now c.args.client.now.name c.args.line_number in
+returns-in-Ok-None-clause-answers g c rules allowed =
+    let caller : Caller = caller_of c.args.shared.now rules c.args.client.now.name c.args.line_number in
     let line : Line = record { after = c.args.after; ask = asks.Show c.args.at } in
     let v : Sight = view c.args.pass.now in let w : Sight = view c.show.new.pass in
     missing_line caller line v w c.in-Ok-None.ensures.looks c.in-Ok-None.ensures.reached
@@ -32,8 +32,8 @@ returns-in-Ok-None-clause-answers g c =
     (subst (IsStanding w.found.list c.args.at) c.in-Ok-None.field-0-is c.in-Ok-None.ensures.shows))
 
 pub returns-in-Err-clause-answers : goal.returns-in-Err-clause-answers
-returns-in-Err-clause-answers g c =
-    let caller : Caller = caller_of c.args.shared.now c.args.client.now.name c.args.line_number in
+returns-in-Err-clause-answers g c rules allowed =
+    let caller : Caller = caller_of c.args.shared.now rules c.args.client.now.name c.args.line_number in
     let line : Line = record { after = c.args.after; ask = asks.Show c.args.at } in
     let v : Sight = view c.args.pass.now in let w : Sight = view c.show.new.pass in
     subst (λ (r : Reply). AnswersLine caller line r v w) (sym c.halted.ensures)

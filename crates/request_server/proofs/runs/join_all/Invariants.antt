@@ -15,9 +15,9 @@ invariant-loop-job g l = record {
       ≡ (view l.fn.pass).share + length l.fn.jobs.items * 400000;
   jobs : All (IsBack l.shared) l.jobs.items;
   room : length l.jobs.items + length l.sessions.items ≤ vec_capacity l.sessions;
-  joined : (plans : _) (talks : List Talk)
-      → AreMatched (IsDoneJob (shared_callers l.shared) l.shared (streams g.S.Source.left g.S.Source.faults g.T.Sink.held g.T.Sink.faults)) plans (reverse l.fn.jobs.items) talks
-      → Joining l.shared (streams g.S.Source.left g.S.Source.faults g.T.Sink.held g.T.Sink.faults) plans talks l.jobs.items l.sessions.items (view l.pass);
+  joined : (clients : _) (talks : List Talk)
+      → AreMatched (IsDoneJob g.L.Rule (shared_callers l.shared) l.shared (streams g.S.Source.left g.S.Source.faults g.T.Sink.held g.T.Sink.faults)) clients (reverse l.fn.jobs.items) talks
+      → Joining g.L.Rule l.shared (streams g.S.Source.left g.S.Source.faults g.T.Sink.held g.T.Sink.faults) clients talks l.jobs.items l.sessions.items (view l.pass);
 }
 
 abbrev pub decreases-loop-job : goal.decreases-loop-job

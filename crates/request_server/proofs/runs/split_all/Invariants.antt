@@ -2,10 +2,9 @@ use Rattle.std.proofs.Common.{◌≡◌, ◌+◌, ◌*◌, ◌≤◌, ◌++◌, 
 use Rattle.book_gate.specs.Passes.{view, turns_left}
 use Rattle.client_turns.specs.Clients.{IsCopyOf}
 use Rattle.client_turns.specs.Turns.{IsReady, timetable_at}
-use Rattle.client_turns.specs.declared.clients.Client.{Client}
 use Rattle.rail_types.specs.Limits.{IsClientName}
-use Rattle.request_server.specs.declared.plans.Plan.{Plan}
-use Rattle.request_server.specs.Jobs.{found_at, IsReadyJob, plan_of}
+use Rattle.request_server.specs.Jobs.{begun, begun_of, found_at, IsReadyJob}
+use Rattle.request_server.specs.Tellings.{own_tellings}
 use Rattle.request_server.proofs.runs.split_all.Given as goal
 
 abbrev pub invariant-loop-plan : goal.invariant-loop-plan
@@ -16,12 +15,14 @@ invariant-loop-plan g l = record {
   turns : (view l.pass).turns ≡ [];
   seen : (view l.pass).seen ≡ found_at l.shared.gate;
   named : All (λ p. IsClientName p.name) l.plans.items;
-  names : map (λ c. c.name) l.clients.items ≡ map (λ p. p.name) l.plans.items;
-  copies : All (λ c. IsCopyOf (timetable_at l.shared.gate) c (view l.pass).seen) l.clients.items;
+  names : map (λ n. n.client.name) l.newcomers.items ≡ map (λ p. p.name) l.plans.items;
+  copies : All (λ n. IsCopyOf (timetable_at l.shared.gate) n.client (view l.pass).seen) l.newcomers.items;
+  tellings : All (λ n. n.tellings.items ≡ own_tellings (found_at l.shared.gate) n.client.name) l.newcomers.items;
   jobs : All (IsReadyJob l.shared) l.jobs.items;
   room : length l.plans.items + length l.jobs.items ≤ vec_capacity l.jobs;
   count : length l.plans.items + length l.jobs.items ≡ length l.fn.plans.items;
-  plans : map plan_of l.jobs.items ++ reverse l.plans.items ≡ reverse l.fn.plans.items;
+  begun : map (begun_of g.L.Rule) l.jobs.items ++ reverse (map (begun g.L.Rule (found_at l.shared.gate)) l.plans.items)
+      ≡ reverse (map (begun g.L.Rule (found_at l.shared.gate)) l.fn.plans.items);
 }
 
 abbrev pub decreases-loop-plan : goal.decreases-loop-plan

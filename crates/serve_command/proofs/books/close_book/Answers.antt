@@ -1,4 +1,4 @@
-use Rattle.std.proofs.Common.{◌≡◌, ◌≤◌, ℕ, List, Option, None, Some, IfSome, refl, subst}
+use Rattle.std.proofs.Common.{◌≡◌, ℕ, List, Option, None, Some, IfSome, refl, subst}
 use Rattle.path_commit.specs.Ledgers.{IsPrefixOf, settled_of}
 use Rattle.serve_command.proofs.books.close_book.Goals as goal
 

@@ -1,5 +1,6 @@
-use Rattle.std.proofs.Common.{◌≡◌, ◌≢◌, ◌≤◌, ◌∙◌, ℕ, List, All, AllPairs, length, map, take, Ok, Err, arith, ap, sym, subst}
+use Rattle.std.proofs.Common.{◌≡◌, ◌∙◌, List, length, map, take, arith, ap, subst}
 use Rattle.client_lines.specs.Names.{Names}
+use Rattle.client_rules.specs.Clients.{rules_named}
 use Rattle.file_rounds.specs.Scenes.{Scene, scene}
 use Rattle.rail_types.specs.Limits.{IsClientName}
 use Rattle.request_server.specs.Runs.{IsServed, WereServed}
@@ -9,66 +10,67 @@ use Rattle.request_server.specs.declared.plans.Session.{Session}
 use Rattle.client_streams.specs.Lending.{AreIn, streams_of}
 use Rattle.client_words.specs.declared.clients.ClientWord.{ClientWord}
 use Rattle.path_commit.specs.Ledgers.{Ledger}
-use Rattle.serve_command.specs.Serving.{names_of, streams_by}
+use Rattle.serve_command.specs.Serving.{streams_by}
 use Rattle.serve_command.proofs.Nesting.{known_same, rounds_by, Rounds, Unserved, unserved_again}
 use Rattle.serve_command.proofs.Lists.{all_alike, long_alike, matched_long, pairs_alike}
 use Rattle.serve_command.proofs.books.serve_book.Goals as goal
 
 pub serve_clients-requires-clause-some : goal.serve_clients-requires-clause-some
 serve_clients-requires-clause-some g c κs within =
-    let Src = g.row.O-Src.Denot in let Snk = g.row.O-Snk.Denot in
-    let plans : List (Plan Src Snk NoBetween) = c.in-Ok-open_clients.plans.items in let clients : List ClientWord = c.args.clients.now in
-    let long = long_alike (λ (p : Plan Src Snk NoBetween). p.name) (λ (w : ClientWord). w.client) plans clients c.in-Ok-open_clients.ensures.names in
+    let Src = g.row.O-Src.Denot in let Snk = g.row.O-Snk.Denot in let L = g.row.L.Denot in
+    let plans : List (Plan Src Snk NoBetween L) = c.in-Ok-open_clients.plans.items in let clients : List ClientWord = c.args.clients.now in
+    let long = long_alike (λ (p : Plan Src Snk NoBetween L). p.name) (λ (w : ClientWord). w.client) plans clients c.in-Ok-open_clients.ensures.names in
     let some = c.requires.clients.some in omega arith
 
 pub serve_clients-requires-clause-few : goal.serve_clients-requires-clause-few
 serve_clients-requires-clause-few g c κs within =
-    let Src = g.row.O-Src.Denot in let Snk = g.row.O-Snk.Denot in
-    let plans : List (Plan Src Snk NoBetween) = c.in-Ok-open_clients.plans.items in let clients : List ClientWord = c.args.clients.now in
-    let long = long_alike (λ (p : Plan Src Snk NoBetween). p.name) (λ (w : ClientWord). w.client) plans clients c.in-Ok-open_clients.ensures.names in
+    let Src = g.row.O-Src.Denot in let Snk = g.row.O-Snk.Denot in let L = g.row.L.Denot in
+    let plans : List (Plan Src Snk NoBetween L) = c.in-Ok-open_clients.plans.items in let clients : List ClientWord = c.args.clients.now in
+    let long = long_alike (λ (p : Plan Src Snk NoBetween L). p.name) (λ (w : ClientWord). w.client) plans clients c.in-Ok-open_clients.ensures.names in
     let few = c.requires.clients.few in omega arith
 
 pub serve_clients-requires-clause-named : goal.serve_clients-requires-clause-named
 serve_clients-requires-clause-named g c κs within =
-    let Src = g.row.O-Src.Denot in let Snk = g.row.O-Snk.Denot in
-    all_alike (λ (p : Plan Src Snk NoBetween). p.name) (λ (w : ClientWord). w.client) IsClientName c.in-Ok-open_clients.plans.items c.args.clients.now c.in-Ok-open_clients.ensures.names c.requires.clients.named
+    let Src = g.row.O-Src.Denot in let Snk = g.row.O-Snk.Denot in let L = g.row.L.Denot in
+    all_alike (λ (p : Plan Src Snk NoBetween L). p.name) (λ (w : ClientWord). w.client) IsClientName c.in-Ok-open_clients.plans.items c.args.clients.now c.in-Ok-open_clients.ensures.names c.requires.clients.named
 
 pub serve_clients-requires-clause-names : goal.serve_clients-requires-clause-names
 serve_clients-requires-clause-names g c κs within =
-    let Src = g.row.O-Src.Denot in let Snk = g.row.O-Snk.Denot in
-    pairs_alike (λ (p : Plan Src Snk NoBetween). p.name) (λ (w : ClientWord). w.client) c.in-Ok-open_clients.plans.items c.args.clients.now c.in-Ok-open_clients.ensures.names c.requires.clients.names
+    let Src = g.row.O-Src.Denot in let Snk = g.row.O-Snk.Denot in let L = g.row.L.Denot in
+    pairs_alike (λ (p : Plan Src Snk NoBetween L). p.name) (λ (w : ClientWord). w.client) c.in-Ok-open_clients.plans.items c.args.clients.now c.in-Ok-open_clients.ensures.names c.requires.clients.names
 
 pub put_back_sessions-requires-clause-many : goal.put_back_sessions-requires-clause-many
 put_back_sessions-requires-clause-many g c κs within =
-    let Src = g.row.O-Src.Denot in let Snk = g.row.O-Snk.Denot in
-    let plans : List (Plan Src Snk NoBetween) = c.in-Ok-open_clients.plans.items in let clients : List ClientWord = c.args.clients.now in
-    let sessions : List (Session Src Snk) = c.in-Ok-serve_clients.sessions.items in
-    let long = long_alike (λ (p : Plan Src Snk NoBetween). p.name) (λ (w : ClientWord). w.client) plans clients c.in-Ok-open_clients.ensures.names in
+    let Dsk = g.row.O-Dsk.Denot in let Src = g.row.O-Src.Denot in let Snk = g.row.O-Snk.Denot in let L = g.row.L.Denot in
+    let plans : List (Plan Src Snk NoBetween L) = c.in-Ok-open_clients.plans.items in let clients : List ClientWord = c.args.clients.now in
+    let sessions : List (Session Src Snk L) = c.in-Ok-serve_clients.sessions.items in
+    let long = long_alike (λ (p : Plan Src Snk NoBetween L). p.name) (λ (w : ClientWord). w.client) plans clients c.in-Ok-open_clients.ensures.names in
     let served = c.in-Ok-serve_clients.ensures.served in
-    let as_long = matched_long (IsServed (streams_by g.O.Src.Source g.O.Snk.Sink)) plans sessions served.talks served.served in
+    let left : Ledger Dsk = c.in-Ok-serve_clients.book in
+    let as_long = matched_long (IsServed g.L.Rule (streams_by g.O.Src.Source g.O.Snk.Sink) c.args.book.entries left.entries) plans sessions served.talks served.served in
     omega arith
 
 pub put_back_plans-requires-clause-many : goal.put_back_plans-requires-clause-many
 put_back_plans-requires-clause-many g c κs within =
-    let Src = g.row.O-Src.Denot in let Snk = g.row.O-Snk.Denot in
-    let plans : List (Plan Src Snk NoBetween) = c.in-Ok-open_clients.plans.items in let clients : List ClientWord = c.args.clients.now in
-    let again : List (Plan Src Snk NoBetween) = c.in-Err-serve_clients.plans.items in
-    let long = long_alike (λ (p : Plan Src Snk NoBetween). p.name) (λ (w : ClientWord). w.client) plans clients c.in-Ok-open_clients.ensures.names in
+    let Src = g.row.O-Src.Denot in let Snk = g.row.O-Snk.Denot in let L = g.row.L.Denot in
+    let plans : List (Plan Src Snk NoBetween L) = c.in-Ok-open_clients.plans.items in let clients : List ClientWord = c.args.clients.now in
+    let again : List (Plan Src Snk NoBetween L) = c.in-Err-serve_clients.plans.items in
+    let long = long_alike (λ (p : Plan Src Snk NoBetween L). p.name) (λ (w : ClientWord). w.client) plans clients c.in-Ok-open_clients.ensures.names in
     let same : again ≡ plans = c.in-Err-serve_clients.ensures.refused.1 in
     let as_long = ap length same in omega arith
 
 pub returns-in-Ok-serve_clients : goal.returns-in-Ok-serve_clients
 returns-in-Ok-serve_clients g c =
-    let Src = g.row.O-Src.Denot in let Snk = g.row.O-Snk.Denot in let Dsk = g.row.O-Dsk.Denot in
+    let Src = g.row.O-Src.Denot in let Snk = g.row.O-Snk.Denot in let L = g.row.L.Denot in let Dsk = g.row.O-Dsk.Denot in
     let s0 : Scene Src Snk Dsk = scene g.O.Outside c.args.outside.now in
     let s1 : Scene Src Snk Dsk = scene g.O.Outside c.open_clients.new.outside in
     let s2 : Scene Src Snk Dsk = scene g.O.Outside c.put_back_sessions.new.outside in
-    let plans : List (Plan Src Snk NoBetween) = c.in-Ok-open_clients.plans.items in let clients : List ClientWord = c.args.clients.now in
-    let sessions : List (Session Src Snk) = c.in-Ok-serve_clients.sessions.items in
-    let long = long_alike (λ (p : Plan Src Snk NoBetween). p.name) (λ (w : ClientWord). w.client) plans clients c.in-Ok-open_clients.ensures.names in
+    let plans : List (Plan Src Snk NoBetween L) = c.in-Ok-open_clients.plans.items in let clients : List ClientWord = c.args.clients.now in
+    let sessions : List (Session Src Snk L) = c.in-Ok-serve_clients.sessions.items in
+    let long = long_alike (λ (p : Plan Src Snk NoBetween L). p.name) (λ (w : ClientWord). w.client) plans clients c.in-Ok-open_clients.ensures.names in
     let served = c.in-Ok-serve_clients.ensures.served in
     let left : Ledger Dsk = c.in-Ok-serve_clients.book in
-    let as_long = matched_long (IsServed (streams_by g.O.Src.Source g.O.Snk.Sink)) plans sessions served.talks served.served in
+    let as_long = matched_long (IsServed g.L.Rule (streams_by g.O.Src.Source g.O.Snk.Sink) c.args.book.entries left.entries) plans sessions served.talks served.served in
     let rounds : Rounds clients plans sessions s0 s2 c.ends_of-ends.result = rounds_by clients plans sessions s0 s1 s2 c.ends_of-ends.result c.requires.clients (as_long ∙ long) c.in-Ok-open_clients.ensures.out c.put_back_sessions.ensures.back in
     let known = known_same c.in-Ok.known c.args.named c.args.trains c.in-Ok.ensures.railway c.in-Ok.ensures.trains in
     record {
@@ -79,8 +81,9 @@ returns-in-Ok-serve_clients g c =
         plans = plans;
         sessions = sessions;
         names = c.in-Ok-open_clients.ensures.names;
+        given = c.in-Ok-open_clients.ensures.rules ∙ ap (λ all. map (λ (w : ClientWord). rules_named w.client all) clients) c.as_mut_slice.ensures.value;
         had = rounds.had;
-        served = subst (λ (k : Names). WereServed g.O.Dsk.Disk.faults (streams_by g.O.Src.Source g.O.Snk.Sink) k c.args.book left plans sessions) known served;
+        served = subst (λ (k : Names). WereServed g.L.Rule g.O.Dsk.Disk.faults (streams_by g.O.Src.Source g.O.Snk.Sink) k c.args.book left plans sessions) known served;
         footing = c.in-Ok-serve_clients.ensures.footing;
         closed = c.close_book.ensures.closed;
         ends_are = rw c.deref.ensures.value at c.ends_of-ends.ensures.ends;
@@ -88,17 +91,17 @@ returns-in-Ok-serve_clients g c =
       keeps = rounds.keeps;
     }
 
-pub returns-in-Err-serve_clients : goal.returns-in-Err-serve_clients
-returns-in-Err-serve_clients g c =
-    let Src = g.row.O-Src.Denot in let Snk = g.row.O-Snk.Denot in let Dsk = g.row.O-Dsk.Denot in
+pub returns : goal.returns
+returns g c =
+    let Src = g.row.O-Src.Denot in let Snk = g.row.O-Snk.Denot in let L = g.row.L.Denot in let Dsk = g.row.O-Dsk.Denot in
     let s0 : Scene Src Snk Dsk = scene g.O.Outside c.args.outside.now in
     let s1 : Scene Src Snk Dsk = scene g.O.Outside c.open_clients.new.outside in
     let s2 : Scene Src Snk Dsk = scene g.O.Outside c.put_back_plans.new.outside in
-    let plans : List (Plan Src Snk NoBetween) = c.in-Ok-open_clients.plans.items in let clients : List ClientWord = c.args.clients.now in
-    let long = long_alike (λ (p : Plan Src Snk NoBetween). p.name) (λ (w : ClientWord). w.client) plans clients c.in-Ok-open_clients.ensures.names in
-    let again : List (Plan Src Snk NoBetween) = c.in-Err-serve_clients.plans.items in
+    let plans : List (Plan Src Snk NoBetween L) = c.in-Ok-open_clients.plans.items in let clients : List ClientWord = c.args.clients.now in
+    let long = long_alike (λ (p : Plan Src Snk NoBetween L). p.name) (λ (w : ClientWord). w.client) plans clients c.in-Ok-open_clients.ensures.names in
+    let again : List (Plan Src Snk NoBetween L) = c.in-Err-serve_clients.plans.items in
     let same : again ≡ plans = c.in-Err-serve_clients.ensures.refused.1 in
-    let ins = subst (λ (l : List (Plan Src Snk NoBetween)). AreIn (take (length l) clients) (map streams_of l) s1 s2) same c.put_back_plans.ensures.back in
+    let ins = subst (λ (l : List (Plan Src Snk NoBetween L)). AreIn (take (length l) clients) (map streams_of l) s1 s2) same c.put_back_plans.ensures.back in
     let after : Dsk = c.close-in-Err-serve_clients.result in let found : Ledger Dsk = c.args.book in
     let disk : after ≡ found.disk = c.close-in-Err-serve_clients.ensures.disk ∙ ap (λ (b : Ledger Dsk). b.disk) c.in-Err-serve_clients.ensures.refused.0 in
     let unserved : Unserved clients found after s0 s2 _ = unserved_again clients found after plans s0 s1 s2 disk long c.in-Ok-open_clients.ensures.out ins in

@@ -13,5 +13,5 @@ returns-in-Ok-clause-says g c =
       tick = c.in-Ok.ensures.tick;
       quiet = c.in-Ok.ensures.quiet;
     } in
-    disk_by g.O.Src.Source g.O.Snk.Sink g.O.Dsk.Disk c.args.files c.args.journal.now c.args.clients.now c.args.disk c.serve_book.result.0 c.in-Ok.book (scene g.O.Outside c.args.outside.now) (scene g.O.Outside c.serve_book.new.outside) c.serve_book.result.1 found
+    disk_by g.O.Src.Source g.O.Snk.Sink g.O.Dsk.Disk g.L.Rule c.args.files c.args.journal.now c.args.clients.now c.args.rules.items c.args.disk c.serve_book.result.0 c.in-Ok.book (scene g.O.Outside c.args.outside.now) (scene g.O.Outside c.serve_book.new.outside) c.serve_book.result.1 found
     c.serve_book.ensures.says

@@ -1,0 +1,174 @@
+-- What `clap` makes of canonical words.
+use Rattle.std.proofs.Common.{◌≡◌, ℕ, List, [], ◌∷◌, Some, true, refl, codes}
+use Rattle.option_words.specs.Spelling.{joined, setting, Word}
+use Rattle.clap.specs.Words.{first_of, matches_of, takes}
+use Rattle.clap.proofs.OnLiterals.{clap_on_literals}
+use Rattle.canonical_words.specs.Canonical.{canonical_capacity, capacity_app, demo_app, init_app, list_app, move_app, serve_app, stairs_app}
+
+-- the canonical words of `list`
+abbrev pub list_words : List ℕ → List ℕ → List Word
+list_words network out = codes "list" ∷ joined (setting (codes "network") network) ∷ joined (setting (codes "out") out) ∷ []
+
+pub list_taken : (network out : List ℕ) → takes list_app (list_words network out) ≡ true
+unfolding clap_on_literals
+list_taken network out = refl
+
+pub list_network : (network out : List ℕ) → first_of (codes "network") (matches_of list_app (list_words network out)) ≡ Some network
+unfolding clap_on_literals
+list_network network out = refl
+
+pub list_out : (network out : List ℕ) → first_of (codes "out") (matches_of list_app (list_words network out)) ≡ Some out
+unfolding clap_on_literals
+list_out network out = refl
+
+-- the canonical words of `init` of a new journal
+abbrev pub init_words : List ℕ → List ℕ → List ℕ → List Word
+init_words network base journal =
+    codes "init" ∷ joined (setting (codes "network") network) ∷ joined (setting (codes "base") base) ∷ joined (setting (codes "journal") journal) ∷ []
+
+pub init_taken : (network base journal : List ℕ) → takes init_app (init_words network base journal) ≡ true
+unfolding clap_on_literals
+init_taken network base journal = refl
+
+pub init_network : (network base journal : List ℕ) → first_of (codes "network") (matches_of init_app (init_words network base journal)) ≡ Some network
+unfolding clap_on_literals
+init_network network base journal = refl
+
+pub init_base : (network base journal : List ℕ) → first_of (codes "base") (matches_of init_app (init_words network base journal)) ≡ Some base
+unfolding clap_on_literals
+init_base network base journal = refl
+
+pub init_journal : (network base journal : List ℕ) → first_of (codes "journal") (matches_of init_app (init_words network base journal)) ≡ Some journal
+unfolding clap_on_literals
+init_journal network base journal = refl
+
+-- the canonical words of `init` of a journal that is moved
+abbrev pub move_words : List ℕ → List ℕ → List ℕ → List ℕ → List Word
+move_words network base journal from =
+    codes "init" ∷ joined (setting (codes "network") network) ∷ joined (setting (codes "base") base) ∷ joined (setting (codes "journal") journal) ∷ joined (setting (codes "from") from) ∷ []
+
+pub move_taken : (network base journal from : List ℕ) → takes move_app (move_words network base journal from) ≡ true
+unfolding clap_on_literals
+move_taken network base journal from = refl
+
+pub move_network : (network base journal from : List ℕ) → first_of (codes "network") (matches_of move_app (move_words network base journal from)) ≡ Some network
+unfolding clap_on_literals
+move_network network base journal from = refl
+
+pub move_base : (network base journal from : List ℕ) → first_of (codes "base") (matches_of move_app (move_words network base journal from)) ≡ Some base
+unfolding clap_on_literals
+move_base network base journal from = refl
+
+pub move_journal : (network base journal from : List ℕ) → first_of (codes "journal") (matches_of move_app (move_words network base journal from)) ≡ Some journal
+unfolding clap_on_literals
+move_journal network base journal from = refl
+
+pub move_from : (network base journal from : List ℕ) → first_of (codes "from") (matches_of move_app (move_words network base journal from)) ≡ Some from
+unfolding clap_on_literals
+move_from network base journal from = refl
+
+-- the canonical words of `stairs`
+abbrev pub stairs_words : List ℕ → List ℕ → List ℕ → List ℕ → List ℕ → List Word
+stairs_words network base journal entry out =
+    codes "stairs" ∷ joined (setting (codes "network") network) ∷ joined (setting (codes "base") base) ∷ joined (setting (codes "journal") journal) ∷ joined (setting (codes "entry") entry) ∷ joined (setting (codes "out") out) ∷ []
+
+pub stairs_taken : (network base journal entry out : List ℕ) → takes stairs_app (stairs_words network base journal entry out) ≡ true
+unfolding clap_on_literals
+stairs_taken network base journal entry out = refl
+
+pub stairs_network : (network base journal entry out : List ℕ) → first_of (codes "network") (matches_of stairs_app (stairs_words network base journal entry out)) ≡ Some network
+unfolding clap_on_literals
+stairs_network network base journal entry out = refl
+
+pub stairs_base : (network base journal entry out : List ℕ) → first_of (codes "base") (matches_of stairs_app (stairs_words network base journal entry out)) ≡ Some base
+unfolding clap_on_literals
+stairs_base network base journal entry out = refl
+
+pub stairs_journal : (network base journal entry out : List ℕ) → first_of (codes "journal") (matches_of stairs_app (stairs_words network base journal entry out)) ≡ Some journal
+unfolding clap_on_literals
+stairs_journal network base journal entry out = refl
+
+pub stairs_entry : (network base journal entry out : List ℕ) → first_of (codes "entry") (matches_of stairs_app (stairs_words network base journal entry out)) ≡ Some entry
+unfolding clap_on_literals
+stairs_entry network base journal entry out = refl
+
+pub stairs_out : (network base journal entry out : List ℕ) → first_of (codes "out") (matches_of stairs_app (stairs_words network base journal entry out)) ≡ Some out
+unfolding clap_on_literals
+stairs_out network base journal entry out = refl
+
+pub capacity_taken : (network base journal first last from to out : List ℕ) → takes capacity_app (canonical_capacity network base journal first last from to out) ≡ true
+unfolding clap_on_literals
+capacity_taken network base journal first last from to out = refl
+
+pub capacity_network : (network base journal first last from to out : List ℕ) → first_of (codes "network") (matches_of capacity_app (canonical_capacity network base journal first last from to out)) ≡ Some network
+unfolding clap_on_literals
+capacity_network network base journal first last from to out = refl
+
+pub capacity_base : (network base journal first last from to out : List ℕ) → first_of (codes "base") (matches_of capacity_app (canonical_capacity network base journal first last from to out)) ≡ Some base
+unfolding clap_on_literals
+capacity_base network base journal first last from to out = refl
+
+pub capacity_journal : (network base journal first last from to out : List ℕ) → first_of (codes "journal") (matches_of capacity_app (canonical_capacity network base journal first last from to out)) ≡ Some journal
+unfolding clap_on_literals
+capacity_journal network base journal first last from to out = refl
+
+pub capacity_first : (network base journal first last from to out : List ℕ) → first_of (codes "first") (matches_of capacity_app (canonical_capacity network base journal first last from to out)) ≡ Some first
+unfolding clap_on_literals
+capacity_first network base journal first last from to out = refl
+
+pub capacity_last : (network base journal first last from to out : List ℕ) → first_of (codes "last") (matches_of capacity_app (canonical_capacity network base journal first last from to out)) ≡ Some last
+unfolding clap_on_literals
+capacity_last network base journal first last from to out = refl
+
+pub capacity_from : (network base journal first last from to out : List ℕ) → first_of (codes "from") (matches_of capacity_app (canonical_capacity network base journal first last from to out)) ≡ Some from
+unfolding clap_on_literals
+capacity_from network base journal first last from to out = refl
+
+pub capacity_to : (network base journal first last from to out : List ℕ) → first_of (codes "to") (matches_of capacity_app (canonical_capacity network base journal first last from to out)) ≡ Some to
+unfolding clap_on_literals
+capacity_to network base journal first last from to out = refl
+
+pub capacity_out : (network base journal first last from to out : List ℕ) → first_of (codes "out") (matches_of capacity_app (canonical_capacity network base journal first last from to out)) ≡ Some out
+unfolding clap_on_literals
+capacity_out network base journal first last from to out = refl
+
+-- the canonical words of `serve`
+abbrev pub serve_words : List ℕ → List ℕ → List ℕ → List ℕ → List Word
+serve_words network base journal trains =
+    codes "serve" ∷ joined (setting (codes "network") network) ∷ joined (setting (codes "base") base) ∷ joined (setting (codes "journal") journal) ∷ joined (setting (codes "trains") trains) ∷ []
+
+pub serve_taken : (network base journal trains : List ℕ) → takes serve_app (serve_words network base journal trains) ≡ true
+unfolding clap_on_literals
+serve_taken network base journal trains = refl
+
+pub serve_network : (network base journal trains : List ℕ) → first_of (codes "network") (matches_of serve_app (serve_words network base journal trains)) ≡ Some network
+unfolding clap_on_literals
+serve_network network base journal trains = refl
+
+pub serve_base : (network base journal trains : List ℕ) → first_of (codes "base") (matches_of serve_app (serve_words network base journal trains)) ≡ Some base
+unfolding clap_on_literals
+serve_base network base journal trains = refl
+
+pub serve_journal : (network base journal trains : List ℕ) → first_of (codes "journal") (matches_of serve_app (serve_words network base journal trains)) ≡ Some journal
+unfolding clap_on_literals
+serve_journal network base journal trains = refl
+
+pub serve_trains : (network base journal trains : List ℕ) → first_of (codes "trains") (matches_of serve_app (serve_words network base journal trains)) ≡ Some trains
+unfolding clap_on_literals
+serve_trains network base journal trains = refl
+
+-- the canonical words of `demo`
+abbrev pub demo_words : List ℕ → List ℕ → List Word
+demo_words number out = codes "demo" ∷ joined (setting (codes "number") number) ∷ joined (setting (codes "out") out) ∷ []
+
+pub demo_taken : (number out : List ℕ) → takes demo_app (demo_words number out) ≡ true
+unfolding clap_on_literals
+demo_taken number out = refl
+
+pub demo_number : (number out : List ℕ) → first_of (codes "number") (matches_of demo_app (demo_words number out)) ≡ Some number
+unfolding clap_on_literals
+demo_number number out = refl
+
+pub demo_out : (number out : List ℕ) → first_of (codes "out") (matches_of demo_app (demo_words number out)) ≡ Some out
+unfolding clap_on_literals
+demo_out number out = refl

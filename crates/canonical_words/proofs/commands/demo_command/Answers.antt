@@ -1,0 +1,11 @@
+use Rattle.std.proofs.Common.{◌≡◌, ◌∙◌, ap, ap₂, codes}
+use Rattle.clap.specs.Words.{app_of, with_rule}
+use Rattle.clap.specs.Simple.{app_of_fields}
+use Rattle.canonical_words.specs.Canonical.{bare_app, without_help}
+use Rattle.canonical_words.proofs.commands.demo_command.Goals as goal
+
+pub returns : goal.returns
+returns c =
+    let bare : app_of c.disable_help_flag.result ≡ bare_app (codes "demo") = ap app_of_fields c.disable_help_flag.ensures ∙ ap without_help c.new.ensures.app in
+    let with_number = c.in_ok-arg.ensures.shape c.required-number.ensures.local ∙ ap₂ with_rule bare c.required-number.ensures.rule in
+    c.in_ok-command.ensures.shape c.required-out.ensures.local ∙ ap₂ with_rule with_number c.required-out.ensures.rule

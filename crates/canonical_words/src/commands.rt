@@ -1,0 +1,372 @@
+//! The options that stand once, command by command, parsed by `clap`.
+
+ghost use Rattle.std.specs.Prelude.{◌≡◌, IfOk, map, string_bytes};
+ghost use Rattle.clap.specs.Words.{app_of};
+ghost use Rattle.canonical_words.specs.Canonical.{canonical_capacity, capacity_app, demo_app, journal_app, list_app, move_app, serve_app, stairs_app};
+
+use crate::names::{FileNames, StretchWords};
+use crate::parsing::{joined, parse, required, value_of};
+use clap::Command;
+use no_memory::NoMemory;
+use option_words::Text;
+use std::alloc::Global;
+
+/// The values of the options of `list` that stand once.
+#[derive(Debug, Drop)]
+pub struct ListTexts {
+    pub network: Text,
+    pub out: Text,
+}
+
+/// Hands `list` with these options to `clap`, and takes its values back.
+pub fn parse_list(alloc: Global, network: &str, out: &str) -> Result<ListTexts, NoMemory>
+    ensures network { IfOk result (λ texts. texts.network ≡ network.now) }
+    ensures out { IfOk result (λ texts. texts.out ≡ out.now) }
+{
+    let command = list_command(alloc)?;
+    let words = [
+        String::from_str(alloc, "list")?,
+        joined(alloc, "network", network)?,
+        joined(alloc, "out", out)?,
+    ];
+    let matches = parse(command, words.as_slice())?;
+    Ok(ListTexts {
+        network: value_of(alloc, &matches, "network")?,
+        out: value_of(alloc, &matches, "out")?,
+    })
+}
+
+/// The values of the options of `init` that stand once.
+#[derive(Debug, Drop)]
+pub struct InitTexts {
+    pub network: Text,
+    pub base: Text,
+    pub journal: Text,
+}
+
+/// Hands `init` with these options to `clap`, and takes its values back.
+pub fn parse_init(
+    alloc: Global,
+    network: &str,
+    base: &str,
+    journal: &str,
+) -> Result<InitTexts, NoMemory>
+    ensures network { IfOk result (λ texts. texts.network ≡ network.now) }
+    ensures base { IfOk result (λ texts. texts.base ≡ base.now) }
+    ensures journal { IfOk result (λ texts. texts.journal ≡ journal.now) }
+{
+    let command = journal_command(alloc, "init")?;
+    let words = [
+        String::from_str(alloc, "init")?,
+        joined(alloc, "network", network)?,
+        joined(alloc, "base", base)?,
+        joined(alloc, "journal", journal)?,
+    ];
+    let matches = parse(command, words.as_slice())?;
+    Ok(InitTexts {
+        network: value_of(alloc, &matches, "network")?,
+        base: value_of(alloc, &matches, "base")?,
+        journal: value_of(alloc, &matches, "journal")?,
+    })
+}
+
+/// The values of the options of `init` with `from`.
+#[derive(Debug, Drop)]
+pub struct MoveTexts {
+    pub network: Text,
+    pub base: Text,
+    pub journal: Text,
+    pub from: Text,
+}
+
+/// Hands `init` with these options, `from` among them, to `clap`, and takes its values back.
+pub fn parse_move(
+    alloc: Global,
+    network: &str,
+    base: &str,
+    journal: &str,
+    from: &str,
+) -> Result<MoveTexts, NoMemory>
+    ensures network { IfOk result (λ texts. texts.network ≡ network.now) }
+    ensures base { IfOk result (λ texts. texts.base ≡ base.now) }
+    ensures journal { IfOk result (λ texts. texts.journal ≡ journal.now) }
+    ensures from { IfOk result (λ texts. texts.from ≡ from.now) }
+{
+    let command = move_command(alloc)?;
+    let words = [
+        String::from_str(alloc, "init")?,
+        joined(alloc, "network", network)?,
+        joined(alloc, "base", base)?,
+        joined(alloc, "journal", journal)?,
+        joined(alloc, "from", from)?,
+    ];
+    let matches = parse(command, words.as_slice())?;
+    Ok(MoveTexts {
+        network: value_of(alloc, &matches, "network")?,
+        base: value_of(alloc, &matches, "base")?,
+        journal: value_of(alloc, &matches, "journal")?,
+        from: value_of(alloc, &matches, "from")?,
+    })
+}
+
+/// The values of the options of `stairs`.
+#[derive(Debug, Drop)]
+pub struct StairsTexts {
+    pub network: Text,
+    pub base: Text,
+    pub journal: Text,
+    pub entry: Text,
+    pub out: Text,
+}
+
+/// Hands `stairs` with these options to `clap`, and takes its values back.
+pub fn parse_stairs(
+    alloc: Global,
+    network: &str,
+    base: &str,
+    journal: &str,
+    entry: &str,
+    out: &str,
+) -> Result<StairsTexts, NoMemory>
+    ensures network { IfOk result (λ texts. texts.network ≡ network.now) }
+    ensures base { IfOk result (λ texts. texts.base ≡ base.now) }
+    ensures journal { IfOk result (λ texts. texts.journal ≡ journal.now) }
+    ensures entry { IfOk result (λ texts. texts.entry ≡ entry.now) }
+    ensures out { IfOk result (λ texts. texts.out ≡ out.now) }
+{
+    let command = stairs_command(alloc)?;
+    let words = [
+        String::from_str(alloc, "stairs")?,
+        joined(alloc, "network", network)?,
+        joined(alloc, "base", base)?,
+        joined(alloc, "journal", journal)?,
+        joined(alloc, "entry", entry)?,
+        joined(alloc, "out", out)?,
+    ];
+    let matches = parse(command, words.as_slice())?;
+    Ok(StairsTexts {
+        network: value_of(alloc, &matches, "network")?,
+        base: value_of(alloc, &matches, "base")?,
+        journal: value_of(alloc, &matches, "journal")?,
+        entry: value_of(alloc, &matches, "entry")?,
+        out: value_of(alloc, &matches, "out")?,
+    })
+}
+
+/// The values of the options of `capacity`.
+#[derive(Debug, Drop)]
+pub struct CapacityTexts {
+    pub network: Text,
+    pub base: Text,
+    pub journal: Text,
+    pub first: Text,
+    pub last: Text,
+    pub from: Text,
+    pub to: Text,
+    pub out: Text,
+}
+
+/// Hands `capacity` with these options to `clap`, and takes its values back.
+pub fn parse_capacity(
+    alloc: Global,
+    names: &FileNames<'_>,
+    stretch: &StretchWords<'_>,
+    out: &str,
+) -> Result<CapacityTexts, NoMemory>
+    ensures network { IfOk result (λ texts. texts.network ≡ names.now.network.now) }
+    ensures base { IfOk result (λ texts. texts.base ≡ names.now.base.now) }
+    ensures journal { IfOk result (λ texts. texts.journal ≡ names.now.journal.now) }
+    ensures first { IfOk result (λ texts. texts.first ≡ stretch.now.first.now) }
+    ensures last { IfOk result (λ texts. texts.last ≡ stretch.now.last.now) }
+    ensures from { IfOk result (λ texts. texts.from ≡ stretch.now.from.now) }
+    ensures to { IfOk result (λ texts. texts.to ≡ stretch.now.to.now) }
+    ensures out { IfOk result (λ texts. texts.out ≡ out.now) }
+{
+    let command = capacity_command(alloc)?;
+    let words = capacity_words(alloc, names, stretch, out)?;
+    let matches = parse(command, words.as_slice())?;
+    Ok(CapacityTexts {
+        network: value_of(alloc, &matches, "network")?,
+        base: value_of(alloc, &matches, "base")?,
+        journal: value_of(alloc, &matches, "journal")?,
+        first: value_of(alloc, &matches, "first")?,
+        last: value_of(alloc, &matches, "last")?,
+        from: value_of(alloc, &matches, "from")?,
+        to: value_of(alloc, &matches, "to")?,
+        out: value_of(alloc, &matches, "out")?,
+    })
+}
+
+// The canonical words of `capacity`.
+fn capacity_words(
+    alloc: Global,
+    names: &FileNames<'_>,
+    stretch: &StretchWords<'_>,
+    out: &str,
+) -> Result<[String; 9], NoMemory>
+    ensures { IfOk result (λ words. map string_bytes words ≡ canonical_capacity
+        names.now.network.now names.now.base.now names.now.journal.now
+        stretch.now.first.now stretch.now.last.now stretch.now.from.now stretch.now.to.now
+        out.now) }
+{
+    Ok([
+        String::from_str(alloc, "capacity")?,
+        joined(alloc, "network", names.network)?,
+        joined(alloc, "base", names.base)?,
+        joined(alloc, "journal", names.journal)?,
+        joined(alloc, "first", stretch.first)?,
+        joined(alloc, "last", stretch.last)?,
+        joined(alloc, "from", stretch.from)?,
+        joined(alloc, "to", stretch.to)?,
+        joined(alloc, "out", out)?,
+    ])
+}
+
+/// The values of the options of `serve` that stand once.
+#[derive(Debug, Drop)]
+pub struct ServeTexts {
+    pub network: Text,
+    pub base: Text,
+    pub journal: Text,
+    pub trains: Text,
+}
+
+/// Hands `serve` with these options to `clap`, and takes its values back.
+pub fn parse_serve(
+    alloc: Global,
+    names: &FileNames<'_>,
+    trains: &str,
+) -> Result<ServeTexts, NoMemory>
+    ensures network { IfOk result (λ texts. texts.network ≡ names.now.network.now) }
+    ensures base { IfOk result (λ texts. texts.base ≡ names.now.base.now) }
+    ensures journal { IfOk result (λ texts. texts.journal ≡ names.now.journal.now) }
+    ensures trains { IfOk result (λ texts. texts.trains ≡ trains.now) }
+{
+    let command = serve_command(alloc)?;
+    let words = [
+        String::from_str(alloc, "serve")?,
+        joined(alloc, "network", names.network)?,
+        joined(alloc, "base", names.base)?,
+        joined(alloc, "journal", names.journal)?,
+        joined(alloc, "trains", trains)?,
+    ];
+    let matches = parse(command, words.as_slice())?;
+    Ok(ServeTexts {
+        network: value_of(alloc, &matches, "network")?,
+        base: value_of(alloc, &matches, "base")?,
+        journal: value_of(alloc, &matches, "journal")?,
+        trains: value_of(alloc, &matches, "trains")?,
+    })
+}
+
+/// The values of the options of `demo`.
+#[derive(Debug, Drop)]
+pub struct DemoTexts {
+    pub number: Text,
+    pub out: Text,
+}
+
+/// Hands `demo` with these options to `clap`, and takes its values back.
+pub fn parse_demo(alloc: Global, number: &str, out: &str) -> Result<DemoTexts, NoMemory>
+    ensures number { IfOk result (λ texts. texts.number ≡ number.now) }
+    ensures out { IfOk result (λ texts. texts.out ≡ out.now) }
+{
+    let command = demo_command(alloc)?;
+    let words = [
+        String::from_str(alloc, "demo")?,
+        joined(alloc, "number", number)?,
+        joined(alloc, "out", out)?,
+    ];
+    let matches = parse(command, words.as_slice())?;
+    Ok(DemoTexts {
+        number: value_of(alloc, &matches, "number")?,
+        out: value_of(alloc, &matches, "out")?,
+    })
+}
+
+// The command `list`.
+fn list_command<'a>(alloc: Global) -> Result<Command<'a>, NoMemory>
+    ensures { IfOk result (λ command. app_of command ≡ list_app) }
+{
+    let network = required(alloc, "network");
+    let out = required(alloc, "out");
+    let command = Command::new(alloc, "list")
+        .disable_help_flag(true)
+        .arg(network)?
+        .arg(out)?;
+    Ok(command)
+}
+
+// A command over a network, a base timetable and a journal.
+fn journal_command<'a>(alloc: Global, name: &'a str) -> Result<Command<'a>, NoMemory>
+    ensures { IfOk result (λ command. app_of command ≡ journal_app name.now) }
+{
+    let network = required(alloc, "network");
+    let base = required(alloc, "base");
+    let journal = required(alloc, "journal");
+    let command = Command::new(alloc, name)
+        .disable_help_flag(true)
+        .arg(network)?
+        .arg(base)?
+        .arg(journal)?;
+    Ok(command)
+}
+
+// The command `init` of a journal that is moved.
+fn move_command<'a>(alloc: Global) -> Result<Command<'a>, NoMemory>
+    ensures { IfOk result (λ command. app_of command ≡ move_app) }
+{
+    let from = required(alloc, "from");
+    let command = journal_command(alloc, "init")?.arg(from)?;
+    Ok(command)
+}
+
+// The command `stairs`.
+fn stairs_command<'a>(alloc: Global) -> Result<Command<'a>, NoMemory>
+    ensures { IfOk result (λ command. app_of command ≡ stairs_app) }
+{
+    let entry = required(alloc, "entry");
+    let out = required(alloc, "out");
+    let command = journal_command(alloc, "stairs")?.arg(entry)?.arg(out)?;
+    Ok(command)
+}
+
+// The command `capacity`.
+fn capacity_command<'a>(alloc: Global) -> Result<Command<'a>, NoMemory>
+    ensures { IfOk result (λ command. app_of command ≡ capacity_app) }
+{
+    let first = required(alloc, "first");
+    let last = required(alloc, "last");
+    let from = required(alloc, "from");
+    let to = required(alloc, "to");
+    let out = required(alloc, "out");
+    let command = journal_command(alloc, "capacity")?
+        .arg(first)?
+        .arg(last)?
+        .arg(from)?
+        .arg(to)?
+        .arg(out)?;
+    Ok(command)
+}
+
+// The command `serve`.
+fn serve_command<'a>(alloc: Global) -> Result<Command<'a>, NoMemory>
+    ensures { IfOk result (λ command. app_of command ≡ serve_app) }
+{
+    let trains = required(alloc, "trains");
+    let command = journal_command(alloc, "serve")?.arg(trains)?;
+    Ok(command)
+}
+
+// The command `demo`.
+fn demo_command<'a>(alloc: Global) -> Result<Command<'a>, NoMemory>
+    ensures { IfOk result (λ command. app_of command ≡ demo_app) }
+{
+    let number = required(alloc, "number");
+    let out = required(alloc, "out");
+    let command = Command::new(alloc, "demo")
+        .disable_help_flag(true)
+        .arg(number)?
+        .arg(out)?;
+    Ok(command)
+}

@@ -1,0 +1,12 @@
+//! The options of the server's commands that stand once, handed to `clap` in one form and in one order, and taken back.
+#![tactic(auto)]
+
+mod commands;
+mod names;
+mod parsing;
+
+pub use commands::{
+    CapacityTexts, DemoTexts, InitTexts, ListTexts, MoveTexts, ServeTexts, StairsTexts,
+    parse_capacity, parse_demo, parse_init, parse_list, parse_move, parse_serve, parse_stairs,
+};
+pub use names::{FileNames, StretchWords};

@@ -1,0 +1,4 @@
+pub mod Clients
+pub mod Ruled
+pub mod Told
+pub mod Wishes

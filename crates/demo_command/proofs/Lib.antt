@@ -1,0 +1,11 @@
+pub mod Drawing
+pub mod Sound
+pub mod Empty
+pub mod Plain
+pub mod Beginnings
+pub mod Counted
+pub mod Decided
+pub mod Fronts
+pub mod Planned
+pub mod Holding
+pub mod Shown

@@ -1,0 +1,188 @@
+-- A line that frees an entry, answered behind a turn that looked.
+use Rattle.std.proofs.Common.{◌≡◌, ◌≢◌, ℕ, ◌+◌, ◌<◌, All, List, [], ◌∷◌, ◌++◌, Option, length, ap, sym, ◌∙◌, refl, arith, append_assoc, length-append}
+use Rattle.std.proofs.lemmas.List.Elements.{All-cons}
+use mathlib.Core.Logic.{inl, ⊎_elim}
+use Rattle.book_gate.specs.declared.views.Turn.{Turn}
+use Rattle.book_gate.specs.Views.{StartsWith, own}
+use Rattle.client_lines.specs.Cuts.{fields_of}
+use Rattle.client_lines.specs.Forms.{Spells}
+use Rattle.client_lines.specs.Lines.{a_line}
+use Rattle.client_lines.specs.declared.asks.Ask.TheVariants as asks
+use Rattle.client_lines.specs.declared.asks.Line.{Line}
+use Rattle.rail_types.specs.declared.entries.Entry.{Entry}
+use Rattle.reply_texts.specs.declared.replies.Reply.{Reply}
+use Rattle.reply_texts.specs.declared.replies.Reply.TheVariants as reply
+use Rattle.client_turns.specs.Turns.{Looks, Sight}
+use Rattle.line_answers.specs.Answers.{Caller, Gives, GivesLine, IsReached}
+use Rattle.line_answers.specs.Callers.{AnswersLine}
+use Rattle.line_answers.specs.Calls.{AnswersBetween, EndInFault, HasTurns, IsSettled, IsToldIn, IsTurnOf, LastFound, Settle}
+use Rattle.line_answers.specs.Points.{unsettled_by}
+use Rattle.line_answers.specs.Rules.{IsReadAs}
+use Rattle.line_answers.proofs.Calls.{its_turn, positions_none}
+use Rattle.line_answers.proofs.Many.{looked_turn, starts_trans, turn_longer}
+use Rattle.line_answers.proofs.Told.{its_line}
+
+last_behind : (t : Turn) (turns : List Turn) (n : ℕ) → LastFound turns n
+    → (turns ≡ [] → t.found.entries ≡ n) → LastFound (t ∷ turns) n
+last_behind t [] n last none = none refl
+last_behind t (u ∷ us) n last none = last
+
+module _ (caller : Caller) (after : Option ℕ) (number freed : ℕ) where
+  abbrev line : Line
+  line = record { after = after; ask = asks.Free number freed }
+
+  module _ (h h' g left : List Entry) (reached : IsReached (record { after = after; ask = asks.Free number freed }) h)
+      (more : StartsWith h' h) where
+    below : (named : ℕ) → length h' < named → length h < named
+    below named less =
+        let long : length h' ≡ length h + length more.0 = ap length more.1 ∙ length-append h more.0 in omega arith
+
+    -- what the line is given behind a later turn is given to it behind an earlier one
+    earlier : (told : Reply) → Gives caller (record { after = after; ask = asks.Free number freed }) told h' g left
+        → Gives caller (record { after = after; ask = asks.Free number freed }) told h g left
+    earlier (reply.Held number at front) gives = absurd gives.0
+    earlier (reply.Pinned number at front) gives = absurd gives.0
+    earlier (reply.Granted number at front runs) gives = absurd gives.2.sought
+    earlier (reply.Freed number at freed front) gives = (gives.0, reached, gives.2)
+    earlier (reply.Kept number at front deed) gives = (reached, gives.1, gives.2, gives.3, gives.4)
+    earlier (reply.Shown at front entry freer) gives = (gives.0, reached, gives.2, gives.3, gives.4)
+    earlier (reply.Front front) gives = (gives.0, reached, gives.2)
+    earlier (reply.Bad field) gives = absurd gives
+    earlier (reply.Denied number rule front) gives = absurd gives.1
+    earlier (reply.Ahead named front) gives = (gives.0, below named gives.1, gives.2, gives.3)
+    earlier (reply.Other number at front) gives = (reached, gives.1, gives.2, gives.3)
+    earlier (reply.Gone number at freer front) gives = (reached, gives.1, gives.2, gives.3)
+    earlier (reply.Taken number zone owner front) gives = ⊎_elim (λ hold. absurd hold) (λ pin. absurd pin) gives.0
+    earlier (reply.Breaks number run rule front) gives = absurd gives.0
+    earlier (reply.NoPath number front) gives = absurd gives.1.sought
+    earlier (reply.Again number at searched front) gives = absurd gives.1.sought
+    earlier (reply.Unknown at front) gives = (reached, gives.1, gives.2)
+    earlier (reply.NotYours number at owner front) gives = (gives.0, reached, gives.2, gives.3)
+    earlier (reply.AlreadyFreed number at freer front) gives = (gives.0, reached, gives.2, gives.3)
+    earlier (reply.Wide number front) gives = absurd gives.1
+    earlier (reply.Full number front) gives = (reached, (λ may. absurd may), gives.2, gives.3, gives.4, gives.5)
+    earlier (reply.Unsettled number at front) gives = (reached, (λ may. absurd may), gives.2, gives.3)
+    earlier reply.DiskFault gives = gives
+    earlier reply.NoMemory gives = gives
+
+  -- what a reply says of its turns, it says of them with one before that settled all
+  record Behind (bytes : List ℕ) (told : Reply) (t : Turn) (turns : List Turn) (h g left : List Entry) : Type 0 where
+    gives : GivesLine caller bytes told h g left
+    same : turns ≡ [] → left ≡ g
+    settle : Settle told (t ∷ turns)
+    has_turns : HasTurns told (t ∷ turns)
+
+  module _ (bytes : List ℕ) (read : IsReadAs caller.known bytes (record { after = after; ask = asks.Free number freed }))
+      (h h' g left : List Entry) (reached : IsReached (record { after = after; ask = asks.Free number freed }) h)
+      (more : StartsWith h' h) (t : Turn) (turns : List Turn) (settled : IsSettled t) where
+    some_turn : t ∷ turns ≢ []
+    some_turn none = let wrong = ap length none in absurd (omega arith)
+
+    all_settled : All IsSettled turns → All IsSettled (t ∷ turns)
+    all_settled all = All-cons IsSettled t turns settled all
+
+    in_fault : EndInFault turns → EndInFault (t ∷ turns)
+    in_fault ends = record {
+      before = t ∷ ends.before;
+      last = ends.last;
+      turns_are = ap (λ ts. t ∷ ts) ends.turns_are;
+      settled = All-cons IsSettled t ends.before settled ends.settled;
+      rose = ends.rose;
+    }
+
+    abbrev Its : Reply → Type 0
+    Its told = Behind bytes told t turns h g left
+
+    given : (told : Reply)
+        → (said : Line) × Spells (a_line caller.known) (fields_of bytes) said × Gives caller said told h' g left
+        → (said : Line) × Spells (a_line caller.known) (fields_of bytes) said × Gives caller said told h g left
+    given told gives =
+        (line, read.spells, earlier h h' g left reached more told (its_line caller line h' g left bytes read told gives))
+
+    behind : (told : Reply) → GivesLine caller bytes told h' g left → Settle told turns → HasTurns told turns
+        → Behind bytes told t turns h g left
+    behind (reply.Held number at front) gives settle has =
+        record { gives = given (reply.Held number at front) gives; same = λ none. absurd (has none); settle = all_settled settle; has_turns = some_turn }
+    behind (reply.Pinned number at front) gives settle has =
+        record { gives = given (reply.Pinned number at front) gives; same = λ none. absurd (has none); settle = all_settled settle; has_turns = some_turn }
+    behind (reply.Granted number at front runs) gives settle has =
+        record { gives = given (reply.Granted number at front runs) gives; same = λ none. absurd (has none); settle = all_settled settle; has_turns = some_turn }
+    behind (reply.Freed number at freed front) gives settle has =
+        record { gives = given (reply.Freed number at freed front) gives; same = λ none. absurd (has none); settle = all_settled settle; has_turns = some_turn }
+    behind (reply.Kept number at front deed) gives settle has =
+        record { gives = given (reply.Kept number at front deed) gives; same = λ none. absurd (has none); settle = all_settled settle; has_turns = some_turn }
+    behind (reply.Shown at front entry freer) gives settle has =
+        record { gives = given (reply.Shown at front entry freer) gives; same = λ none. absurd (has none); settle = all_settled settle; has_turns = some_turn }
+    behind (reply.Front front) gives settle has =
+        record { gives = given (reply.Front front) gives; same = λ none. absurd (has none); settle = all_settled settle; has_turns = some_turn }
+    behind (reply.Bad field) gives settle has = absurd (read.right field gives.0)
+    behind (reply.Denied number rule front) gives settle has =
+        record { gives = given (reply.Denied number rule front) gives; same = λ none. absurd (has none); settle = all_settled settle; has_turns = some_turn }
+    behind (reply.Ahead named front) gives settle has =
+        record { gives = given (reply.Ahead named front) gives; same = λ none. absurd (has none); settle = all_settled settle; has_turns = some_turn }
+    behind (reply.Other number at front) gives settle has =
+        record { gives = given (reply.Other number at front) gives; same = λ none. absurd (has none); settle = all_settled settle; has_turns = some_turn }
+    behind (reply.Gone number at freer front) gives settle has =
+        record { gives = given (reply.Gone number at freer front) gives; same = λ none. absurd (has none); settle = all_settled settle; has_turns = some_turn }
+    behind (reply.Taken number zone owner front) gives settle has =
+        record { gives = given (reply.Taken number zone owner front) gives; same = λ none. absurd (has none); settle = all_settled settle; has_turns = some_turn }
+    behind (reply.Breaks number run rule front) gives settle has =
+        record { gives = given (reply.Breaks number run rule front) gives; same = λ none. absurd (has none); settle = all_settled settle; has_turns = some_turn }
+    behind (reply.NoPath number front) gives settle has =
+        record { gives = given (reply.NoPath number front) gives; same = λ none. absurd (has none); settle = all_settled settle; has_turns = some_turn }
+    behind (reply.Again number at searched front) gives settle has =
+        record { gives = given (reply.Again number at searched front) gives; same = λ none. absurd (has none); settle = all_settled settle; has_turns = some_turn }
+    behind (reply.Unknown at front) gives settle has =
+        record { gives = given (reply.Unknown at front) gives; same = λ none. absurd (has none); settle = all_settled settle; has_turns = some_turn }
+    behind (reply.NotYours number at owner front) gives settle has =
+        record { gives = given (reply.NotYours number at owner front) gives; same = λ none. absurd (has none); settle = all_settled settle; has_turns = some_turn }
+    behind (reply.AlreadyFreed number at freer front) gives settle has =
+        record { gives = given (reply.AlreadyFreed number at freer front) gives; same = λ none. absurd (has none); settle = all_settled settle; has_turns = some_turn }
+    behind (reply.Wide number front) gives settle has =
+        record { gives = given (reply.Wide number front) gives; same = λ none. absurd (has none); settle = all_settled settle; has_turns = some_turn }
+    behind (reply.Full number front) gives settle has =
+        record { gives = given (reply.Full number front) gives; same = λ none. absurd (has none); settle = all_settled settle; has_turns = some_turn }
+    behind (reply.Unsettled number at front) gives settle has =
+        record { gives = given (reply.Unsettled number at front) gives; same = λ none. absurd (has none); settle = in_fault settle; has_turns = some_turn }
+    behind reply.DiskFault gives settle has =
+        record { gives = given reply.DiskFault gives; same = λ none. absurd (has none); settle = in_fault settle; has_turns = some_turn }
+    behind reply.NoMemory gives settle has =
+        record { gives = gives; same = λ none. gives; settle = all_settled settle; has_turns = tt }
+
+  -- a line answered behind a turn that looked is answered by both together
+  pub look_first : (v u w : Sight) → Looks v u
+      → IsReached (record { after = after; ask = asks.Free number freed }) u.found.list → (told : Reply)
+      → AnswersLine caller (record { after = after; ask = asks.Free number freed }) told u w
+      → AnswersLine caller (record { after = after; ask = asks.Free number freed }) told v w
+  look_first v u w looks reached told answers bytes read =
+      let b : AnswersBetween caller bytes told u w = answers bytes read in
+      let so = b.answers in
+      let t : Turn = its_turn caller bytes v u (length u.seen) in
+      let h : List Entry = u.found.list in
+      let later : StartsWith b.h h = starts_trans b.h u.seen h b.goes_on looks.takes.keeps in
+      let all : StartsWith w.seen u.seen =
+      starts_trans w.seen b.g u.seen b.keeps (starts_trans b.g b.h u.seen so.later b.goes_on) in
+      let is = behind bytes read h b.h b.g w.seen reached later t b.turns refl told so.gives so.settle so.turns_are in
+      record {
+        turns = t ∷ b.turns;
+        h = h;
+        g = b.g;
+        taken = b.taken ∙ ap (λ ts. ts ++ b.turns) looks.takes.turns ∙ append_assoc v.turns (t ∷ []) b.turns;
+        share = b.share ∙ looks.takes.share;
+        goes_on = looks.takes.goes_on;
+        keeps = b.keeps;
+        still = λ none. let wrong = ap length none in absurd (omega arith);
+        answers = record {
+          gives = is.gives;
+          first = refl;
+          last = last_behind t b.turns (length b.g) so.last
+              (λ none. ap length (sym looks.same ∙ sym (b.still none) ∙ is.same none));
+          later = starts_trans b.g b.h h so.later later;
+          own_entries = ap (λ l. l ++ own b.turns) (positions_none h u.seen looks.same) ∙ so.own_entries;
+          events = All-cons (IsTurnOf caller w.seen) t b.turns
+              (turn_longer caller w.seen u.seen all t (looked_turn caller bytes v u looks)) so.events;
+          in_step = All-cons (IsToldIn (unsettled_by told)) t b.turns (inl refl) so.in_step;
+          settle = is.settle;
+          turns_are = is.has_turns;
+        };
+      }

@@ -1,0 +1,48 @@
+use Rattle.std.proofs.Common.{rules as all_rules, ap, ◌≡◌, List, None, Option, Some, sym, ◌∙◌, subst}
+use Rattle.admission_rules.specs.declared.rules.Wish.{Wish}
+use Rattle.book_gate.specs.Passes.{view}
+use Rattle.client_rules.specs.Ruled.{Ruled, denied_by, stand}
+use Rattle.client_turns.specs.Turns.{Sight}
+use Rattle.line_answers.specs.Answers.{Caller}
+use Rattle.line_answers.specs.Callers.{caller_of}
+use Rattle.line_answers.specs.Points.{added}
+use Rattle.line_answers.specs.Rules.{told_grant}
+use Rattle.line_answers.proofs.Told.{denied_may, untold_by, wished_told}
+use Rattle.line_answers.proofs.rules.answer_wished.Goals as goal
+
+pub returns-in-Some-clause-told : goal.returns-in-Some-clause-told
+returns-in-Some-clause-told g c bytes read =
+    sym (untold_by (view c.deny.new.pass).seen c.deny.result c.deny.ensures.none (stand g.L.Rule c.args.rules.now))
+
+pub returns-clause-told : goal.returns-clause-told
+returns-clause-told g c bytes read =
+    let rules : List Ruled = stand g.L.Rule c.args.rules.now in
+    let caller : Caller = caller_of c.args.shared.now rules c.args.client.now.name c.args.line_number in
+    let v : Sight = view c.args.pass.now in let w : Sight = view c.answer_line-reply.new.pass in
+    let new : List Ruled = stand g.L.Rule c.tell_of_grant.new.rules in
+    let none : c.first_denial.result ≡ None = search all_rules in
+    let allowed = ap (denied_by rules) (sym c.wish_of_line-wish.ensures) ∙ sym c.first_denial.ensures ∙ none in
+    let told = subst (λ (wish : Option Wish). new ≡ told_grant (added c.answer_line-reply.result) wish rules) c.wish_of_line-wish.ensures c.tell_of_grant.ensures in
+    wished_told caller c.args.line bytes read c.answer_line-reply.result v w
+    (c.answer_line-reply.ensures.answers rules allowed bytes read) c.requires.no_free rules new told
+
+pub returns-clause-answers : goal.returns-clause-answers
+returns-clause-answers g c =
+    let rules : List Ruled = stand g.L.Rule c.args.rules.now in
+    let none : c.first_denial.result ≡ None = search all_rules in
+    c.answer_line-reply.ensures.answers rules
+    (ap (denied_by rules) (sym c.wish_of_line-wish.ensures) ∙ sym c.first_denial.ensures ∙ none)
+
+pub returns-in-Some-clause-answers : goal.returns-in-Some-clause-answers
+returns-in-Some-clause-answers g c =
+    let rules : List Ruled = stand g.L.Rule c.args.rules.now in
+    let some : c.first_denial.result ≡ Some c.in-Some.rule = search all_rules in
+    c.deny.ensures.answers rules
+    (ap (denied_by rules) (sym c.wish_of_line-wish.ensures) ∙ sym c.first_denial.ensures ∙ some)
+
+pub deny-requires-clause-may : goal.deny-requires-clause-may
+deny-requires-clause-may g c =
+    let rules : List Ruled = stand g.L.Rule c.args.rules.now in
+    let some : c.first_denial.result ≡ Some c.in-Some.rule = search all_rules in
+    denied_may rules c.args.line.ask c.in-Some.rule
+    (ap (denied_by rules) (sym c.wish_of_line-wish.ensures) ∙ sym c.first_denial.ensures ∙ some)

@@ -1,0 +1,425 @@
+//! What the rules of a client say to a line, and what they are told by its reply.
+ghost use Rattle.std.specs.Prelude.{◌≡◌, ◌+◌, ◌⊎◌, ◌≤◌, ◌<◌, [], length};
+ghost use Rattle.book_gate.specs.Passes.{turns_left, view};
+ghost use Rattle.client_lines.specs.Within.{IsAskWithin};
+ghost use Rattle.client_lines.specs.declared.asks.Ask.TheVariants.{Free as free_of};
+ghost use Rattle.client_lines.specs.declared.asks.Line.{Line as line_type};
+ghost use Rattle.client_rules.specs.Ruled.{stand};
+ghost use Rattle.rail_types.specs.Limits.{IsClientName};
+ghost use Rattle.reply_texts.specs.Rooms.{IsBehindEntry, room_for};
+ghost use Rattle.client_turns.specs.Clients.{Knows};
+ghost use Rattle.client_turns.specs.Turns.{IsReady, timetable_at};
+ghost use Rattle.line_answers.specs.Answers.{MayBeDenied};
+ghost use Rattle.line_answers.specs.Asked.{HasRoomIn};
+ghost use Rattle.line_answers.specs.Callers.{AnswersDenied, AnswersLine, caller_of};
+ghost use Rattle.line_answers.specs.Points.{added};
+ghost use Rattle.line_answers.specs.Rules.{IsNoFree, IsSentWith, TellsLine, is_some_added, told_free, told_grant, wished};
+ghost use Rattle.line_answers.specs.Sharing.{IsShared};
+ghost use Rattle.line_answers.specs.Tells.{AddsNothing};
+
+use crate::answers::answer_line;
+use crate::asks::deed_of;
+use crate::replies::{halted, number_told};
+use crate::shared::Shared;
+use crate::words::free;
+use admission_rules::{Rule, Wish};
+use book_gate::Pass;
+use byte_fields::Buffer;
+use client_lines::{Ask, Line};
+use client_rules::{asked_wish, first_denial, given_wish, tell_freed, tell_granted, wish_of};
+use client_turns::{Client, find_again, show};
+use outside_io::{Between, Disk};
+use path_commit::Book;
+use rail_types::{Deed, Wanted};
+use reply_texts::Reply;
+use rule_names::RuleName;
+use std::alloc::Global;
+use std::sync::Wait;
+
+// Answers a line that was read. A client without rules takes no turn for them.
+pub(crate) fn answer_ruled<R: Wait, L: Rule, D: Disk, B: Between>(
+    rt: &R,
+    alloc: Global,
+    shared: &Shared<D>,
+    pass: &mut Pass<Book<D>>,
+    client: &mut Client,
+    rules: &mut [L],
+    line_number: u32,
+    line: Line,
+    text: &mut Buffer,
+    between: &mut B,
+) -> Reply
+    requires ready { IsReady shared.now.gate pass.old }
+    requires budget { 4 ≤ turns_left pass.old }
+    requires knows { Knows (timetable_at shared.now.gate) client.old (view pass.old).seen }
+    requires name { IsClientName client.old.name }
+    requires shared { IsShared shared.now }
+    requires within { IsAskWithin (timetable_at shared.now.gate).net line.ask }
+    requires spare { room_for 0 ≤ text.old.spare }
+    ensures ready { IsReady shared.now.gate pass.new }
+    ensures budget { turns_left pass.old ≤ turns_left pass.new + 4 }
+    ensures name { client.new.name ≡ client.old.name }
+    ensures knows { Knows (timetable_at shared.now.gate) client.new (view pass.new).seen }
+    ensures answers { AnswersLine
+        (caller_of shared.now (stand L.Rule rules.old) client.old.name line_number)
+        line result (view pass.old) (view pass.new) }
+    ensures told { TellsLine shared.now.known line (view pass.new).seen result
+        (stand L.Rule rules.old) (stand L.Rule rules.new) }
+    ensures held { text.new.held ≡ text.old.held }
+    ensures room { HasRoomIn text.new result ⊎ AddsNothing result }
+{
+    if rules.is_empty() {
+        return answer_line(
+            rt,
+            alloc,
+            shared,
+            pass,
+            client,
+            line_number,
+            line,
+            text,
+            between,
+        );
+    }
+    let Line { after, ask } = line;
+    match ask {
+        Ask::Free(number, freed) => free_ruled(
+            rt,
+            alloc,
+            shared,
+            pass,
+            client,
+            rules,
+            line_number,
+            after,
+            number,
+            freed,
+        ),
+        ask => answer_wished(
+            rt,
+            alloc,
+            shared,
+            pass,
+            client,
+            rules,
+            line_number,
+            Line { after, ask },
+            text,
+            between,
+        ),
+    }
+}
+
+// Answers a line that frees nothing: the rules are asked before, and told behind a grant.
+fn answer_wished<R: Wait, L: Rule, D: Disk, B: Between>(
+    rt: &R,
+    alloc: Global,
+    shared: &Shared<D>,
+    pass: &mut Pass<Book<D>>,
+    client: &mut Client,
+    rules: &mut [L],
+    line_number: u32,
+    line: Line,
+    text: &mut Buffer,
+    between: &mut B,
+) -> Reply
+    requires ready { IsReady shared.now.gate pass.old }
+    requires budget { 4 ≤ turns_left pass.old }
+    requires knows { Knows (timetable_at shared.now.gate) client.old (view pass.old).seen }
+    requires name { IsClientName client.old.name }
+    requires shared { IsShared shared.now }
+    requires within { IsAskWithin (timetable_at shared.now.gate).net line.ask }
+    requires spare { room_for 0 ≤ text.old.spare }
+    requires no_free { IsNoFree line.ask }
+    ensures ready { IsReady shared.now.gate pass.new }
+    ensures budget { turns_left pass.old ≤ turns_left pass.new + 4 }
+    ensures name { client.new.name ≡ client.old.name }
+    ensures knows { Knows (timetable_at shared.now.gate) client.new (view pass.new).seen }
+    ensures answers { AnswersLine
+        (caller_of shared.now (stand L.Rule rules.old) client.old.name line_number)
+        line result (view pass.old) (view pass.new) }
+    ensures told { TellsLine shared.now.known line (view pass.new).seen result
+        (stand L.Rule rules.old) (stand L.Rule rules.new) }
+    ensures held { text.new.held ≡ text.old.held }
+    ensures room { HasRoomIn text.new result ⊎ AddsNothing result }
+{
+    let wish = wish_of_line(&line.ask);
+    if let Some(rule) = first_denial(rules, &wish) {
+        return deny(rt, alloc, shared, pass, client, line_number, line, rule);
+    }
+    let reply = answer_line(
+        rt,
+        alloc,
+        shared,
+        pass,
+        client,
+        line_number,
+        line,
+        text,
+        between,
+    );
+    tell_of_grant(rules, &wish, &reply);
+    reply
+}
+
+// What is wished by a line.
+fn wish_of_line(ask: &Ask) -> Option<Wish>
+    ensures { result ≡ wished ask.now }
+{
+    match ask {
+        Ask::Pin(_number, path) => given_wish(path),
+        Ask::Path(_number, request) => Some(asked_wish(request)),
+        Ask::Hold(_number, _claims, _reason) => None,
+        Ask::Free(_number, _freed) => None,
+        Ask::Show(_at) => None,
+        Ask::Front => None,
+    }
+}
+
+// Whether a reply tells an own entry.
+fn adds_entry(reply: &Reply) -> bool
+    ensures { result ≡ is_some_added (added reply.now) }
+{
+    match reply {
+        Reply::Held { .. }
+        | Reply::Pinned { .. }
+        | Reply::Granted { .. }
+        | Reply::Freed { .. }
+        | Reply::Unsettled { .. } => true,
+        _ => false,
+    }
+}
+
+// Tells the rules that what was wished was granted, where the reply tells an own entry.
+fn tell_of_grant<L: Rule>(rules: &mut [L], wish: &Option<Wish>, reply: &Reply)
+    ensures { stand L.Rule rules.new
+        ≡ told_grant (added reply.now) wish.now (stand L.Rule rules.old) }
+{
+    if adds_entry(reply) {
+        tell_granted(rules, wish);
+    }
+}
+
+// Tells the rules that what had been granted was freed, where the reply tells an own entry.
+fn tell_of_free<L: Rule>(rules: &mut [L], wish: &Option<Wish>, reply: &Reply)
+    ensures { stand L.Rule rules.new
+        ≡ told_free (added reply.now) wish.now (stand L.Rule rules.old) }
+{
+    if adds_entry(reply) {
+        tell_freed(rules, wish);
+    }
+}
+
+// Tells what the number of a line stands for that a rule denies, and where it is new, that rule.
+fn deny<R: Wait, D: Disk>(
+    rt: &R,
+    alloc: Global,
+    shared: &Shared<D>,
+    pass: &mut Pass<Book<D>>,
+    client: &mut Client,
+    line_number: u32,
+    line: Line,
+    rule: RuleName,
+) -> Reply
+    requires ready { IsReady shared.now.gate pass.old }
+    requires budget { 1 ≤ turns_left pass.old }
+    requires knows { Knows (timetable_at shared.now.gate) client.old (view pass.old).seen }
+    requires name { IsClientName client.old.name }
+    requires may { MayBeDenied line.ask }
+    ensures ready { IsReady shared.now.gate pass.new }
+    ensures budget { turns_left pass.old ≤ turns_left pass.new + 1 }
+    ensures name { client.new.name ≡ client.old.name }
+    ensures knows { Knows (timetable_at shared.now.gate) client.new (view pass.new).seen }
+    ensures answers { AnswersDenied shared.now client.old.name line_number line rule result
+        (view pass.old) (view pass.new) }
+    ensures none { added result ≡ [] }
+    ensures short { IsBehindEntry 0 result ⊎ AddsNothing result }
+{
+    let Line { after, ask } = line;
+    match ask {
+        Ask::Pin(number, path) => {
+            let deed = Deed::Grant(Wanted::Pinned, path);
+            deny_deed(
+                rt,
+                alloc,
+                shared,
+                pass,
+                client,
+                line_number,
+                after,
+                number,
+                &deed,
+                rule,
+            )
+        }
+        Ask::Path(number, request) => {
+            let Ok(deed) = deed_of(alloc, &request) else {
+                return Reply::NoMemory;
+            };
+            deny_deed(
+                rt,
+                alloc,
+                shared,
+                pass,
+                client,
+                line_number,
+                after,
+                number,
+                &deed,
+                rule,
+            )
+        }
+        _ => unreachable!(),
+    }
+}
+
+// The same of a line with this number and deed.
+fn deny_deed<R: Wait, D: Disk>(
+    rt: &R,
+    alloc: Global,
+    shared: &Shared<D>,
+    pass: &mut Pass<Book<D>>,
+    client: &mut Client,
+    line_number: u32,
+    after: Option<u64>,
+    number: u64,
+    deed: &Deed,
+    rule: RuleName,
+) -> Reply
+    requires ready { IsReady shared.now.gate pass.old }
+    requires budget { 1 ≤ turns_left pass.old }
+    requires knows { Knows (timetable_at shared.now.gate) client.old (view pass.old).seen }
+    requires name { IsClientName client.old.name }
+    ensures ready { IsReady shared.now.gate pass.new }
+    ensures budget { turns_left pass.old ≤ turns_left pass.new + 1 }
+    ensures name { client.new.name ≡ client.old.name }
+    ensures knows { Knows (timetable_at shared.now.gate) client.new (view pass.new).seen }
+    ensures answers { (line : line_type) → IsSentWith line after number deed.now
+        → AnswersDenied shared.now client.old.name line_number line rule result
+        (view pass.old) (view pass.new) }
+    ensures none { added result ≡ [] }
+    ensures short { IsBehindEntry 0 result ⊎ AddsNothing result }
+{
+    match find_again(rt, alloc, &shared.gate, pass, client, after, number, deed) {
+        Ok(None) => Reply::Denied {
+            number,
+            rule,
+            front: client.front(),
+        },
+        Ok(Some(told)) => number_told(number, told, client.front()),
+        Err(halt) => halted(halt),
+    }
+}
+
+// Frees an entry of a client with rules: what it had been granted is known before it is freed, so that the rules can be
+// told of it.
+fn free_ruled<R: Wait, L: Rule, D: Disk>(
+    rt: &R,
+    alloc: Global,
+    shared: &Shared<D>,
+    pass: &mut Pass<Book<D>>,
+    client: &mut Client,
+    rules: &mut [L],
+    line_number: u32,
+    after: Option<u64>,
+    number: u64,
+    freed: u64,
+) -> Reply
+    requires ready { IsReady shared.now.gate pass.old }
+    requires budget { 3 ≤ turns_left pass.old }
+    requires knows { Knows (timetable_at shared.now.gate) client.old (view pass.old).seen }
+    requires name { IsClientName client.old.name }
+    requires within { IsAskWithin (timetable_at shared.now.gate).net (free_of number freed) }
+    ensures ready { IsReady shared.now.gate pass.new }
+    ensures budget { turns_left pass.old ≤ turns_left pass.new + 3 }
+    ensures name { client.new.name ≡ client.old.name }
+    ensures knows { Knows (timetable_at shared.now.gate) client.new (view pass.new).seen }
+    ensures answers { AnswersLine
+        (caller_of shared.now (stand L.Rule rules.old) client.old.name line_number)
+        (record { after = after; ask = free_of number freed }) result
+        (view pass.old) (view pass.new) }
+    ensures told { TellsLine shared.now.known (record { after = after; ask = free_of number freed })
+        (view pass.new).seen result (stand L.Rule rules.old) (stand L.Rule rules.new) }
+    ensures short { IsBehindEntry 0 result ⊎ AddsNothing result }
+{
+    let deed = Deed::Free(freed);
+    match find_again(rt, alloc, &shared.gate, pass, client, after, number, &deed) {
+        Ok(None) => {
+            let front = client.front();
+            if front <= freed {
+                return Reply::Unknown {
+                    entry: freed,
+                    front,
+                };
+            }
+            free_found(
+                rt,
+                alloc,
+                shared,
+                pass,
+                client,
+                rules,
+                line_number,
+                after,
+                number,
+                freed,
+            )
+        }
+        Ok(Some(told)) => number_told(number, told, client.front()),
+        Err(halt) => halted(halt),
+    }
+}
+
+// Frees an entry behind a turn that found one there.
+fn free_found<R: Wait, L: Rule, D: Disk>(
+    rt: &R,
+    alloc: Global,
+    shared: &Shared<D>,
+    pass: &mut Pass<Book<D>>,
+    client: &mut Client,
+    rules: &mut [L],
+    line_number: u32,
+    after: Option<u64>,
+    number: u64,
+    freed: u64,
+) -> Reply
+    requires ready { IsReady shared.now.gate pass.old }
+    requires budget { 2 ≤ turns_left pass.old }
+    requires knows { Knows (timetable_at shared.now.gate) client.old (view pass.old).seen }
+    requires name { IsClientName client.old.name }
+    requires within { IsAskWithin (timetable_at shared.now.gate).net (free_of number freed) }
+    requires stands { freed < length (view pass.old).seen }
+    ensures ready { IsReady shared.now.gate pass.new }
+    ensures budget { turns_left pass.old ≤ turns_left pass.new + 2 }
+    ensures name { client.new.name ≡ client.old.name }
+    ensures knows { Knows (timetable_at shared.now.gate) client.new (view pass.new).seen }
+    ensures answers { AnswersLine
+        (caller_of shared.now (stand L.Rule rules.old) client.old.name line_number)
+        (record { after = after; ask = free_of number freed }) result
+        (view pass.old) (view pass.new) }
+    ensures told { TellsLine shared.now.known (record { after = after; ask = free_of number freed })
+        (view pass.new).seen result (stand L.Rule rules.old) (stand L.Rule rules.new) }
+    ensures short { IsBehindEntry 0 result ⊎ AddsNothing result }
+{
+    match show(rt, alloc, &shared.gate, pass, client, after, freed) {
+        Ok(Some(standing)) => {
+            let wish = wish_of(&standing.entry.deed);
+            let reply = free(
+                rt,
+                alloc,
+                shared,
+                pass,
+                client,
+                line_number,
+                after,
+                number,
+                freed,
+            );
+            tell_of_free(rules, &wish, &reply);
+            reply
+        }
+        // The entry stood there in the turn before.
+        Ok(None) => unreachable!(),
+        Err(halt) => halted(halt),
+    }
+}

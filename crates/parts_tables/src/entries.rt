@@ -1,0 +1,58 @@
+//! Entries, as a table's lines tell them.
+
+use crate::railway::{asked, path};
+use crate::words::{first_word, no_memory, not_understood, number_of, small_of, tick_of};
+use no_memory::NoMemory;
+use rail_types::{Claim, Deed, Entry, List, Name, Span, Wanted};
+use std::alloc::Global;
+use std::io;
+
+/// An entry: its owner, its number, and `hold ZONE FROM TO`, `ask DEPART`, `pin DEPART` or `free AT`.
+pub fn entry_of(alloc: Global, line: &str) -> io::Result<Entry> {
+    let (owner, rest) = first_word(line);
+    let (number, rest) = first_word(rest);
+    let (kind, rest) = first_word(rest);
+    let number = number_of(number)?;
+    let deed = match kind {
+        "hold" => hold_of(alloc, rest)?,
+        "ask" => grant(alloc, true, tick_of(rest)?).map_err(no_memory)?,
+        "pin" => grant(alloc, false, tick_of(rest)?).map_err(no_memory)?,
+        "free" => Deed::Free(number_of(rest)?),
+        _ => return Err(not_understood()),
+    };
+    let owner = Name::from_bytes(alloc, owner.as_bytes()).map_err(no_memory)?;
+    Ok(Entry {
+        owner,
+        number,
+        line: 1,
+        deed,
+    })
+}
+
+fn hold_of(alloc: Global, line: &str) -> io::Result<Deed> {
+    let (zone, rest) = first_word(line);
+    let (from, to) = first_word(rest);
+    let claim = Claim {
+        zone: small_of(zone)?,
+        span: Span {
+            from: tick_of(from)?,
+            to: tick_of(to)?,
+        },
+    };
+    hold(alloc, claim).map_err(no_memory)
+}
+
+fn hold(alloc: Global, claim: Claim) -> Result<Deed, NoMemory> {
+    let mut claims = List::new(alloc);
+    claims.push(claim)?;
+    Ok(Deed::Hold(claims, Name::from_bytes(alloc, b"")?))
+}
+
+fn grant(alloc: Global, is_asked: bool, depart: i64) -> Result<Deed, NoMemory> {
+    let wanted = if is_asked {
+        asked(alloc, depart)?
+    } else {
+        Wanted::Pinned
+    };
+    Ok(Deed::Grant(wanted, path(alloc, depart)?))
+}

@@ -1,0 +1,6 @@
+pub mod Texts
+pub mod Told
+pub mod Read
+pub mod Forms
+pub mod Lines
+pub mod Prints

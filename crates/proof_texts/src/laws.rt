@@ -1,0 +1,20 @@
+//! Laws of the texts of proofs, each on a function that calls other laws alone.
+
+ghost use Rattle.proof_texts.specs.Read.{AsksCanBeTold, ProofsAreReadOnce};
+
+use client_lines::asks_spell_requests;
+use name_text::names_are_spelled_once;
+
+/// No text begins with the texts of two proofs.
+pub fn proofs_are_read_once()
+    ensures { ProofsAreReadOnce }
+{
+    names_are_spelled_once();
+}
+
+/// What the line of a client asks for can be told in a proof.
+pub fn asks_can_be_told()
+    ensures { AsksCanBeTold }
+{
+    asks_spell_requests();
+}

@@ -1,0 +1,9 @@
+//! The admission rules of a command line: the words that spell them, and the clients whom they name.
+#![tactic(auto)]
+
+mod kinds;
+mod reading;
+mod ticks;
+
+pub use kinds::{MAX_RULE_NUMBER, RuleKind};
+pub use reading::{RuleWord, read_rule, read_rules};
