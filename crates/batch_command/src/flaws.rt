@@ -1,0 +1,59 @@
+//! Lists that are refused before a line is answered.
+
+ghost use Rattle.std.specs.Prelude.{◌≡◌, ◌≤◌, All, IfErr, IfOk, length};
+ghost use Rattle.batch_command.specs.Asked.{HasFlaw, IsAsked, MAX_WORKERS};
+ghost use Rattle.batch_server.specs.Names.{IsBatchName};
+ghost use Rattle.client_lines.specs.declared.lines.TheConstants.{MAX_LINE_BYTES};
+ghost use Rattle.line_sessions.specs.declared.sessions.TheConstants.{MAX_LINES};
+
+use batch_reports::{no_ask, number_twice, workers_needed};
+use batch_server::{needed_worker, worker_names};
+use client_lines::Known;
+use command_reports::Refusal;
+use grant_log::History;
+use list_lines::{first_no_ask, first_twice, numbers_of};
+use no_memory::NoMemory;
+use rail_types::Name;
+use std::alloc::Global;
+
+// Most workers of a batch.
+const MAX_WORKERS: u32 = 16;
+
+/// The numbers of the lines of a list, each of which asks for a path: all of them differ, and none stands in the history under
+/// the name of a worker that is not there. A flaw refuses, the first that applies.
+pub(crate) fn numbers_asked(
+    alloc: Global,
+    known: &Known,
+    batch: &Name,
+    workers: u32,
+    history: &History,
+    lines: &[Name],
+) -> Result<Vec<Option<u64>>, Refusal>
+    requires batch { IsBatchName batch.now }
+    requires few { workers ≤ MAX_WORKERS }
+    requires count { length lines.now ≤ MAX_LINES }
+    requires texts { All (λ line. length line ≤ MAX_LINE_BYTES) lines.now }
+    ensures asked { IfOk result (λ numbers. IsAsked known.now batch.now workers
+        history.now.entries lines.now numbers.items) }
+    ensures flaw { IfErr result (HasFlaw known.now batch.now workers
+        history.now.entries lines.now) }
+{
+    if let Some(line) = first_no_ask(lines) {
+        return Err(no_ask(alloc, line));
+    }
+    let Ok(numbers) = numbers_of(alloc, lines, known) else {
+        return Err(Refusal::Memory);
+    };
+    match first_twice(alloc, &numbers) {
+        Ok(None) => {}
+        Ok(Some(number)) => return Err(number_twice(alloc, number)),
+        Err(NoMemory) => return Err(Refusal::Memory),
+    }
+    let Ok(others) = worker_names(alloc, batch, workers + 1, MAX_WORKERS - workers) else {
+        return Err(Refusal::Memory);
+    };
+    if let Some(worker) = needed_worker(history, workers, &others, &numbers) {
+        return Err(workers_needed(alloc, worker));
+    }
+    Ok(numbers)
+}

@@ -1,0 +1,3 @@
+pub mod Writing
+pub mod Ends
+pub mod Flaws

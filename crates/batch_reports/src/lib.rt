@@ -1,0 +1,12 @@
+//! What `batch` writes and reports: the replies in the order of the list, how it ended and how many lines each worker
+//! answered, and the flaws for which a list is refused.
+#![tactic(auto)]
+
+mod ends;
+mod flaws;
+mod texts;
+mod writing;
+
+pub use ends::ends_of;
+pub use flaws::{list_stops, no_ask, number_twice, workers_needed};
+pub use writing::write_texts;

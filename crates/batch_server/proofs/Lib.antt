@@ -1,0 +1,5 @@
+pub mod Places
+pub mod Tables
+pub mod Clerking
+pub mod Leaving
+pub mod Shares
