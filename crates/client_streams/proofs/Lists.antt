@@ -3,7 +3,7 @@ use Rattle.std.proofs.Common.{◌≡◌, ◌∙◌, ◌++◌, ℕ, zero, suc, Li
 use Rattle.std.proofs.lemmas.List.{append_assoc, get_or_append_left, length-append}
 use Rattle.std.proofs.lemmas.List.Elements.{All-cons, All-head, All-nil, All-tail}
 use Rattle.outside_io.specs.Openings.{Opening, Opens as CallsOf}
-use Rattle.client_seats.specs.Runs.{AreMatched}
+use Rattle.request_server.specs.Runs.{AreMatched}
 
 module _ {X : Type 0} (P : X → Type 0) where
   pub all_left : (xs ys : List X) → All P (xs ++ ys) → All P xs

@@ -8,7 +8,7 @@ use Rattle.outside_io.proofs.Places.{Untouched-round}
 use Rattle.file_rounds.specs.Scenes.{Scene}
 use Rattle.command_reports.specs.Works.{Keeps, Misses}
 use Rattle.command_reports.proofs.Steps.{silent}
-use Rattle.client_seats.specs.Runs.{AreMatched}
+use Rattle.request_server.specs.Runs.{AreMatched}
 use Rattle.client_streams.specs.Clients.{client_calls, HadStreams, IsExchanged}
 use Rattle.client_streams.specs.Lending.{AreIn, AreOut, IsAsBefore, IsIn, IsOut}
 use Rattle.client_words.specs.declared.clients.ClientWord.{ClientWord}

@@ -4,5 +4,5 @@
 mod opening;
 mod returning;
 
-pub use opening::{open_clients, open_streams};
-pub use returning::{put_back_client, put_back_plans, put_back_sessions};
+pub use opening::open_clients;
+pub use returning::{put_back_plans, put_back_sessions};

@@ -76,28 +76,6 @@ fn open_client<O: Outside, L: Rule>(
     let Ok(rules) = take_rules(alloc, &name, all) else {
         return Err(Refusal::Memory);
     };
-    let (source, sink) = open_streams(alloc, client, outside)?;
-    Ok(Plan {
-        name,
-        source,
-        sink,
-        between: NoBetween,
-        rules,
-    })
-}
-
-/// Opens the source and the sink of a client. Where the sink cannot be opened, the source is put back as it was; a name that
-/// cannot be opened refuses, as `open: NAME`.
-pub fn open_streams<O: Outside>(
-    alloc: Global,
-    client: &ClientWord,
-    outside: &mut O,
-) -> Result<(O::Src, O::Snk), Refusal>
-    ensures out { IfOk result (λ streams. IsOut client.now streams
-        (scene O.Outside outside.old) (scene O.Outside outside.new)) }
-    ensures stopped { IfErr result (ClientStops client.now
-        (scene O.Outside outside.old) (scene O.Outside outside.new)) }
-{
     let input = client.input.as_str();
     let output = client.output.as_str();
     let Ok(source) = outside.source(input) else {
@@ -107,7 +85,13 @@ pub fn open_streams<O: Outside>(
         outside.put_back_source(input, source);
         return Err(not_opened(alloc, output));
     };
-    Ok((source, sink))
+    Ok(Plan {
+        name,
+        source,
+        sink,
+        between: NoBetween,
+        rules,
+    })
 }
 
 // A name could not be opened.

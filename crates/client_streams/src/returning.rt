@@ -55,8 +55,8 @@ pub fn put_back_sessions<O: Outside, L: Rule>(
     }
 }
 
-/// Puts back the source and the sink of a client.
-pub fn put_back_client<O: Outside>(client: &ClientWord, source: O::Src, sink: O::Snk, outside: &mut O)
+// Puts back the source and the sink of a client.
+fn put_back_client<O: Outside>(client: &ClientWord, source: O::Src, sink: O::Snk, outside: &mut O)
     ensures back { IsIn client.now (source, sink)
         (scene O.Outside outside.old) (scene O.Outside outside.new) }
 {

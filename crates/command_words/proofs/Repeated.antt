@@ -17,8 +17,7 @@ pub clients_under : (clients : List ClientWord) (rules : List RuleWord) → valu
 clients_under [] rules = no_clients rules
 clients_under (client ∷ clients) rules = ap (λ (texts : List Word). client_text client ∷ texts) (clients_under clients rules)
 
--- the rules' words stand under their option
-pub rules_alone : (rules : List RuleWord) → values_under (codes "rule") (map rule_setting rules) ≡ map rule_text rules
+rules_alone : (rules : List RuleWord) → values_under (codes "rule") (map rule_setting rules) ≡ map rule_text rules
 rules_alone [] = refl
 rules_alone (rule ∷ rules) = ap (λ (texts : List Word). rule_text rule ∷ texts) (rules_alone rules)
 
@@ -27,12 +26,11 @@ pub rules_under : (clients : List ClientWord) (rules : List RuleWord) → values
 rules_under [] rules = rules_alone rules
 rules_under (client ∷ clients) rules = rules_under clients rules
 
--- and under no other
-pub no_rules : (option : List ℕ) → bytes_eq (codes "rule") option ≡ false → (rules : List RuleWord) → values_under option (map rule_setting rules) ≡ []
+no_rules : (option : List ℕ) → bytes_eq (codes "rule") option ≡ false → (rules : List RuleWord) → values_under option (map rule_setting rules) ≡ []
 no_rules option apart [] = refl
 no_rules option apart (rule ∷ rules) = rw apart (no_rules option apart rules)
 
--- clients and rules stand under no other options
+-- they stand under no other option
 pub others_under : (option : List ℕ) → bytes_eq (codes "client") option ≡ false → bytes_eq (codes "rule") option ≡ false → (clients : List ClientWord) (rules : List RuleWord) → values_under option (repeated clients rules) ≡ []
 others_under option client rule [] rules = no_rules option rule rules
 others_under option client rule (c ∷ clients) rules = rw client (others_under option client rule clients rules)
@@ -55,19 +53,3 @@ alone option client rule clients rules values value once = rw (others_under opti
 -- a value that stands alone where clients and rules stand too does so
 pub alone_too : (option : List ℕ) → bytes_eq (codes "client") option ≡ false → bytes_eq (codes "rule") option ≡ false → (clients : List ClientWord) (rules : List RuleWord) (values : List Word) (value : Word) → values ≡ value ∷ values_under option (repeated clients rules) → values ≡ value ∷ []
 alone_too option client rule clients rules values value once = rw (others_under option client rule clients rules) at once
-
-abbrev pub batch_options : List (List ℕ)
-batch_options = codes "network" ∷ codes "trains" ∷ codes "base" ∷ codes "journal" ∷ codes "client" ∷ codes "workers" ∷ codes "rule" ∷ []
-
--- the options of a batch are of these kinds
-pub ruled_among : (rules : List RuleWord) → are_among batch_options (map rule_setting rules) ≡ true
-ruled_among [] = refl
-ruled_among (rule ∷ rules) = ruled_among rules
-
--- a value that stands alone does so where rules stand too
-pub beside_rules : (option : List ℕ) → bytes_eq (codes "rule") option ≡ false → (rules : List RuleWord) (values : List Word) (value : Word) → values ≡ value ∷ [] → values ≡ value ∷ values_under option (map rule_setting rules)
-beside_rules option apart rules values value once = rw (no_rules option apart rules) once
-
--- a value that stands alone where rules stand too does so
-pub beside_rules_too : (option : List ℕ) → bytes_eq (codes "rule") option ≡ false → (rules : List RuleWord) (values : List Word) (value : Word) → values ≡ value ∷ values_under option (map rule_setting rules) → values ≡ value ∷ []
-beside_rules_too option apart rules values value once = rw (no_rules option apart rules) at once

@@ -7,10 +7,9 @@ use Rattle.client_words.specs.Clients.{AreClients, client_text}
 use Rattle.client_words.specs.declared.clients.ClientWord.{ClientWord}
 use Rattle.rule_words.specs.Rules.{AreRulesOf, rule_text}
 use Rattle.rule_words.specs.declared.reading.RuleWord.{RuleWord}
-use Rattle.batch_words.specs.Workers.{IsBatch}
 use Rattle.command_words.specs.declared.orders.TheConstants.{MAX_DEMO_NUMBER}
 use Rattle.command_words.specs.declared.orders.Order.{Order}
-use Rattle.command_words.specs.declared.orders.Order.TheVariants.{Tables, Init, Stairs, Capacity, Serve, Demo, Check, Batch}
+use Rattle.command_words.specs.declared.orders.Order.TheVariants.{Tables, Init, Stairs, Capacity, Serve, Demo}
 
 -- the command word of an order
 abbrev pub command_of : Order → Word
@@ -20,8 +19,6 @@ command_of (Stairs network base journal entry out) = codes "stairs"
 command_of (Capacity network base journal first last from to out) = codes "capacity"
 command_of (Serve network trains base journal clients rules) = codes "serve"
 command_of (Demo number out) = codes "demo"
-command_of (Check network trains base journal proof) = codes "check"
-command_of (Batch network trains base journal client workers rules) = codes "batch"
 
 -- an option that may be left out
 abbrev pub if_given : List ℕ → Option (List ℕ) → List Setting
@@ -65,14 +62,6 @@ settings_of (Serve network trains base journal clients rules) =
     ∷ setting (codes "base") base ∷ setting (codes "journal") journal
     ∷ repeated clients rules
 settings_of (Demo number out) = numbered (codes "number") number ∷ setting (codes "out") out ∷ []
-settings_of (Check network trains base journal proof) =
-    setting (codes "network") network ∷ setting (codes "trains") trains
-    ∷ setting (codes "base") base ∷ setting (codes "journal") journal
-    ∷ setting (codes "proof") proof ∷ []
-settings_of (Batch network trains base journal client workers rules) =
-    setting (codes "network") network ∷ setting (codes "trains") trains
-    ∷ setting (codes "base") base ∷ setting (codes "journal") journal
-    ∷ client_setting client ∷ numbered (codes "workers") workers ∷ map rule_setting rules
 
 -- zones, the first to the last, each of 32 bits
 pub record AreZones (first last : ℕ) : Type 0 where
@@ -84,8 +73,7 @@ pub record AreTicks (from to : ℕ) : Type 0 where
   pub ordered : from < to
   pub within : IsTick (pos to)
 
--- the numbers, the clients and the rules of an order are within their limits; each rule is of one of the clients, or of one
--- of the workers
+-- the numbers, the clients and the rules of an order are within their limits; each rule is of one of the clients
 abbrev pub IsWithinLimits : Order → Type 0
 IsWithinLimits (Tables network out) = ⊤
 IsWithinLimits (Init network base journal from) = ⊤
@@ -95,9 +83,6 @@ IsWithinLimits (Capacity network base journal first last from to out) =
 IsWithinLimits (Serve network trains base journal clients rules) =
     AreClients clients × AreRulesOf clients rules
 IsWithinLimits (Demo number out) = number ≤ MAX_DEMO_NUMBER
-IsWithinLimits (Check network trains base journal proof) = ⊤
-IsWithinLimits (Batch network trains base journal client workers rules) =
-    IsBatch client workers rules
 
 -- each option has the same values in the same order
 abbrev pub Agree : List Setting → List Setting → Type 0
@@ -118,7 +103,7 @@ pub record AreWords (words : List Word) (order : Order) : Type 0 where
   pub spelled : Spell settings options
   pub asks : Asks command settings order
 
--- the rules of an order; none but `serve` and `batch` have any
+-- the rules of an order; none but `serve` has any
 abbrev pub rules_of : Order → List RuleWord
 rules_of (Tables network out) = []
 rules_of (Init network base journal from) = []
@@ -126,8 +111,6 @@ rules_of (Stairs network base journal entry out) = []
 rules_of (Capacity network base journal first last from to out) = []
 rules_of (Serve network trains base journal clients rules) = rules
 rules_of (Demo number out) = []
-rules_of (Check network trains base journal proof) = []
-rules_of (Batch network trains base journal client workers rules) = rules
 
 -- the words spell an order, and these are its rules
 pub record AskRules (words : List Word) (rules : List RuleWord) : Type 0 where

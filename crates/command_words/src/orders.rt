@@ -63,25 +63,4 @@ pub enum Order {
         number: u32,
         out: Text,
     },
-    /// Check the proofs of a file by the journal's history: the names of the network's, the trains', the base timetable's
-    /// and the journal's file, and of the file of proofs.
-    Check {
-        network: Text,
-        trains: Text,
-        base: Text,
-        journal: Text,
-        proof: Text,
-    },
-    /// Answer one list of asks by several workers: the names of the network's, the trains', the base timetable's and the
-    /// journal's file, the client whose list it is, with a name of at most `MAX_BATCH_NAME_BYTES`, how many workers there
-    /// are, 1 to `MAX_WORKERS`, and the rules by which paths may be denied to each of them.
-    Batch {
-        network: Text,
-        trains: Text,
-        base: Text,
-        journal: Text,
-        client: ClientWord,
-        workers: u32,
-        rules: List<RuleWord>,
-    },
 }

@@ -1,2 +1,5 @@
 pub mod Runs
+pub mod Talks
+pub mod Tellings
+pub mod Seats
 pub mod Jobs

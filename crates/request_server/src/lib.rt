@@ -4,6 +4,8 @@
 
 mod plans;
 mod runs;
+mod seats;
+mod tellings;
 
 pub use plans::{Plan, Session};
 pub use runs::serve_clients;

@@ -1,7 +1,9 @@
 //! Clients before and after they are served.
 
+use crate::seats::Seat;
+use crate::tellings::Telling;
 use admission_rules::Rule;
-use client_seats::Seat;
+use client_turns::Client;
 use line_sessions::Ended;
 use outside_io::{Between, Disk, Sink, Source};
 use rail_types::Name;
@@ -35,4 +37,11 @@ pub(crate) struct Job<'a, D: Disk, S: Source, T: Sink, B: Between, L: Rule> {
     pub(crate) source: S,
     pub(crate) sink: T,
     pub(crate) ended: Ended,
+}
+
+/// A client that knows the book as it stands, and what its rules are told of its entries there.
+#[derive(Drop)]
+pub(crate) struct Newcomer {
+    pub(crate) client: Client,
+    pub(crate) tellings: Vec<Telling>,
 }

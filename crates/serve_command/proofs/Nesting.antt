@@ -16,28 +16,45 @@ use Rattle.client_streams.proofs.Lists.{front_taken, matched_parts}
 use Rattle.client_streams.proofs.Nests.{as_before, in_calls, in_quiet, nested_keeps, nested_same, out_calls, out_quiet}
 use Rattle.client_streams.proofs.Stops.{out_open}
 use Rattle.path_commit.specs.Ledgers.{Ledger}
-use Rattle.client_seats.specs.Runs.{AreMatched}
+use Rattle.request_server.specs.Runs.{AreMatched}
 use Rattle.outside_io.specs.declared.betweens.NoBetween.{NoBetween}
 use Rattle.request_server.specs.declared.plans.Plan.{Plan}
 use Rattle.request_server.specs.declared.plans.Session.{Session}
 use Rattle.serve_reports.specs.declared.ends.Ends.{Ends}
-use Rattle.served_journals.specs.Rounds.{IsUnserved}
-use Rattle.served_journals.proofs.Halts.{same_keeps, Unserved, unserved_at_once, unserved_stopped}
+use Rattle.client_lines.specs.Names.{Names}
+use Rattle.named_network.specs.declared.Named.{Named}
+use Rattle.rail_types.specs.declared.trains.Train.{Train}
+use Rattle.serve_command.specs.Serving.{IsUnserved, names_of}
+
+-- a scene that is as it was keeps to any calls
+pub same_keeps : {Src Snk Dsk : Type 0} (calls : List Opening) (s0 s1 : Scene Src Snk Dsk) → IsAsBefore s0 s1 → Keeps calls s0 s1
+same_keeps calls s0 s1 same = record { standing = same.standing; sources = λ name misses. same.sources name; sinks = λ name misses. same.sinks name; disks = λ name misses. same.disks name; report = same.report }
+
+-- what is said of clients that were not served
+pub record Unserved {Src Snk Dsk : Type 0} (clients : List ClientWord) (found : Ledger Dsk) (after : Dsk) (s0 s1 : Scene Src Snk Dsk) (refusal : Refusal) : Type 0 where
+  pub says : IsUnserved clients found after s0 s1 refusal
+  pub keeps : KeepsTo {A = Ends} (client_calls clients) s0 s1 (Err refusal)
 
 -- memory was wanted at once
-pub served_not : {Src Snk Dsk : Type 0} (clients : List ClientWord) (found : Ledger Dsk) (after : Dsk) (s : Scene Src Snk Dsk) → after ≡ found.disk → Unserved {A = Ends} clients found after s s Memory
-served_not clients found after s disk = unserved_at_once clients found after s disk
+pub unserved_at_once : {Src Snk Dsk : Type 0} (clients : List ClientWord) (found : Ledger Dsk) (after : Dsk) (s : Scene Src Snk Dsk) → after ≡ found.disk → Unserved clients found after s s Memory
+unserved_at_once clients found after s disk = record {
+  says = record { disk_is = disk; as_before = as_before s; why = inr refl };
+  keeps = record { keeps = same_keeps (client_calls clients) s s (as_before s); opens = (0, silent s.opened) };
+}
 
 -- a name could not be opened, or memory was wanted
-pub served_stopped : {Src Snk Dsk : Type 0} (clients : List ClientWord) (found : Ledger Dsk) (after : Dsk) (s0 s1 : Scene Src Snk Dsk) (refusal : Refusal) → after ≡ found.disk → IsStopped clients s0 s1 refusal → Unserved {A = Ends} clients found after s0 s1 refusal
-served_stopped clients found after s0 s1 refusal disk stopped = unserved_stopped clients found after s0 s1 refusal disk stopped
+pub unserved_stopped : {Src Snk Dsk : Type 0} (clients : List ClientWord) (found : Ledger Dsk) (after : Dsk) (s0 s1 : Scene Src Snk Dsk) (refusal : Refusal) → after ≡ found.disk → IsStopped clients s0 s1 refusal → Unserved clients found after s0 s1 refusal
+unserved_stopped clients found after s0 s1 refusal disk stopped = record {
+  says = record { disk_is = disk; as_before = stopped.as_before; why = stopped.why };
+  keeps = record { keeps = same_keeps (client_calls clients) s0 s1 stopped.as_before; opens = (stopped.count, stopped.opened) };
+}
 
 all_taken : {X : Type 0} (xs : List X) (n : ℕ) → n ≡ length xs → take n xs ≡ xs
 all_taken {X} xs n same = ap (λ (k : ℕ). take k xs) same ∙ take-length xs
 
 -- memory was wanted for the clients, and their streams were put back as they were
 pub unserved_again : {Src Snk Dsk L : Type 0} (clients : List ClientWord) (found : Ledger Dsk) (after : Dsk) (plans : List (Plan Src Snk NoBetween L)) (s0 s1 s2 : Scene Src Snk Dsk) → after ≡ found.disk → length plans ≡ length clients → AreOut clients (map streams_of plans) s0 s1
-    → AreIn (take (length plans) clients) (map streams_of plans) s1 s2 → Unserved {A = Ends} clients found after s0 s2 Memory
+    → AreIn (take (length plans) clients) (map streams_of plans) s1 s2 → Unserved clients found after s0 s2 Memory
 unserved_again {Src} {Snk} {Dsk} clients found after plans s0 s1 s2 disk long outs ins =
     let streams : List (Src × Snk) = map streams_of plans in
     let back : AreIn clients streams s1 s2 = subst (λ (cs : List ClientWord). AreIn cs streams s1 s2) (all_taken clients (length plans) long) ins in
@@ -72,3 +89,7 @@ rounds_by {Src} {Snk} {Dsk} {L} clients plans sessions s0 s1 s2 ends are long ou
       opens = out_open clients streams s0 s1 are.inputs are.outputs outs;
       quiet = in_quiet clients returned s1 s2 back ∙ out_quiet clients streams s0 s1 outs;
     }
+
+-- what lines may name, by its parts
+pub known_same : (known : Names) (railway : Named) (trains : List Train) → known.railway ≡ railway → known.trains ≡ trains → known ≡ names_of railway trains
+known_same known railway trains rail train = ap (λ (x : Named). names_of x known.trains) rail ∙ ap (λ (x : List Train). names_of railway x) train

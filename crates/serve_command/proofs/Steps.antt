@@ -22,8 +22,7 @@ use Rattle.rail_types.specs.declared.trains.Train.{Train}
 use Rattle.serve_reports.specs.declared.ends.Ends.{Ends}
 use Rattle.serve_command.specs.Journals.{ServeStep}
 use Rattle.serve_command.specs.Runs.{EndsRun, RunsServe}
-use Rattle.serve_command.specs.Works.{ReadsBase, ReadsNetwork, ReadsTrains, serve_calls}
-use Rattle.served_journals.specs.Files.{files_of}
+use Rattle.serve_command.specs.Works.{files_of, ReadsBase, ReadsNetwork, ReadsTrains, serve_calls}
 
 module _ {Src Snk Dsk L : Type 0} (source : Sources Src) (sink : Sinks Snk) (disk : Disks Dsk) (rule_kind : Rules L) (journal : List ℕ) (clients : List ClientWord) (rules : List (ClientRules L)) where
   trains_keep : (trains : List ℕ) (network : NetworkFile) (base : BaseFile) (old new : Scene Src Snk Dsk) (result : Result Ends Refusal) → ReadsTrains source sink disk rule_kind trains journal clients rules network base old new result

@@ -19,8 +19,7 @@ use Rattle.outside_io.specs.declared.sources.Source.{Ghosts as Sources}
 use Rattle.rail_types.specs.declared.trains.Train.{Train}
 use Rattle.serve_reports.specs.Ends.{EndsSay, report_text}
 use Rattle.serve_reports.specs.declared.ends.Ends.{Ends}
-use Rattle.serve_command.specs.Works.{ReadsNetwork, serve_calls}
-use Rattle.served_journals.specs.Files.{files_of}
+use Rattle.serve_command.specs.Works.{files_of, ReadsNetwork, serve_calls}
 use Rattle.serve_command.specs.Journals.{Serves}
 
 -- what is reported at the end: the ends of the clients, or what refused

@@ -6,8 +6,7 @@ ghost use Rattle.client_streams.specs.Clients.{AreClients, client_calls};
 ghost use Rattle.command_reports.specs.Works.{KeepsTo};
 ghost use Rattle.file_rounds.specs.Scenes.{scene};
 ghost use Rattle.path_commit.specs.Ledgers.{settled_of};
-ghost use Rattle.serve_command.specs.Serving.{BookSays};
-ghost use Rattle.served_journals.specs.Files.{names_of};
+ghost use Rattle.serve_command.specs.Serving.{BookSays, IsClosed, names_of};
 
 use admission_rules::Rule;
 use client_lines::Known;
@@ -17,11 +16,10 @@ use client_words::ClientWord;
 use command_reports::Refusal;
 use named_network::Named;
 use no_memory::NoMemory;
-use outside_io::Outside;
+use outside_io::{Disk, Outside};
 use path_commit::Book;
 use request_server::serve_clients;
 use serve_reports::{Ends, ends_of};
-use served_journals::close_book;
 use std::alloc::AllocGlobal;
 use std::sync::Wait;
 use std::thread::Threads;
@@ -66,4 +64,11 @@ pub(crate) fn serve_book<R: AllocGlobal + Threads + Wait + Sync, O: Outside, L: 
             (book.close(), Err(Refusal::Memory))
         }
     }
+}
+
+// Hands back the disk of a book.
+fn close_book<D: Disk>(book: Book<D>) -> D
+    ensures closed { IsClosed D.Disk book result }
+{
+    book.close()
 }

@@ -4,16 +4,19 @@ ghost use Rattle.client_streams.specs.Clients.{AreClients, client_calls};
 ghost use Rattle.command_reports.specs.Works.{KeepsTo};
 ghost use Rattle.file_rounds.specs.Scenes.{scene};
 ghost use Rattle.serve_command.specs.Journals.{DiskSays, ServeStep};
-ghost use Rattle.served_journals.specs.Files.{AreFiles};
+ghost use Rattle.serve_command.specs.Works.{AreFiles};
 
 use crate::books::serve_book;
+use crate::refusals::{journal_refusal, not_opened};
+use crate::works::Files;
 use admission_rules::Rule;
 use client_rules::ClientRules;
 use client_words::ClientWord;
+use command_files::{BaseFile, NetworkFile};
 use command_reports::Refusal;
 use outside_io::Outside;
+use path_recover::open;
 use serve_reports::Ends;
-use served_journals::{Files, Opened, not_opened, open_book};
 use std::alloc::AllocGlobal;
 use std::sync::Wait;
 use std::thread::Threads;
@@ -58,15 +61,22 @@ fn serve_disk<R: AllocGlobal + Threads + Wait + Sync, O: Outside, L: Rule + Send
     ensures keeps { KeepsTo (client_calls clients.now) (scene O.Outside outside.old)
         (scene O.Outside outside.new) result.1 }
 {
-    match open_book(rt.alloc(), disk, files, journal) {
-        Ok(opened) => {
-            let Opened {
-                book,
-                named,
-                trains,
-            } = opened;
-            serve_book(rt, book, named, trains, clients, rules, outside)
-        }
-        Err((disk, refusal)) => (disk, Err(refusal)),
+    let Files {
+        network,
+        base,
+        trains,
+    } = files;
+    let NetworkFile {
+        named,
+        digest: network_digest,
+    } = network;
+    let BaseFile {
+        base,
+        digest: base_digest,
+    } = base;
+    let net = &named.network;
+    match open(rt.alloc(), disk, net, base, &network_digest, &base_digest) {
+        Ok(book) => serve_book(rt, book, named, trains, clients, rules, outside),
+        Err((disk, fault)) => (disk, Err(journal_refusal(rt.alloc(), journal, &fault))),
     }
 }

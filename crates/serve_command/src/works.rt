@@ -2,8 +2,7 @@
 
 ghost use Rattle.client_streams.specs.Clients.{AreClients};
 ghost use Rattle.file_rounds.specs.Scenes.{scene};
-ghost use Rattle.serve_command.specs.Works.{ReadsBase, ReadsNetwork, ReadsTrains};
-ghost use Rattle.served_journals.specs.Files.{IsBaseRead, IsNetworkRead};
+ghost use Rattle.serve_command.specs.Works.{IsBaseRead, IsNetworkRead, ReadsBase, ReadsNetwork, ReadsTrains};
 
 use crate::journals::serve_files;
 use admission_rules::Rule;
@@ -14,10 +13,18 @@ use command_files::{BaseFile, NetworkFile, read_base_file, read_network_file, re
 use command_reports::Refusal;
 use outside_io::Outside;
 use serve_reports::Ends;
-use served_journals::Files;
 use std::alloc::AllocGlobal;
 use std::sync::Wait;
 use std::thread::Threads;
+use train_file::Trains;
+
+/// The files of the command: for contracts.
+#[derive(Debug, Drop)]
+pub struct Files {
+    pub network: NetworkFile,
+    pub base: BaseFile,
+    pub trains: Trains,
+}
 
 /// The work of `serve`.
 pub(crate) fn serve<R: AllocGlobal + Threads + Wait + Sync, O: Outside, L: Rule + Send>(

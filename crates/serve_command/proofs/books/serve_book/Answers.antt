@@ -10,11 +10,8 @@ use Rattle.request_server.specs.declared.plans.Session.{Session}
 use Rattle.client_streams.specs.Lending.{AreIn, streams_of}
 use Rattle.client_words.specs.declared.clients.ClientWord.{ClientWord}
 use Rattle.path_commit.specs.Ledgers.{Ledger}
-use Rattle.serve_reports.specs.declared.ends.Ends.{Ends}
 use Rattle.serve_command.specs.Serving.{streams_by}
-use Rattle.served_journals.proofs.Names.{known_same}
-use Rattle.served_journals.proofs.Halts.{Unserved}
-use Rattle.serve_command.proofs.Nesting.{rounds_by, Rounds, unserved_again}
+use Rattle.serve_command.proofs.Nesting.{known_same, rounds_by, Rounds, Unserved, unserved_again}
 use Rattle.serve_command.proofs.Lists.{all_alike, long_alike, matched_long, pairs_alike}
 use Rattle.serve_command.proofs.books.serve_book.Goals as goal
 
@@ -107,5 +104,5 @@ returns g c =
     let ins = subst (λ (l : List (Plan Src Snk NoBetween L)). AreIn (take (length l) clients) (map streams_of l) s1 s2) same c.put_back_plans.ensures.back in
     let after : Dsk = c.close-in-Err-serve_clients.result in let found : Ledger Dsk = c.args.book in
     let disk : after ≡ found.disk = c.close-in-Err-serve_clients.ensures.disk ∙ ap (λ (b : Ledger Dsk). b.disk) c.in-Err-serve_clients.ensures.refused.0 in
-    let unserved : Unserved {A = Ends} clients found after s0 s2 _ = unserved_again clients found after plans s0 s1 s2 disk long c.in-Ok-open_clients.ensures.out ins in
+    let unserved : Unserved clients found after s0 s2 _ = unserved_again clients found after plans s0 s1 s2 disk long c.in-Ok-open_clients.ensures.out ins in
     record { says = unserved.says; keeps = unserved.keeps }

@@ -1,6 +1,5 @@
 use Rattle.file_rounds.specs.Scenes.{Scene, scene}
-use Rattle.served_journals.proofs.Rounds.{DiskIsRefused, IsRound}
-use Rattle.serve_command.proofs.Disks.{step_by, unopened_step}
+use Rattle.serve_command.proofs.Disks.{DiskIsRefused, IsRound, step_by, unopened_step}
 use Rattle.serve_command.proofs.journals.serve_files.Goals as goal
 
 pub returns-in_default : goal.returns-in_default

@@ -1,6 +1,0 @@
-pub mod Checks
-pub mod Doubts
-pub mod Files
-pub mod Works
-pub mod Runs
-pub mod Replays

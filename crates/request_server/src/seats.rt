@@ -1,0 +1,59 @@
+//! A client's seat at the gate.
+
+ghost use Rattle.std.specs.Prelude.{◌/◌};
+ghost use Rattle.book_gate.specs.Passes.{turns_left};
+ghost use Rattle.request_server.specs.Seats.{AnswersAt, IsSeated};
+
+use admission_rules::Rule;
+use book_gate::Pass;
+use byte_fields::Buffer;
+use client_turns::Client;
+use line_answers::{Shared, answer_one};
+use line_sessions::Desk;
+use no_memory::NoMemory;
+use outside_io::{Between, Disk};
+use path_commit::Book;
+use reply_texts::Reply;
+use std::alloc::Global;
+use std::sync::Wait;
+
+/// A client with its pass at the gate that it shares, what happens between its searches, and its rules.
+#[derive(Drop)]
+pub(crate) struct Seat<'a, D: Disk, B: Between, L: Rule> {
+    pub(crate) shared: &'a Shared<D>,
+    pub(crate) pass: Pass<Book<D>>,
+    pub(crate) client: Client,
+    pub(crate) between: B,
+    pub(crate) rules: Vec<L>,
+}
+
+/// Each line takes at most four turns.
+impl<'a, D: Disk, B: Between, L: Rule> Desk for Seat<'a, D, B, L> {
+    ghost answers = { λ old number line told new. AnswersAt L.Rule old number line told new };
+
+    ghost lines_left = { λ seat. turns_left seat.pass / 4 };
+
+    ghost is_sound = { λ seat. IsSeated seat };
+
+    fn answer<R: Wait>(
+        &mut self,
+        rt: &R,
+        alloc: Global,
+        line_number: u32,
+        line: &[u8],
+        text: &mut Buffer,
+    ) -> Result<Reply, NoMemory> {
+        answer_one(
+            rt,
+            alloc,
+            self.shared,
+            &mut self.pass,
+            &mut self.client,
+            self.rules.as_mut_slice(),
+            line_number,
+            line,
+            text,
+            &mut self.between,
+        )
+    }
+}
