@@ -22,7 +22,7 @@ use Rattle.client_turns.specs.Clients.{IsCopyOf}
 use Rattle.ask_turns.specs.Laws.{HaveTicks}
 use Rattle.ask_turns.specs.Searched.{FitsAt, IsPossibleAt}
 
-abbrev claims_in : List HeldClaim → List Claim
+abbrev pub claims_in : List HeldClaim → List Claim
 claims_in list = map (λ one. one.0) list
 
 -- what holds of all claims of one list holds of all of another that has the same members
@@ -40,12 +40,12 @@ all_alike P one other alike all k d within =
     subst P (sym (get_or-map (λ (h : HeldClaim). h.0) other k pair))
     (subst P is (all has.0 it.0 within_one))
 
-fits_alike : (claims : List Claim) (one other : List HeldClaim) → HoldAlike one other
+pub fits_alike : (claims : List Claim) (one other : List HeldClaim) → HoldAlike one other
     → Fits claims (claims_in one) → Fits claims (claims_in other)
 fits_alike claims one other alike fits k d within =
     all_alike (λ c. ¬ Clash (get_or claims k d) c) one other alike (fits k d within)
 
-other_way : (one other : List HeldClaim) → HoldAlike one other → HoldAlike other one
+pub other_way : (one other : List HeldClaim) → HoldAlike one other → HoldAlike other one
 other_way one other alike held = ((alike held).1, (alike held).0)
 
 -- claims that are apart have ticks

@@ -1,4 +1,6 @@
+pub mod Alike
 pub mod Copies
 pub mod Judged
 pub mod Searching
 pub mod Short
+pub mod Showing

@@ -31,7 +31,7 @@ use Rattle.ask_turns.proofs.Copies.{fits_at, none_at}
 
 module _ (timetable : Timetable) (net : Network) (settings : Settings) (net_is : net ≡ timetable.net)
     (settings_is : settings ≡ timetable.settings) where
-  moved : (P : Network → Settings → Type 0) → P net settings → P timetable.net timetable.settings
+  pub moved : (P : Network → Settings → Type 0) → P net settings → P timetable.net timetable.settings
   moved P told = subst (P timetable.net) settings_is (subst (λ n. P n settings) net_is told)
 
   module _ (client : Client) (entries : List Entry) (copy : IsCopyOf timetable client entries) (ask : Ask) where
@@ -67,6 +67,14 @@ module _ (timetable : Timetable) (net : Network) (settings : Settings) (net_is :
       })
 
 -- ---- the turn in which it was tried
+
+-- what was judged was entered
+pub entered_of : (timetable : Timetable) (entry : Entry) (searched : ℕ) (u w : Sight) (told : Became)
+    → HasTried timetable entry searched (tried.Entered told) u w → HasEntered timetable entry told u w
+entered_of timetable entry searched u w (became.Settled at front) done = done
+entered_of timetable entry searched u w (became.Unsettled at front) done = done
+entered_of timetable entry searched u w (became.Refused told) done = done.0
+entered_of timetable entry searched u w became.Full done = done
 
 module _ (law : AreJudged) (timetable : Timetable) (owner : List ℕ) (ask : Ask) (client : Client)
     (u w : Sight) (path : Path) (named : client.name ≡ owner) (copy : IsCopyOf timetable client u.seen)

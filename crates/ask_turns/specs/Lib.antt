@@ -1,4 +1,5 @@
 pub mod Finds
 pub mod Laws
 pub mod Searched
+pub mod Shown
 pub mod Tries

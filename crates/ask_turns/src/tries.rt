@@ -1,11 +1,13 @@
 //! The searches of an ask with their turns.
 
-ghost use Rattle.std.specs.Prelude.{◌≡◌, ◌+◌, ◌≤◌, IfErr, IfOk};
+ghost use Rattle.std.specs.Prelude.{◌≡◌, ◌+◌, ◌≤◌, IfErr, IfOk, IsTrue};
 ghost use Rattle.book_gate.specs.Passes.{turns_left, view};
+ghost use Rattle.client_lines.specs.Within.{AreSound};
 ghost use Rattle.rail_types.specs.Limits.{IsClientName};
 ghost use Rattle.client_turns.specs.Clients.{IsCopyOf, Knows};
 ghost use Rattle.client_turns.specs.Turns.{IsReady, timetable_at};
 ghost use Rattle.ask_turns.specs.Finds.{HasRoomFor, MayBeSearched};
+ghost use Rattle.ask_turns.specs.Shown.{Shows};
 ghost use Rattle.ask_turns.specs.Tries.{HasSearched, HasStopped, IsTheFront};
 
 use crate::asks::{Ask, Outcome};
@@ -13,40 +15,48 @@ use crate::laws::{copies_have_ticks, found_paths_are_judged, found_paths_are_sho
 use crate::searches::find_entry;
 use book_gate::{Gate, Pass};
 use byte_fields::Buffer;
+use client_lines::Known;
 use client_turns::{Client, Halt, Tried, try_entry};
 use outside_io::{Between, Disk};
 use path_commit::Book;
-use rail_types::{Network, Settings};
+use rail_types::Settings;
 use std::alloc::Global;
 use std::sync::Wait;
 
 /// Searches a path beside the client's copy and tries it in a turn, up to three times, until it is not missed by what came
-/// since the search. Room for the text of the reply that tells the path is made before its turn.
+/// since the search. Room for the text of the reply that tells the path is made before its turn. Where proofs are wanted,
+/// the text of what shows the answer takes the place of what the buffer of the proof held, before the turn too.
 pub fn try_searches<R: Wait, D: Disk, B: Between>(
     rt: &R,
     alloc: Global,
     gate: &Gate<Book<D>>,
-    net: &Network,
+    known: &Known,
     settings: &Settings,
     pass: &mut Pass<Book<D>>,
     client: &mut Client,
     ask: &Ask,
     text: &mut Buffer,
+    proves: bool,
+    proof: &mut Buffer,
     between: &mut B,
 ) -> Result<Outcome, Halt>
     requires ready { IsReady gate.now pass.old }
     requires budget { 3 ≤ turns_left pass.old }
     requires copy { IsCopyOf (timetable_at gate.now) client.old (view pass.old).seen }
     requires name { IsClientName client.old.name }
-    requires net { net.now ≡ (timetable_at gate.now).net }
+    requires sound { AreSound known.now }
+    requires net { known.now.railway.network ≡ (timetable_at gate.now).net }
     requires settings { settings.now ≡ (timetable_at gate.now).settings }
-    requires may { MayBeSearched net.now settings.now ask.now }
+    requires may { MayBeSearched known.now.railway.network settings.now ask.now }
     ensures ready { IsReady gate.now pass.new }
     ensures budget { turns_left pass.old ≤ turns_left pass.new + 3 }
     ensures name { client.new.name ≡ client.old.name }
     ensures knows { Knows (timetable_at gate.now) client.new (view pass.new).seen }
     ensures searched { IfOk result (λ outcome. HasSearched (timetable_at gate.now)
         client.old.name ask.now outcome (view pass.old) (view pass.new)) }
+    ensures shown { IfOk result (λ outcome. IsTrue proves
+        → Shows known.now (timetable_at gate.now) client.old.name ask.now outcome proof.new.held
+        (view pass.old) (view pass.new)) }
     ensures front { IfOk result (λ outcome.
         IsTheFront outcome client.new.front (view pass.new)) }
     ensures stopped { IfErr result (λ halt. HasStopped (timetable_at gate.now)
@@ -60,7 +70,8 @@ pub fn try_searches<R: Wait, D: Disk, B: Between>(
     let mut missed = 0;
     let mut front = 0;
     for search in 0..3u32 {
-        let Some(found) = find_entry(alloc, net, settings, client, ask, text)? else {
+        let found = find_entry(alloc, known, settings, client, ask, text, proves, proof)?;
+        let Some(found) = found else {
             return Ok(Outcome::NoPath);
         };
         between.between(search + 1);

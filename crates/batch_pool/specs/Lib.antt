@@ -1,3 +1,4 @@
 pub mod Batches
 pub mod Hands
 pub mod Shifts
+pub mod Rooms

@@ -4,12 +4,13 @@ ghost use Rattle.std.specs.Prelude.{◌≡◌, ◌<◌, ◌≤◌, [], All, IfEr
 ghost use Rattle.crossbeam_queue.specs.Passes.{IsPassOf};
 ghost use Rattle.batch_pool.specs.Batches.{all_places, AreMatched, IsServed};
 ghost use Rattle.batch_pool.specs.Hands.{hand, knows};
+ghost use Rattle.batch_pool.specs.Rooms.{IsRoomFor};
 
 use crate::finishes::finish;
 use crate::hands::{Hand, Line};
 use crate::jobs::{Job, split_all, work_all};
 use crate::puts::put_all;
-use crate::rooms::{reversed, rooms_for};
+use crate::rooms::{Queue, Room, reversed, room_for};
 use crate::workers::{Served, Worker};
 use crossbeam_queue::Pass;
 use no_memory::NoMemory;
@@ -42,24 +43,44 @@ pub fn run_batch<R: Threads + Wait + Sync, W: Worker>(
     ensures sound { IfOk result (λ served. All (λ s. W.is_sound s.worker) served.items) }
     ensures refused { IfErr result (λ e. e.0.items ≡ workers.items) }
 {
-    let Ok(served) = Vec::with_capacity(alloc, workers.len()) else {
+    let Ok(room) = room_for(alloc, workers.len(), todo.len()) else {
         return Err((workers, NoMemory));
     };
-    if todo.is_empty() {
-        let served = idle(alloc, lines, todo, workers, served);
-        return Ok(served);
-    }
-    let Ok(rooms) = rooms_for(alloc, workers.len(), todo.len()) else {
-        return Err((workers, NoMemory));
-    };
-    let Ok(jobs) = Vec::with_capacity(alloc, workers.len()) else {
-        return Err((workers, NoMemory));
-    };
-    let Ok((line, pass)) = Line::ruled(alloc, todo.len()) else {
-        return Err((workers, NoMemory));
-    };
-    let served = answer_all(rt, &line, lines, todo, pass, workers, rooms, jobs, served);
+    let served = answer_batch(rt, lines, todo, workers, room);
     Ok(served)
+}
+
+/// The same in room that is there already: no memory is wanted.
+pub fn answer_batch<R: Threads + Wait + Sync, W: Worker>(
+    rt: &R,
+    lines: &[Name],
+    todo: &[u32],
+    workers: Vec<W>,
+    room: Room<W>,
+) -> Vec<Served<W>>
+    requires some { 1 ≤ length workers.items }
+    requires few { length workers.items ≤ 16 }
+    requires sound { All W.is_sound workers.items }
+    requires left { All (λ worker. length todo.now ≤ W.left worker) workers.items }
+    requires texts { All W.is_line lines.now }
+    requires below { All (λ at. at < length lines.now) todo.now }
+    requires room { IsRoomFor (length workers.items) (length todo.now) room }
+    ensures once { IsPermutation (all_places result.items) todo.now }
+    ensures served { AreMatched (IsServed W.gives W.left lines.now) workers.items result.items }
+    ensures sound { All (λ s. W.is_sound s.worker) result.items }
+{
+    let Room {
+        alloc,
+        queue,
+        answers,
+        jobs,
+        served,
+    } = room;
+    let Some(queue) = queue else {
+        return idle(alloc, lines, todo, workers, served);
+    };
+    let Queue { line, pass } = queue;
+    answer_all(rt, &line, lines, todo, pass, workers, answers, jobs, served)
 }
 
 // All that is to do goes into the queue, and then the workers take it out. There is room for all of it.

@@ -10,9 +10,10 @@ mod rooms;
 mod shifts;
 mod workers;
 
-pub use batches::run_batch;
+pub use batches::{answer_batch, run_batch};
 #[doc(hidden)]
 pub use hands::Hand;
+pub use rooms::{Room, room_for};
 pub use workers::{Served, Worker};
 
 #[cfg(test)]

@@ -3,7 +3,7 @@ use Rattle.std.proofs.Common.{◌≡◌, ℕ, List, [], ◌∷◌, Some, true, r
 use Rattle.option_words.specs.Spelling.{joined, setting, Word}
 use Rattle.clap.specs.Words.{first_of, matches_of, takes}
 use Rattle.clap.proofs.OnLiterals.{clap_on_literals}
-use Rattle.canonical_words.specs.Canonical.{canonical_capacity, capacity_app, demo_app, init_app, list_app, move_app, serve_app, stairs_app}
+use Rattle.canonical_words.specs.Canonical.{batch_app, canonical_batch, canonical_capacity, capacity_app, check_app, demo_app, init_app, list_app, move_app, serve_app, stairs_app}
 
 -- the canonical words of `list`
 abbrev pub list_words : List ℕ → List ℕ → List Word
@@ -172,3 +172,60 @@ demo_number number out = refl
 pub demo_out : (number out : List ℕ) → first_of (codes "out") (matches_of demo_app (demo_words number out)) ≡ Some out
 unfolding clap_on_literals
 demo_out number out = refl
+
+-- the canonical words of `check`
+abbrev pub check_words : (network base journal trains proof : List ℕ) → List Word
+check_words network base journal trains proof =
+    codes "check" ∷ joined (setting (codes "network") network) ∷ joined (setting (codes "base") base) ∷ joined (setting (codes "journal") journal) ∷ joined (setting (codes "trains") trains) ∷ joined (setting (codes "proof") proof) ∷ []
+
+pub check_taken : (network base journal trains proof : List ℕ) → takes check_app (check_words network base journal trains proof) ≡ true
+unfolding clap_on_literals
+check_taken network base journal trains proof = refl
+
+pub check_network : (network base journal trains proof : List ℕ) → first_of (codes "network") (matches_of check_app (check_words network base journal trains proof)) ≡ Some network
+unfolding clap_on_literals
+check_network network base journal trains proof = refl
+
+pub check_base : (network base journal trains proof : List ℕ) → first_of (codes "base") (matches_of check_app (check_words network base journal trains proof)) ≡ Some base
+unfolding clap_on_literals
+check_base network base journal trains proof = refl
+
+pub check_journal : (network base journal trains proof : List ℕ) → first_of (codes "journal") (matches_of check_app (check_words network base journal trains proof)) ≡ Some journal
+unfolding clap_on_literals
+check_journal network base journal trains proof = refl
+
+pub check_trains : (network base journal trains proof : List ℕ) → first_of (codes "trains") (matches_of check_app (check_words network base journal trains proof)) ≡ Some trains
+unfolding clap_on_literals
+check_trains network base journal trains proof = refl
+
+pub check_proof : (network base journal trains proof : List ℕ) → first_of (codes "proof") (matches_of check_app (check_words network base journal trains proof)) ≡ Some proof
+unfolding clap_on_literals
+check_proof network base journal trains proof = refl
+
+pub batch_taken : (network base journal trains client workers : List ℕ) → takes batch_app (canonical_batch network base journal trains client workers) ≡ true
+unfolding clap_on_literals
+batch_taken network base journal trains client workers = refl
+
+pub batch_network : (network base journal trains client workers : List ℕ) → first_of (codes "network") (matches_of batch_app (canonical_batch network base journal trains client workers)) ≡ Some network
+unfolding clap_on_literals
+batch_network network base journal trains client workers = refl
+
+pub batch_base : (network base journal trains client workers : List ℕ) → first_of (codes "base") (matches_of batch_app (canonical_batch network base journal trains client workers)) ≡ Some base
+unfolding clap_on_literals
+batch_base network base journal trains client workers = refl
+
+pub batch_journal : (network base journal trains client workers : List ℕ) → first_of (codes "journal") (matches_of batch_app (canonical_batch network base journal trains client workers)) ≡ Some journal
+unfolding clap_on_literals
+batch_journal network base journal trains client workers = refl
+
+pub batch_trains : (network base journal trains client workers : List ℕ) → first_of (codes "trains") (matches_of batch_app (canonical_batch network base journal trains client workers)) ≡ Some trains
+unfolding clap_on_literals
+batch_trains network base journal trains client workers = refl
+
+pub batch_client : (network base journal trains client workers : List ℕ) → first_of (codes "client") (matches_of batch_app (canonical_batch network base journal trains client workers)) ≡ Some client
+unfolding clap_on_literals
+batch_client network base journal trains client workers = refl
+
+pub batch_workers : (network base journal trains client workers : List ℕ) → first_of (codes "workers") (matches_of batch_app (canonical_batch network base journal trains client workers)) ≡ Some workers
+unfolding clap_on_literals
+batch_workers network base journal trains client workers = refl

@@ -68,3 +68,24 @@ abbrev pub demo_app : App
 demo_app =
     with_rule (with_rule (bare_app (codes "demo")) (required_rule (codes "number")))
     (required_rule (codes "out"))
+
+-- the command `check`
+abbrev pub check_app : App
+check_app =
+    with_rule (with_rule (journal_app (codes "check")) (required_rule (codes "trains")))
+    (required_rule (codes "proof"))
+
+-- the command `batch`, without the options that may stand several times
+abbrev pub batch_app : App
+batch_app =
+    with_rule (with_rule (with_rule (journal_app (codes "batch"))
+    (required_rule (codes "trains"))) (required_rule (codes "client")))
+    (required_rule (codes "workers"))
+
+-- the canonical words of `batch`: each option in one word, in one order
+abbrev pub canonical_batch : (network base journal trains client workers : List ℕ) → List Word
+canonical_batch network base journal trains client workers =
+    codes "batch" ∷ joined (setting (codes "network") network)
+    ∷ joined (setting (codes "base") base) ∷ joined (setting (codes "journal") journal)
+    ∷ joined (setting (codes "trains") trains) ∷ joined (setting (codes "client") client)
+    ∷ joined (setting (codes "workers") workers) ∷ []

@@ -2,7 +2,7 @@
 
 ghost use Rattle.std.specs.Prelude.{◌≡◌, IfOk, map, string_bytes};
 ghost use Rattle.clap.specs.Words.{app_of};
-ghost use Rattle.canonical_words.specs.Canonical.{canonical_capacity, capacity_app, demo_app, journal_app, list_app, move_app, serve_app, stairs_app};
+ghost use Rattle.canonical_words.specs.Canonical.{batch_app, canonical_batch, canonical_capacity, capacity_app, check_app, demo_app, journal_app, list_app, move_app, serve_app, stairs_app};
 
 use crate::names::{FileNames, StretchWords};
 use crate::parsing::{joined, parse, required, value_of};
@@ -284,6 +284,110 @@ pub fn parse_demo(alloc: Global, number: &str, out: &str) -> Result<DemoTexts, N
     })
 }
 
+/// The values of the options of `check`.
+#[derive(Debug, Drop)]
+pub struct CheckTexts {
+    pub network: Text,
+    pub base: Text,
+    pub journal: Text,
+    pub trains: Text,
+    pub proof: Text,
+}
+
+/// Hands `check` with these options to `clap`, and takes its values back.
+pub fn parse_check(
+    alloc: Global,
+    names: &FileNames<'_>,
+    trains: &str,
+    proof: &str,
+) -> Result<CheckTexts, NoMemory>
+    ensures network { IfOk result (λ texts. texts.network ≡ names.now.network.now) }
+    ensures base { IfOk result (λ texts. texts.base ≡ names.now.base.now) }
+    ensures journal { IfOk result (λ texts. texts.journal ≡ names.now.journal.now) }
+    ensures trains { IfOk result (λ texts. texts.trains ≡ trains.now) }
+    ensures proof { IfOk result (λ texts. texts.proof ≡ proof.now) }
+{
+    let command = check_command(alloc)?;
+    let words = [
+        String::from_str(alloc, "check")?,
+        joined(alloc, "network", names.network)?,
+        joined(alloc, "base", names.base)?,
+        joined(alloc, "journal", names.journal)?,
+        joined(alloc, "trains", trains)?,
+        joined(alloc, "proof", proof)?,
+    ];
+    let matches = parse(command, words.as_slice())?;
+    Ok(CheckTexts {
+        network: value_of(alloc, &matches, "network")?,
+        base: value_of(alloc, &matches, "base")?,
+        journal: value_of(alloc, &matches, "journal")?,
+        trains: value_of(alloc, &matches, "trains")?,
+        proof: value_of(alloc, &matches, "proof")?,
+    })
+}
+
+/// The values of the options of `batch` that stand once.
+#[derive(Debug, Drop)]
+pub struct BatchTexts {
+    pub network: Text,
+    pub base: Text,
+    pub journal: Text,
+    pub trains: Text,
+    pub client: Text,
+    pub workers: Text,
+}
+
+/// Hands `batch` with these options to `clap`, and takes its values back.
+pub fn parse_batch(
+    alloc: Global,
+    names: &FileNames<'_>,
+    trains: &str,
+    client: &str,
+    workers: &str,
+) -> Result<BatchTexts, NoMemory>
+    ensures network { IfOk result (λ texts. texts.network ≡ names.now.network.now) }
+    ensures base { IfOk result (λ texts. texts.base ≡ names.now.base.now) }
+    ensures journal { IfOk result (λ texts. texts.journal ≡ names.now.journal.now) }
+    ensures trains { IfOk result (λ texts. texts.trains ≡ trains.now) }
+    ensures client { IfOk result (λ texts. texts.client ≡ client.now) }
+    ensures workers { IfOk result (λ texts. texts.workers ≡ workers.now) }
+{
+    let command = batch_command(alloc)?;
+    let words = batch_words(alloc, names, trains, client, workers)?;
+    let matches = parse(command, words.as_slice())?;
+    Ok(BatchTexts {
+        network: value_of(alloc, &matches, "network")?,
+        base: value_of(alloc, &matches, "base")?,
+        journal: value_of(alloc, &matches, "journal")?,
+        trains: value_of(alloc, &matches, "trains")?,
+        client: value_of(alloc, &matches, "client")?,
+        workers: value_of(alloc, &matches, "workers")?,
+    })
+}
+
+// The canonical words of `batch`.
+fn batch_words(
+    alloc: Global,
+    names: &FileNames<'_>,
+    trains: &str,
+    client: &str,
+    workers: &str,
+) -> Result<[String; 7], NoMemory>
+    ensures { IfOk result (λ words. map string_bytes words ≡ canonical_batch
+        names.now.network.now names.now.base.now names.now.journal.now
+        trains.now client.now workers.now) }
+{
+    Ok([
+        String::from_str(alloc, "batch")?,
+        joined(alloc, "network", names.network)?,
+        joined(alloc, "base", names.base)?,
+        joined(alloc, "journal", names.journal)?,
+        joined(alloc, "trains", trains)?,
+        joined(alloc, "client", client)?,
+        joined(alloc, "workers", workers)?,
+    ])
+}
+
 // The command `list`.
 fn list_command<'a>(alloc: Global) -> Result<Command<'a>, NoMemory>
     ensures { IfOk result (λ command. app_of command ≡ list_app) }
@@ -368,5 +472,29 @@ fn demo_command<'a>(alloc: Global) -> Result<Command<'a>, NoMemory>
         .disable_help_flag(true)
         .arg(number)?
         .arg(out)?;
+    Ok(command)
+}
+
+// The command `check`.
+fn check_command<'a>(alloc: Global) -> Result<Command<'a>, NoMemory>
+    ensures { IfOk result (λ command. app_of command ≡ check_app) }
+{
+    let trains = required(alloc, "trains");
+    let proof = required(alloc, "proof");
+    let command = journal_command(alloc, "check")?.arg(trains)?.arg(proof)?;
+    Ok(command)
+}
+
+// The command `batch`.
+fn batch_command<'a>(alloc: Global) -> Result<Command<'a>, NoMemory>
+    ensures { IfOk result (λ command. app_of command ≡ batch_app) }
+{
+    let trains = required(alloc, "trains");
+    let client = required(alloc, "client");
+    let workers = required(alloc, "workers");
+    let command = journal_command(alloc, "batch")?
+        .arg(trains)?
+        .arg(client)?
+        .arg(workers)?;
     Ok(command)
 }

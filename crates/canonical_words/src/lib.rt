@@ -6,7 +6,8 @@ mod names;
 mod parsing;
 
 pub use commands::{
-    CapacityTexts, DemoTexts, InitTexts, ListTexts, MoveTexts, ServeTexts, StairsTexts,
-    parse_capacity, parse_demo, parse_init, parse_list, parse_move, parse_serve, parse_stairs,
+    BatchTexts, CapacityTexts, CheckTexts, DemoTexts, InitTexts, ListTexts, MoveTexts, ServeTexts,
+    StairsTexts, parse_batch, parse_capacity, parse_check, parse_demo, parse_init, parse_list,
+    parse_move, parse_serve, parse_stairs,
 };
 pub use names::{FileNames, StretchWords};

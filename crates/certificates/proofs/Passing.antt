@@ -5,6 +5,7 @@ use Rattle.std.proofs.lemmas.Int.{ints}
 use Rattle.rail_types.specs.declared.tracks.Network.{Network}
 use Rattle.rail_types.specs.declared.trains.Request.{Request}
 use Rattle.rail_types.specs.declared.entries.Settings.{Settings}
+use Rattle.rail_types.specs.declared.limits.TheConstants.{MAX_PLACES}
 use Rattle.rail_types.specs.declared.paths.Claim.{Claim}
 use Rattle.rail_types.specs.declared.paths.Path.{Path}
 use Rattle.rail_types.specs.declared.paths.Run.{Run}
@@ -27,17 +28,18 @@ pub certificate_proves : (net : Network) (settings : Settings) (live : List Clai
 certificate_proves net settings live request closed is = record { places = λ k d within. (is.members k d within).place; closed = is.closed }
 
 certificate_passes : (net : Network) (settings : Settings) (live : List Claim) (request : Request) (places : Listed) (closed : Closed) → IsRequestWithinLimits request → AreThePlaces net request places.members → AreTheMoves net request places
-    → IsCertificate net settings live request closed → Passes net settings live request places closed
-certificate_passes net settings live request places closed within listed moves is = record {
+    → length places.members ≤ MAX_PLACES → IsCertificate net settings live request closed → Passes net settings live request places closed
+certificate_passes net settings live request places closed within listed moves few is = record {
   within = within;
   listed = listed;
   moves = moves;
+  few = few;
   windows = λ k d less. (is.members k d less).some;
   proves = certificate_proves net settings live request closed is;
 }
 
 pub refusals_pass : RefusalsPass
-refusals_pass net settings live request places closed sound settings_within within listed moves answer = certificate_passes net settings live request places closed within listed moves answer.1
+refusals_pass net settings live request places closed sound settings_within within listed moves few answer = certificate_passes net settings live request places closed within listed moves few answer.1
 
 -- ---- the last leave of a path
 
@@ -56,7 +58,7 @@ leaves_within moves net settings live request path within can =
     last_is (IsEnd settings) (record { block = 0; enter = pos 0; leave = pos 0; stops = false }) path.runs (last_ends net settings request path.runs start_place can.some made.times)
 
 pub earlier_pass : WindowsChangeNoPlaces → PathsAreMoves → EarlierRefusalsPass
-earlier_pass alike moves net settings live request places path closed sound settings_within within listed are_moves answer =
+earlier_pass alike moves net settings live request places path closed sound settings_within within listed are_moves few answer =
     let ends = leaves_within moves net settings live request path within answer.0.granted in
     let same = alike net request (before request (last_leave path)) (record { train = refl; origin = refl; destination = refl; stops = refl }) in
     let horizon = settings_within.horizon.1 in
@@ -68,4 +70,4 @@ earlier_pass alike moves net settings live request places path closed sound sett
       count = within.count;
       dwells = within.dwells;
     })
-    (same.places places.members listed) (same.moves places are_moves) answer.1
+    (same.places places.members listed) (same.moves places are_moves) few answer.1

@@ -1,8 +1,9 @@
 -- What a search answers, with what shows it.
-use Rattle.std.specs.Prelude.{◌≡◌, ◌≤ℤ◌, All, List, Option, None, Some}
+use Rattle.std.specs.Prelude.{◌≡◌, ◌≤◌, ◌≤ℤ◌, All, List, Option, None, Some, length}
 use Rattle.rail_types.specs.declared.tracks.Network.{Network}
 use Rattle.rail_types.specs.declared.trains.Request.{Request}
 use Rattle.rail_types.specs.declared.entries.Settings.{Settings}
+use Rattle.rail_types.specs.declared.limits.TheConstants.{MAX_PLACES}
 use Rattle.rail_types.specs.declared.paths.Claim.{Claim}
 use Rattle.rail_types.specs.declared.paths.Path.{Path}
 use Rattle.rail_types.specs.Limits.{IsRequestWithinLimits}
@@ -13,12 +14,14 @@ use Rattle.tail_states.specs.Listed.{AreTheMoves, AreThePlaces, Listed}
 use Rattle.certificates.specs.declared.searches.Certified.{Certified}
 
 -- All that the check asks of a request and of members holds, and they pass: the places are those of the request, which
--- is within its limits, each window has a tick, and the members show that no path of the request can be granted.
+-- is within its limits, and no more than are searched; each window has a tick, and the members show that no path of the
+-- request can be granted.
 pub record Passes (net : Network) (settings : Settings) (live : List Claim) (request : Request)
     (places : Listed) (closed : Closed) : Type 0 where
   pub within : IsRequestWithinLimits request
   pub listed : AreThePlaces net request places.members
   pub moves : AreTheMoves net request places
+  pub few : length places.members ≤ MAX_PLACES
   pub windows : All (λ member. member.window.from ≤ℤ member.window.to) closed.members
   pub proves : IsProof net settings live request closed
 

@@ -3,7 +3,7 @@ use Rattle.std.specs.Prelude.{◌≡◌, ◌≤◌, None, List, length}
 use Rattle.rail_types.specs.declared.tracks.Network.{Network}
 use Rattle.rail_types.specs.declared.trains.Request.{Request}
 use Rattle.rail_types.specs.declared.entries.Settings.{Settings}
-use Rattle.rail_types.specs.declared.limits.TheConstants.{MAX_NUMBER}
+use Rattle.rail_types.specs.declared.limits.TheConstants.{MAX_NUMBER, MAX_PLACES}
 use Rattle.rail_types.specs.declared.paths.Claim.{Claim}
 use Rattle.rail_types.specs.declared.paths.Path.{Path}
 use Rattle.rail_types.specs.Flaws.{first_flaw}
@@ -24,6 +24,7 @@ RefusalsPass =
     (places : Listed) (closed : Closed) → first_flaw net ≡ None
     → IsSettingsWithinLimits settings → IsRequestWithinLimits request
     → AreThePlaces net request places.members → AreTheMoves net request places
+    → length places.members ≤ MAX_PLACES
     → IsAnswer net settings live request (NoPath closed)
     → Passes net settings live request places closed
 
@@ -35,6 +36,7 @@ EarlierRefusalsPass =
     (places : Listed) (path : Path) (closed : Closed) → first_flaw net ≡ None
     → IsSettingsWithinLimits settings → IsRequestWithinLimits request
     → AreThePlaces net request places.members → AreTheMoves net request places
+    → length places.members ≤ MAX_PLACES
     → IsAnswer net settings live request (Found path closed)
     → Passes net settings live (before request (last_leave path)) places closed
 

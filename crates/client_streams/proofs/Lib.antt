@@ -1,6 +1,6 @@
 pub mod Lists
 pub mod Rounds
-pub mod Nests
+pub mod Loans
+pub mod Uses
 pub mod Stops
-pub mod Comings
-pub mod Sides
+pub mod Clients

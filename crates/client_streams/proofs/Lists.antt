@@ -1,9 +1,8 @@
--- Pairs of elements, lists side by side, and fronts of lists of calls.
-use Rattle.std.proofs.Common.{◌≡◌, ◌∙◌, ◌++◌, ℕ, zero, suc, List, [], ◌∷◌, All, AllPairs, Option, Some, None, get_or, map, take, drop, refl, ap, subst, arith}
+-- Pairs of elements, and fronts of lists of calls.
+use Rattle.std.proofs.Common.{◌≡◌, ◌∙◌, ◌++◌, ℕ, zero, suc, List, [], ◌∷◌, All, AllPairs, Option, Some, None, get_or, take, drop, refl, ap, subst, arith}
 use Rattle.std.proofs.lemmas.List.{append_assoc, get_or_append_left, length-append}
 use Rattle.std.proofs.lemmas.List.Elements.{All-cons, All-head, All-nil, All-tail}
 use Rattle.outside_io.specs.Openings.{Opening, Opens as CallsOf}
-use Rattle.request_server.specs.Runs.{AreMatched}
 
 module _ {X : Type 0} (P : X → Type 0) where
   pub all_left : (xs ys : List X) → All P (xs ++ ys) → All P xs
@@ -39,17 +38,6 @@ module _ {X : Type 0} (R : X → X → Type 0) where
   pairs_last (x ∷ xs) y ys h =
       All-cons (λ z. R z y) x xs (All-head (R x) y ys (all_right (R x) xs (y ∷ ys) (pairs_head x (xs ++ y ∷ ys) h)))
       (pairs_last xs y ys (pairs_tail x (xs ++ y ∷ ys) h))
-
--- lists of parts stand side by side as the lists that they are parts of
-pub matched_parts : {C X Y P Q : Type 0} (R : C → P → Q → Type 0) (f : X → P) (g : Y → Q) (cs : List C) (xs : List X) (ys : List Y) → AreMatched R cs (map f xs) (map g ys) → AreMatched (λ c x y. R c (f x) (g y)) cs xs ys
-matched_parts R f g [] [] [] all = all
-matched_parts R f g [] [] (y ∷ ys) all = all
-matched_parts R f g [] (x ∷ xs) [] all = all
-matched_parts R f g [] (x ∷ xs) (y ∷ ys) all = all
-matched_parts R f g (c ∷ cs) [] [] all = all
-matched_parts R f g (c ∷ cs) [] (y ∷ ys) all = all
-matched_parts R f g (c ∷ cs) (x ∷ xs) [] all = all
-matched_parts R f g (c ∷ cs) (x ∷ xs) (y ∷ ys) all = (all.0, matched_parts R f g cs xs ys all.1)
 
 -- some calls, and then others
 pub calls_both : (first next : List Opening) (old between new : Option (List Opening)) → CallsOf first old between → CallsOf next between new → CallsOf (first ++ next) old new

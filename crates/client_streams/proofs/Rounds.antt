@@ -1,9 +1,9 @@
 -- What was handed out and comes in again.
-use Rattle.std.proofs.Common.{◌≡◌, ◌≢◌, ◌⊎◌, ◌∙◌, Ok, inl, inr, refl, ap}
+use Rattle.std.proofs.Common.{◌≡◌, ◌≢◌, ◌⊎◌, ◌∙◌, Ok, Err, inl, inr, refl, ap}
 use Rattle.outside_io.specs.declared.failures.Failed.{Failed}
 use Rattle.outside_io.specs.Openings.{Opening, source_at, sink_at, the_report, disk_at, Standing, untold, ready, taken, absent, Answers, Foretells, StandsAgain, standing_once_opened, standing_once_returned, Undisturbed}
 use Rattle.outside_io.proofs.Names.{name_cases}
-use Rattle.file_rounds.specs.Scenes.{IsShut}
+use Rattle.file_rounds.specs.Scenes.{IsReady, IsShut}
 
 -- two calls are the same, or they are not
 pub call_cases : (one other : Opening) → (one ≡ other) ⊎ (one ≢ other)
@@ -43,3 +43,10 @@ open_told it untold told shut = shut
 open_told it ready told shut = shut
 open_told it taken told shut = cc
 open_told it absent told shut = cc
+
+-- a call that failed was not told to succeed
+pub not_ready : (T : Type 0) (failed : Failed) (standing : Standing) → Foretells {T = T} standing (Err failed) → IsReady standing → ⊥
+not_ready T failed untold told is = is
+not_ready T failed ready told is = cc
+not_ready T failed taken told is = is
+not_ready T failed absent told is = is

@@ -1,20 +1,20 @@
--- Streams that are out, and streams that come in again.
+-- Sources and sinks that are out, and that come in again.
 use Rattle.std.specs.Prelude.{◌≡◌, ℕ, List, [], ◌∷◌, Ok}
-use Rattle.outside_io.specs.Openings.{Answers, source_at, sink_at, StandsAgain, Undisturbed}
+use Rattle.outside_io.specs.Openings.{Answers, Opening, source_at, sink_at, StandsAgain, Undisturbed}
 use Rattle.outside_io.specs.Openings.{Opens as CallsOf}
 use Rattle.outside_io.specs.Places.{HandsOut, TakesBack, Untouched}
 use Rattle.outside_io.specs.declared.failures.Failed.{Failed}
 use Rattle.file_rounds.specs.Scenes.{Scene}
-use Rattle.request_server.specs.declared.plans.Plan.{Plan}
-use Rattle.request_server.specs.declared.plans.Session.{Session}
-use Rattle.client_words.specs.declared.clients.ClientWord.{ClientWord}
 
--- the streams of a client that is to be served, and of one that was
-abbrev pub streams_of : {Src Snk Btw L : Type 0} → Plan Src Snk Btw L → Src × Snk
-streams_of plan = (plan.source, plan.sink)
+-- a source or a sink that is handed out under a name
+pub data Loan (Src Snk : Type 0) : Type 0 where
+  source_of : List ℕ → Src → Loan Src Snk
+  sink_of : List ℕ → Snk → Loan Src Snk
 
-abbrev pub returned_of : {Src Snk L : Type 0} → Session Src Snk L → Src × Snk
-returned_of session = (session.source, session.sink)
+-- the call that opens it
+abbrev pub call_of : {Src Snk : Type 0} → Loan Src Snk → Opening
+call_of (source_of name it) = source_at name
+call_of (sink_of name it) = sink_at name
 
 -- nothing changed but the calls that were made and the faults that were counted
 pub record IsAsBefore {Src Snk Dsk : Type 0} (old new : Scene Src Snk Dsk) : Type 0 where
@@ -68,34 +68,27 @@ pub record SinkIsIn {Src Snk Dsk : Type 0} (name : List ℕ) (it : Snk)
   pub disks : Untouched old.disks new.disks
   pub report : new.report ≡ old.report
 
--- a client's source and then its sink were handed out
-pub record IsOut {Src Snk Dsk : Type 0} (client : ClientWord) (streams : Src × Snk)
-    (old new : Scene Src Snk Dsk) : Type 0 where
-  pub between : Scene Src Snk Dsk
-  pub source : SourceIsOut client.input streams.0 old between
-  pub sink : SinkIsOut client.output streams.1 between new
+-- it was handed out, and it was put back
+abbrev pub IsOut : {Src Snk Dsk : Type 0} → Loan Src Snk → Scene Src Snk Dsk
+    → Scene Src Snk Dsk → Type 0
+IsOut (source_of name it) old new = SourceIsOut name it old new
+IsOut (sink_of name it) old new = SinkIsOut name it old new
 
--- a client's sink and then its source were put back
-pub record IsIn {Src Snk Dsk : Type 0} (client : ClientWord) (streams : Src × Snk)
-    (old new : Scene Src Snk Dsk) : Type 0 where
-  pub between : Scene Src Snk Dsk
-  pub sink : SinkIsIn client.output streams.1 old between
-  pub source : SourceIsIn client.input streams.0 between new
+abbrev pub IsIn : {Src Snk Dsk : Type 0} → Loan Src Snk → Scene Src Snk Dsk
+    → Scene Src Snk Dsk → Type 0
+IsIn (source_of name it) old new = SourceIsIn name it old new
+IsIn (sink_of name it) old new = SinkIsIn name it old new
 
--- the streams of these clients were handed out, one client after another
-abbrev pub AreOut : {Src Snk Dsk : Type 0} → List ClientWord → List (Src × Snk)
-    → Scene Src Snk Dsk → Scene Src Snk Dsk → Type 0
-AreOut [] [] old new = new ≡ old
-AreOut [] (pair ∷ streams) old new = ⊥
-AreOut (client ∷ clients) [] old new = ⊥
-AreOut {Src} {Snk} {Dsk} (client ∷ clients) (pair ∷ streams) old new =
-    (mid : Scene Src Snk Dsk) × IsOut client pair old mid × AreOut clients streams mid new
+-- these were handed out, one after another
+abbrev pub AreOut : {Src Snk Dsk : Type 0} → List (Loan Src Snk) → Scene Src Snk Dsk
+    → Scene Src Snk Dsk → Type 0
+AreOut [] old new = new ≡ old
+AreOut {Src} {Snk} {Dsk} (loan ∷ loans) old new =
+    (mid : Scene Src Snk Dsk) × IsOut loan old mid × AreOut loans mid new
 
--- the streams of these clients were put back, the last client's first
-abbrev pub AreIn : {Src Snk Dsk : Type 0} → List ClientWord → List (Src × Snk)
-    → Scene Src Snk Dsk → Scene Src Snk Dsk → Type 0
-AreIn [] [] old new = new ≡ old
-AreIn [] (pair ∷ streams) old new = ⊥
-AreIn (client ∷ clients) [] old new = ⊥
-AreIn {Src} {Snk} {Dsk} (client ∷ clients) (pair ∷ streams) old new =
-    (mid : Scene Src Snk Dsk) × AreIn clients streams old mid × IsIn client pair mid new
+-- these were put back, the last of them first
+abbrev pub AreIn : {Src Snk Dsk : Type 0} → List (Loan Src Snk) → Scene Src Snk Dsk
+    → Scene Src Snk Dsk → Type 0
+AreIn [] old new = new ≡ old
+AreIn {Src} {Snk} {Dsk} (loan ∷ loans) old new =
+    (mid : Scene Src Snk Dsk) × AreIn loans old mid × IsIn loan mid new

@@ -1,4 +1,4 @@
--- A client whose streams were not opened.
+-- Streams that were not opened.
 use Rattle.std.specs.Prelude.{◌≡◌, ◌⊎◌, ℕ, List, [], ◌∷◌, ◌++◌, All, codes, take}
 use Rattle.outside_io.specs.Faults.{Rose}
 use Rattle.outside_io.specs.Openings.{Opening, source_at, sink_at, the_report, disk_at, Standing}
@@ -8,9 +8,7 @@ use Rattle.file_rounds.specs.Scenes.{IsReady, IsShut, Scene}
 use Rattle.command_reports.specs.Refusals.{IsTold, line_with}
 use Rattle.command_reports.specs.declared.refusals.Refusal.{Refusal}
 use Rattle.command_reports.specs.declared.refusals.Refusal.TheVariants.{Memory}
-use Rattle.client_streams.specs.Clients.{client_calls}
 use Rattle.client_streams.specs.Lending.{IsAsBefore}
-use Rattle.client_words.specs.declared.clients.ClientWord.{ClientWord}
 
 -- the name that a call opens, and none for the report
 abbrev pub name_at : Opening → List ℕ
@@ -48,38 +46,10 @@ abbrev pub WhyStopped : List Opening → (List Opening → Type 0) → (Opening 
 WhyStopped calls made standing faults faults' refusal =
     CannotOpen calls made standing faults faults' refusal ⊎ (refusal ≡ Memory)
 
--- the clients could not all be opened: the first so many of their calls were made, and all is as it was before
-pub record IsStopped {Src Snk Dsk : Type 0} (clients : List ClientWord)
+-- Not all of these calls succeeded, or memory was wanted: the first so many of them were made, and all is as it was before.
+pub record IsStopped {Src Snk Dsk : Type 0} (calls : List Opening)
     (old new : Scene Src Snk Dsk) (refusal : Refusal) : Type 0 where
   pub count : ℕ
-  pub opened : AreMade old new (take count (client_calls clients))
+  pub opened : AreMade old new (take count calls)
   pub as_before : IsAsBefore old new
-  pub why : WhyStopped (client_calls clients) (AreMade old new)
-      old.standing old.faults new.faults refusal
-
--- *inside*: the source of a client could not be opened
-pub record SourceStops {Src Snk Dsk : Type 0} (client : ClientWord) (old new : Scene Src Snk Dsk)
-    (refusal : Refusal) : Type 0 where
-  pub unready : IsReady (old.standing (source_at client.input)) → ⊥
-  pub rose : Rose old.faults new.faults
-  pub told : IsTold not_opened (line_with (codes "open: ") client.input) refusal
-  pub opened : CallsOf (source_at client.input ∷ []) old.opened new.opened
-  pub as_before : IsAsBefore old new
-
--- *inside*: the source of a client was opened, but its sink could not be
-pub record SinkStops {Src Snk Dsk : Type 0} (client : ClientWord) (old new : Scene Src Snk Dsk)
-    (refusal : Refusal) : Type 0 where
-  pub source : IsOpen old.standing (source_at client.input)
-  pub unready : IsReady (old.standing (sink_at client.output)) → ⊥
-  pub rose : Rose old.faults new.faults
-  pub told : IsTold not_opened (line_with (codes "open: ") client.output) refusal
-  pub opened : CallsOf (source_at client.input ∷ sink_at client.output ∷ [])
-      old.opened new.opened
-  pub as_before : IsAsBefore old new
-
--- *inside*: why the streams of one client were not opened
-abbrev pub ClientStops : {Src Snk Dsk : Type 0} → ClientWord → Scene Src Snk Dsk
-    → Scene Src Snk Dsk → Refusal → Type 0
-ClientStops client old new refusal =
-    SourceStops client old new refusal
-    ⊎ (SinkStops client old new refusal ⊎ ((new ≡ old) × (refusal ≡ Memory)))
+  pub why : WhyStopped calls (AreMade old new) old.standing old.faults new.faults refusal

@@ -1,97 +1,129 @@
-//! Streams opened in the order of the words.
+//! Streams opened under their names.
 
-ghost use Rattle.std.specs.Prelude.{◌≡◌, ◌≢◌, ℕ, List, codes, map, IfErr, IfOk};
+ghost use Rattle.std.specs.Prelude.{◌∷◌, [], codes, IfErr, IfOk, option_map};
 ghost use Rattle.exit_status.specs.declared.Status.TheVariants.{Opening};
 ghost use Rattle.file_rounds.specs.Scenes.{scene};
 ghost use Rattle.command_reports.specs.Refusals.{IsTold, line_with};
-ghost use Rattle.client_rules.specs.Clients.{rules_named};
-ghost use Rattle.client_streams.specs.Clients.{AreClients};
-ghost use Rattle.client_streams.specs.Lending.{AreOut, IsOut, streams_of};
-ghost use Rattle.client_streams.specs.Refusing.{ClientStops, IsStopped};
+ghost use Rattle.outside_io.specs.Openings.{source_at, sink_at};
+ghost use Rattle.client_streams.specs.Clients.{AreDistinct, file_calls, file_loans, IsFit, pair_calls, pair_loans, stream_calls, stream_loans};
+ghost use Rattle.client_streams.specs.Lending.{AreOut, SinkIsOut, SourceIsOut};
+ghost use Rattle.client_streams.specs.Refusing.{IsStopped};
 
-use crate::returning::put_back_plans;
-use admission_rules::Rule;
-use client_rules::{ClientRules, take_rules};
+use crate::returning::put_back_client;
+use crate::streams::ClientStreams;
 use client_words::ClientWord;
 use command_reports::Refusal;
 use exit_status::Status;
-use outside_io::{NoBetween, Outside};
-use request_server::Plan;
+use option_words::Text;
+use outside_io::Outside;
 use std::alloc::Global;
 
-/// Opens the source and the sink of each client, in the order of the clients, and takes each client's rules out of those of
-/// all: those in the elements with its name, in order. Where a name cannot be opened, or memory is wanted, all that was
-/// opened is put back as it was; a name that cannot be opened refuses, as `open: NAME`.
-pub fn open_clients<O: Outside, L: Rule>(
-    alloc: Global,
-    clients: &[ClientWord],
-    rules: &mut [ClientRules<L>],
-    outside: &mut O,
-) -> Result<Vec<Plan<O::Src, O::Snk, NoBetween, L>>, Refusal>
-    requires clients { AreClients clients.now }
-    ensures out { IfOk result (λ plans. AreOut clients.now (map streams_of plans.items)
-        (scene O.Outside outside.old) (scene O.Outside outside.new)) }
-    ensures names { IfOk result (λ plans.
-        map (λ plan. plan.name) plans.items ≡ map (λ client. client.client) clients.now) }
-    ensures rules { IfOk result (λ plans. map (λ plan. plan.rules.items) plans.items
-        ≡ map (λ client. rules_named client.client rules.old) clients.now) }
-    ensures stopped { IfErr result (IsStopped clients.now
-        (scene O.Outside outside.old) (scene O.Outside outside.new)) }
-{
-    let Ok(mut plans) = Vec::with_capacity(alloc, clients.len()) else {
-        return Err(Refusal::Memory);
-    };
-    for client in clients {
-        match open_client(alloc, client, rules, outside) {
-            Ok(plan) => plans.push_reserved(plan),
-            Err(refusal) => {
-                put_back_plans(clients, plans, outside);
-                return Err(refusal);
-            }
-        }
-    }
-    Ok(plans)
-}
-
-// Opens the source and the sink of a client, and takes its rules.
-fn open_client<O: Outside, L: Rule>(
+/// Opens the source and the sink of a client, and the file of its proofs, if there is one. Where a name cannot be opened, all
+/// that was opened is put back as it was, and this name refuses, as `open: NAME`.
+pub fn open_served<O: Outside>(
     alloc: Global,
     client: &ClientWord,
-    all: &mut [ClientRules<L>],
+    file: Option<&Text>,
     outside: &mut O,
-) -> Result<Plan<O::Src, O::Snk, NoBetween, L>, Refusal>
-    ensures out { IfOk result (λ plan. IsOut client.now (streams_of plan)
+) -> Result<ClientStreams<O::Src, O::Snk>, Refusal>
+    requires distinct { AreDistinct (stream_calls client.now (option_map (λ text. text.now) file)) }
+    ensures out { IfOk result (λ streams.
+        AreOut (stream_loans client.now (option_map (λ text. text.now) file.entry) streams)
         (scene O.Outside outside.old) (scene O.Outside outside.new)) }
-    ensures name { IfOk result (λ plan. plan.name ≡ client.now.client) }
-    ensures rules { IfOk result (λ plan.
-        plan.rules.items ≡ rules_named client.now.client all.old) }
-    ensures others { IfOk result (λ plan. (other : List ℕ) → other ≢ client.now.client
-        → rules_named other all.new ≡ rules_named other all.old) }
-    ensures stopped { IfErr result (ClientStops client.now
+    ensures fit { IfOk result (λ streams.
+        IsFit (option_map (λ text. text.now) file.entry) streams.proof) }
+    ensures stopped { IfErr result
+        (IsStopped (stream_calls client.now (option_map (λ text. text.now) file.entry))
         (scene O.Outside outside.old) (scene O.Outside outside.new)) }
 {
-    let Ok(name) = client.client.copy(alloc) else {
-        return Err(Refusal::Memory);
+    let (source, sink) = match open_streams(alloc, client, outside) {
+        Ok(pair) => pair,
+        Err(refusal) => return Err(refusal),
     };
-    let Ok(rules) = take_rules(alloc, &name, all) else {
-        return Err(Refusal::Memory);
+    match open_file(alloc, file, outside) {
+        Ok(proof) => Ok(ClientStreams {
+            source,
+            sink,
+            proof,
+        }),
+        Err(refusal) => {
+            put_back_client(client, source, sink, outside);
+            Err(refusal)
+        }
+    }
+}
+
+// Opens the file of a client's proofs, if there is one.
+fn open_file<O: Outside>(
+    alloc: Global,
+    file: Option<&Text>,
+    outside: &mut O,
+) -> Result<Option<O::Snk>, Refusal>
+    ensures out { IfOk result (λ proof.
+        AreOut (file_loans (option_map (λ text. text.now) file.entry) proof)
+        (scene O.Outside outside.old) (scene O.Outside outside.new)) }
+    ensures fit { IfOk result (IsFit (option_map (λ text. text.now) file.entry)) }
+    ensures stopped { IfErr result (IsStopped (file_calls (option_map (λ text. text.now) file.entry))
+        (scene O.Outside outside.old) (scene O.Outside outside.new)) }
+{
+    match file {
+        None => Ok(None),
+        Some(text) => match open_sink(alloc, text.as_str(), outside) {
+            Ok(sink) => Ok(Some(sink)),
+            Err(refusal) => Err(refusal),
+        },
+    }
+}
+
+/// Opens the source and the sink of a client. Where the sink cannot be opened, the source is put back as it was; a name that
+/// cannot be opened refuses, as `open: NAME`.
+pub fn open_streams<O: Outside>(
+    alloc: Global,
+    client: &ClientWord,
+    outside: &mut O,
+) -> Result<(O::Src, O::Snk), Refusal>
+    ensures out { IfOk result (λ pair. AreOut (pair_loans client.now pair)
+        (scene O.Outside outside.old) (scene O.Outside outside.new)) }
+    ensures stopped { IfErr result (IsStopped (pair_calls client.now)
+        (scene O.Outside outside.old) (scene O.Outside outside.new)) }
+{
+    let source = match open_source(alloc, client.input.as_str(), outside) {
+        Ok(source) => source,
+        Err(refusal) => return Err(refusal),
     };
-    let input = client.input.as_str();
-    let output = client.output.as_str();
-    let Ok(source) = outside.source(input) else {
-        return Err(not_opened(alloc, input));
-    };
-    let Ok(sink) = outside.sink(output) else {
-        outside.put_back_source(input, source);
-        return Err(not_opened(alloc, output));
-    };
-    Ok(Plan {
-        name,
-        source,
-        sink,
-        between: NoBetween,
-        rules,
-    })
+    match open_sink(alloc, client.output.as_str(), outside) {
+        Ok(sink) => Ok((source, sink)),
+        Err(refusal) => {
+            outside.put_back_source(client.input.as_str(), source);
+            Err(refusal)
+        }
+    }
+}
+
+// Opens a source.
+fn open_source<O: Outside>(alloc: Global, name: &str, outside: &mut O) -> Result<O::Src, Refusal>
+    ensures out { IfOk result (λ source. SourceIsOut name.now source
+        (scene O.Outside outside.old) (scene O.Outside outside.new)) }
+    ensures stopped { IfErr result (IsStopped (source_at name.now ∷ [])
+        (scene O.Outside outside.old) (scene O.Outside outside.new)) }
+{
+    match outside.source(name) {
+        Ok(source) => Ok(source),
+        Err(_) => Err(not_opened(alloc, name)),
+    }
+}
+
+// Opens a sink.
+fn open_sink<O: Outside>(alloc: Global, name: &str, outside: &mut O) -> Result<O::Snk, Refusal>
+    ensures out { IfOk result (λ sink. SinkIsOut name.now sink
+        (scene O.Outside outside.old) (scene O.Outside outside.new)) }
+    ensures stopped { IfErr result (IsStopped (sink_at name.now ∷ [])
+        (scene O.Outside outside.old) (scene O.Outside outside.new)) }
+{
+    match outside.sink(name) {
+        Ok(sink) => Ok(sink),
+        Err(_) => Err(not_opened(alloc, name)),
+    }
 }
 
 // A name could not be opened.

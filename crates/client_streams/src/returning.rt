@@ -1,63 +1,52 @@
 //! Streams put back.
 
-ghost use Rattle.std.specs.Prelude.{◌≤◌, length, map, take};
+ghost use Rattle.std.specs.Prelude.{option_map};
 ghost use Rattle.file_rounds.specs.Scenes.{scene};
-ghost use Rattle.client_streams.specs.Lending.{AreIn, IsIn, returned_of, streams_of};
+ghost use Rattle.client_streams.specs.Clients.{file_loans, pair_loans, stream_loans};
+ghost use Rattle.client_streams.specs.Lending.{AreIn};
 
-use admission_rules::Rule;
+use crate::streams::ClientStreams;
 use client_words::ClientWord;
-use outside_io::{NoBetween, Outside};
-use request_server::{Plan, Session};
+use option_words::Text;
+use outside_io::Outside;
 
-/// Puts back the sources and sinks of the first clients, so many as there are plans, the last of them first.
-pub fn put_back_plans<O: Outside, L: Rule>(
-    clients: &[ClientWord],
-    mut plans: Vec<Plan<O::Src, O::Snk, NoBetween, L>>,
+/// Puts back the file of a client's proofs, if there is one, then its sink, and then its source.
+pub fn put_back_served<O: Outside>(
+    client: &ClientWord,
+    file: Option<&Text>,
+    streams: ClientStreams<O::Src, O::Snk>,
     outside: &mut O,
 )
-    requires many { length plans.items ≤ length clients.now }
-    ensures back { AreIn (take (length plans.items) clients.now)
-        (map streams_of plans.items)
+    ensures back { AreIn (stream_loans client.now (option_map (λ text. text.now) file.entry) streams)
         (scene O.Outside outside.old) (scene O.Outside outside.new) }
 {
-    while let Some(plan) = plans.pop() {
-        let Plan {
-            name: _name,
-            source,
-            sink,
-            between: NoBetween,
-            rules: _rules,
-        } = plan;
-        put_back_client(&clients[plans.len()], source, sink, outside);
+    let ClientStreams {
+        source,
+        sink,
+        proof,
+    } = streams;
+    put_back_file(file, proof, outside);
+    put_back_client(client, source, sink, outside);
+}
+
+// Puts back the file of a client's proofs, if there is one.
+fn put_back_file<O: Outside>(file: Option<&Text>, proof: Option<O::Snk>, outside: &mut O)
+    ensures back { AreIn (file_loans (option_map (λ text. text.now) file.entry) proof)
+        (scene O.Outside outside.old) (scene O.Outside outside.new) }
+{
+    if let (Some(file), Some(proof)) = (file, proof) {
+        outside.put_back_sink(file.as_str(), proof);
     }
 }
 
-/// Puts back the sources and sinks of clients that were served, the last of them first.
-pub fn put_back_sessions<O: Outside, L: Rule>(
-    clients: &[ClientWord],
-    mut sessions: Vec<Session<O::Src, O::Snk, L>>,
+/// Puts back the source and the sink of a client.
+pub fn put_back_client<O: Outside>(
+    client: &ClientWord,
+    source: O::Src,
+    sink: O::Snk,
     outside: &mut O,
 )
-    requires many { length sessions.items ≤ length clients.now }
-    ensures back { AreIn (take (length sessions.items) clients.now)
-        (map returned_of sessions.items)
-        (scene O.Outside outside.old) (scene O.Outside outside.new) }
-{
-    while let Some(session) = sessions.pop() {
-        let Session {
-            name: _name,
-            source,
-            sink,
-            ended: _ended,
-            rules: _rules,
-        } = session;
-        put_back_client(&clients[sessions.len()], source, sink, outside);
-    }
-}
-
-// Puts back the source and the sink of a client.
-fn put_back_client<O: Outside>(client: &ClientWord, source: O::Src, sink: O::Snk, outside: &mut O)
-    ensures back { IsIn client.now (source, sink)
+    ensures back { AreIn (pair_loans client.now (source, sink))
         (scene O.Outside outside.old) (scene O.Outside outside.new) }
 {
     outside.put_back_sink(client.output.as_str(), sink);

@@ -4,6 +4,7 @@
 #![tactic(auto)]
 
 mod files;
+mod opened;
 mod own;
 mod paced;
 mod served;

@@ -6,6 +6,7 @@ use crate::signals::{Awaited, Signals, Whose};
 use outside_io::{Between, Failed, MemSink, Sink, Source};
 use std::alloc::Global;
 use std::sync::Arc;
+use std::time::Clock;
 
 /// A source of lines, each of which waits. A line that waits in vain is a fault. It tells only its count of faults.
 #[derive(Drop)]
@@ -28,12 +29,16 @@ pub struct Heard {
     pub faults: u64,
 }
 
-/// What happens behind a client's searches: for A, each tells that it has found a path, and waits for B's replies.
+/// What happens behind the searches of a client. Of A each search tells that it has found a path, and waits for so many
+/// replies to B.
 #[derive(Drop)]
-pub struct Pause {
-    pub rt: HostRuntime,
-    pub signals: Option<Arc<Signals, Global>>,
-    pub replies: Vec<u64>,
+pub enum Pause {
+    ForReplies {
+        rt: HostRuntime,
+        signals: Arc<Signals, Global>,
+        replies: Vec<u64>,
+    },
+    Nothing,
 }
 
 // The line in front, with its end, and as much of it as there is room for.
@@ -124,20 +129,34 @@ impl Sink for Heard {
     }
 }
 
+// Tells that a search of A has found a path, and waits for the replies to B that stand at its number.
+fn wait_for_replies<R: Clock>(
+    rt: &R,
+    signals: &Arc<Signals, Global>,
+    search: u32,
+    replies: &[u64],
+) {
+    signals.found(u64::from(search));
+    let Some(replies) = replies.get((search as usize).saturating_sub(1)) else {
+        return;
+    };
+    let awaited = Awaited {
+        of_a: 0,
+        of_b: *replies,
+        searches: 0,
+    };
+    let _has_come = signals.wait(rt, &awaited);
+}
+
 impl Between for Pause {
     fn between(&mut self, search: u32) {
-        let Some(signals) = &self.signals else {
-            return;
-        };
-        signals.found(u64::from(search));
-        let Some(replies) = self.replies.get((search as usize).saturating_sub(1)) else {
-            return;
-        };
-        let awaited = Awaited {
-            of_a: 0,
-            of_b: *replies,
-            searches: 0,
-        };
-        let _has_come = signals.wait(&self.rt, &awaited);
+        match &*self {
+            Pause::ForReplies {
+                rt,
+                signals,
+                replies,
+            } => wait_for_replies(rt, signals, search, replies),
+            Pause::Nothing => {}
+        }
     }
 }

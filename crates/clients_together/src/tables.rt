@@ -5,7 +5,7 @@ use crate::own::{Own, Watched};
 use crate::paced::Heard;
 use crate::served::serve_both;
 use crate::signals::{Awaited, Whose};
-use crate::together::{Seat, Together, sink_of};
+use crate::together::{ASIDE, Seat, Together, sink_of};
 use client_rules::ClientRules;
 use osrd_stdcm::run;
 use rail_types::Name;
@@ -160,7 +160,7 @@ fn words_of(alloc: Global, line: &str) -> Result<Vec<String>, AllocError> {
     Ok(words)
 }
 
-// Runs a command, with a fresh report, and prints its status and what its report and the clients' sinks hold.
+// Runs a command with a fresh report, and prints its status and what its report and the clients' sinks hold.
 fn run_words<R: AllocGlobal + Print + Threads + Wait + Sync>(
     rt: &R,
     table: &mut Table,
@@ -172,7 +172,7 @@ fn run_words<R: AllocGlobal + Print + Threads + Wait + Sync>(
     let rules = mem::replace(&mut table.rules, Vec::new(rt.alloc()));
     let status = run(rt, &words, &mut table.outside, rules).number();
     println!(rt; "  status {status}")?;
-    print_lines(rt, "report", &table.outside.report)?;
+    print_lines(rt, "report", &table.outside.report, "")?;
     print_sinks(rt, table)?;
     print_rules(rt, table)
 }
@@ -191,29 +191,40 @@ fn print_rules<R: Print>(rt: &R, table: &Table) -> io::Result<()> {
     Ok(())
 }
 
-// Serves both clients, and prints what their sinks hold.
+// Serves both clients, and prints what their sinks hold, and of the proofs of A's replies the first lines.
 fn serve<R: AllocGlobal + Print + Threads + Wait + Sync>(
     rt: &R,
     table: &mut Table,
 ) -> io::Result<()> {
     serve_both(rt, &mut table.outside)?;
-    print_sinks(rt, table)
+    print_sinks(rt, table)?;
+    print_lines(rt, ASIDE, &table.outside.aside, "proof ")
 }
 
 fn print_sinks<R: Print>(rt: &R, table: &Table) -> io::Result<()> {
-    print_lines(rt, "A", &table.outside.a.sink)?;
-    print_lines(rt, "B", &table.outside.b.sink)
+    print_lines(rt, "A", &table.outside.a.sink, "")?;
+    print_lines(rt, "B", &table.outside.b.sink, "")
 }
 
-fn print_lines<R: Print>(rt: &R, name: &str, sink: &Option<Heard>) -> io::Result<()> {
-    let Some(heard) = sink else {
-        return println!(rt; "  {name} is not put back");
-    };
-    let Ok(text) = str::from_utf8(heard.inside.bytes()) else {
-        return println!(rt; "  {name} is no text");
-    };
-    for line in text.lines() {
-        println!(rt; "  {name}: {line}")?;
+// What a sink holds, as lines.
+fn text_of(sink: &Option<Heard>) -> &str {
+    match sink {
+        Some(heard) => str::from_utf8(heard.inside.bytes()).unwrap_or("is no text"),
+        None => "is not put back",
+    }
+}
+
+// Prints the lines of a sink that begin with a text.
+fn print_lines<R: Print>(
+    rt: &R,
+    name: &str,
+    sink: &Option<Heard>,
+    beginning: &str,
+) -> io::Result<()> {
+    for line in text_of(sink).lines() {
+        if line.starts_with(beginning) {
+            println!(rt; "  {name}: {line}")?;
+        }
     }
     Ok(())
 }

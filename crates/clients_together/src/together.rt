@@ -34,12 +34,18 @@ pub struct Together {
     pub a: Seat,
     pub b: Seat,
     pub report: Option<Heard>,
+    /// What goes aside: proofs of A's replies.
+    pub aside: Option<Heard>,
+    /// How many replies to B each search of A waits for.
     pub pauses: Vec<u64>,
     faults: u64,
 }
 
 // The room of a sink, and of the disk.
 const ROOM: usize = 65_536;
+
+/// The name of the sink for what goes aside, and of the source of what it took.
+pub const ASIDE: &str = "aside";
 
 /// An empty sink whose replies are counted.
 pub fn sink_of(
@@ -99,6 +105,7 @@ impl Together {
         let a = seat_of(alloc, "A", "a", Whose::OfA, &signals)?;
         let b = seat_of(alloc, "B", "b", Whose::OfB, &signals)?;
         let report = Some(sink_of(alloc, Whose::Nobodys, &signals)?);
+        let aside = Some(sink_of(alloc, Whose::Nobodys, &signals)?);
         let mut outside = Together {
             rt,
             signals,
@@ -107,6 +114,7 @@ impl Together {
             a,
             b,
             report,
+            aside,
             pauses: Vec::new(alloc),
             faults: 0,
         };
@@ -123,7 +131,7 @@ impl Together {
         Failed
     }
 
-    // The source of a client or of a file.
+    // The source of a client, of what went aside, or of a file.
     fn source_of(&self, name: &str) -> io::Result<Paced> {
         let alloc = self.rt.alloc();
         if name == self.a.input {
@@ -133,7 +141,10 @@ impl Together {
             return self.paced(&self.b.lines, &self.b.waits);
         }
         let none = Vec::new(alloc);
-        self.paced(bytes_of(&self.files, name)?, &none)
+        match &self.aside {
+            Some(heard) if name == ASIDE => self.paced(heard.inside.bytes(), &none),
+            _ => self.paced(bytes_of(&self.files, name)?, &none),
+        }
     }
 
     fn paced(&self, bytes: &[u8], waits: &[Awaited]) -> io::Result<Paced> {
@@ -149,21 +160,17 @@ impl Together {
         })
     }
 
-    // The pause of A.
-    fn pause(&self) -> Result<Pause, AllocError> {
-        Ok(Pause {
-            rt: self.rt,
-            signals: Some(Arc::try_clone(&self.signals)?),
-            replies: Vec::from_slice(self.rt.alloc(), &self.pauses)?,
-        })
-    }
-
-    fn no_pause(&self) -> Pause {
-        Pause {
-            rt: self.rt,
-            signals: None,
-            replies: Vec::new(self.rt.alloc()),
+    // What happens behind the searches of a client.
+    fn pause_of(&self, client: &str) -> Result<Pause, AllocError> {
+        let rt = self.rt;
+        if client == self.a.name {
+            return Ok(Pause::ForReplies {
+                rt,
+                signals: Arc::try_clone(&self.signals)?,
+                replies: Vec::from_slice(rt.alloc(), &self.pauses)?,
+            });
         }
+        Ok(Pause::Nothing)
     }
 }
 
@@ -222,6 +229,8 @@ impl Outside for Together {
             taken(&mut self.a.sink)
         } else if name == self.b.name {
             taken(&mut self.b.sink)
+        } else if name == ASIDE {
+            taken(&mut self.aside)
         } else {
             None
         };
@@ -238,6 +247,8 @@ impl Outside for Together {
             self.a.sink = Some(it);
         } else if name == self.b.name {
             self.b.sink = Some(it);
+        } else if name == ASIDE {
+            self.aside = Some(it);
         }
     }
 
@@ -264,12 +275,9 @@ impl Outside for Together {
     }
 
     fn between(&mut self, client: &str) -> Pause {
-        if client != self.a.name {
-            return self.no_pause();
-        }
-        match self.pause() {
+        match self.pause_of(client) {
             Ok(pause) => pause,
-            Err(_) => self.no_pause(),
+            Err(_) => Pause::Nothing,
         }
     }
 }

@@ -5,7 +5,7 @@ use outside_io::MemOutside;
 use std::alloc::Global;
 use std::{io, str};
 
-/// The sinks that stand ready for each run.
+/// The sinks that stand ready for each run, and are printed behind it.
 pub const SINKS: [&str; 3] = ["A", "B", "out"];
 
 /// The status of a run, and the lines that its report and its sinks hold.

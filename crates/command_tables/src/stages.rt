@@ -15,6 +15,9 @@ use std::thread::Threads;
 /// The room of a sink, and of a disk, where the table says no other.
 pub const ROOM: usize = 65_536;
 
+// A sink that stands ready for each run, and is not printed.
+const PROOFS: &str = "proofs";
+
 /// A source, a sink or the report, with its room and the calls of it that fail.
 #[derive(Drop)]
 pub struct Listed {
@@ -171,9 +174,14 @@ fn sink_of(alloc: Global, plan: &Plan, name: &str) -> io::Result<MemSink> {
 
 fn set_sinks(alloc: Global, plan: &Plan, outside: &mut MemOutside) -> io::Result<()> {
     for name in SINKS {
-        let sink = sink_of(alloc, plan, name)?;
-        outside.set_sink(name, sink).map_err(no_memory)?;
+        set_sink(alloc, plan, name, outside)?;
     }
+    set_sink(alloc, plan, PROOFS, outside)?;
     outside.set_report(sink_of(alloc, plan, "report")?);
     Ok(())
+}
+
+fn set_sink(alloc: Global, plan: &Plan, name: &str, outside: &mut MemOutside) -> io::Result<()> {
+    let sink = sink_of(alloc, plan, name)?;
+    outside.set_sink(name, sink).map_err(no_memory)
 }

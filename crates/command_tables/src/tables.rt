@@ -8,6 +8,7 @@ use crate::fused::Fused;
 use crate::stages::{
     Listed, Plan, ROOM, disk_of, no_memory, outside_of, run_over, run_over_images,
 };
+use outside_io::MemOutside;
 use std::alloc::{AllocGlobal, Global};
 use std::io;
 use std::sync::Wait;
@@ -116,28 +117,32 @@ fn run_images<R: AllocGlobal + Print + Threads + Wait + Sync>(
     Ok(())
 }
 
-// Prints how many bytes a disk holds, and those from a place on.
+// What the disk of this name holds, or else the sink.
+fn held_under<'a>(outside: &'a MemOutside, name: &str) -> io::Result<&'a [u8]> {
+    match (outside.disk_of(name), outside.sink_of(name)) {
+        (Some(disk), _) => Ok(disk.bytes()),
+        (None, Some(sink)) => Ok(sink.bytes()),
+        (None, None) => Err(not_understood()),
+    }
+}
+
+// Prints how many bytes a disk or a sink holds, and those from a place on.
 fn print_bytes<R: AllocGlobal + Print>(rt: &R, table: &mut Table, rest: &str) -> io::Result<()> {
     let (name, place) = first_word(rest);
     let Ok(at) = usize::try_from(number_of(place)?) else {
         return Err(not_understood());
     };
-    let Some(disk) = table.outside.inside.disk_of(name) else {
-        return Err(not_understood());
-    };
-    let bytes = disk.bytes();
+    let bytes = held_under(&table.outside.inside, name)?;
     let count = bytes.len();
     let text = hex::encode(rt.alloc(), behind(bytes, at))?;
     println!(rt; "  {name} has {count} bytes, from {place} on {text}")
 }
 
-// Keeps what a disk holds as a file.
+// Keeps what a disk or a sink holds as a file.
 fn keep_bytes(alloc: Global, table: &mut Table, rest: &str) -> io::Result<()> {
-    let (name, disk) = first_word(rest);
-    let Some(disk) = table.outside.inside.disk_of(disk) else {
-        return Err(not_understood());
-    };
-    begin_file(alloc, &mut table.files, name, disk.bytes())
+    let (name, of) = first_word(rest);
+    let bytes = held_under(&table.outside.inside, of)?;
+    begin_file(alloc, &mut table.files, name, bytes)
 }
 
 // Sets what the next run finds.

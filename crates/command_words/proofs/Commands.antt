@@ -2,10 +2,11 @@
 use Rattle.std.proofs.Common.{◌≡◌, ◌∙◌, ℕ, true, List, [], ◌∷◌, Option, None, Some, refl, sym, codes}
 use Rattle.option_words.specs.Spelling.{are_among, at_most_one, Setting, values_under}
 use Rattle.client_words.specs.declared.clients.ClientWord.{ClientWord}
+use Rattle.proof_words.specs.declared.proofs.ProofWord.{ProofWord}
 use Rattle.rule_words.specs.declared.reading.RuleWord.{RuleWord}
 use Rattle.command_words.specs.Orders.{Agree, Asks, IsWithinLimits, settings_of}
 use Rattle.command_words.specs.declared.orders.Order.{Order}
-use Rattle.command_words.specs.declared.orders.Order.TheVariants.{Tables, Init, Stairs, Capacity, Serve, Demo}
+use Rattle.command_words.specs.declared.orders.Order.TheVariants.{Tables, Init, Stairs, Capacity, Serve, Demo, Check, Batch}
 use Rattle.command_words.proofs.Agreeing.{agree_by, differ}
 
 pub list_order : (settings : List Setting) (order : Order) → Asks (codes "list") settings order → (network : List ℕ) × (out : List ℕ) × Agree settings (settings_of (Tables network out))
@@ -13,8 +14,10 @@ list_order settings (Tables network out) asks = (network, out, asks.agree)
 list_order settings (Init network base journal from) asks = absurd (differ (codes "list") (codes "init") refl asks.command_is)
 list_order settings (Stairs network base journal entry out) asks = absurd (differ (codes "list") (codes "stairs") refl asks.command_is)
 list_order settings (Capacity network base journal first last from to out) asks = absurd (differ (codes "list") (codes "capacity") refl asks.command_is)
-list_order settings (Serve network trains base journal clients rules) asks = absurd (differ (codes "list") (codes "serve") refl asks.command_is)
+list_order settings (Serve network trains base journal clients proofs rules) asks = absurd (differ (codes "list") (codes "serve") refl asks.command_is)
 list_order settings (Demo number out) asks = absurd (differ (codes "list") (codes "demo") refl asks.command_is)
+list_order settings (Check network trains base journal proof) asks = absurd (differ (codes "list") (codes "check") refl asks.command_is)
+list_order settings (Batch network trains base journal client workers rules) asks = absurd (differ (codes "list") (codes "batch") refl asks.command_is)
 
 -- the parts of an order to begin a journal
 pub record IsInit (settings : List Setting) : Type 0 where
@@ -35,8 +38,10 @@ init_order settings (Init network base journal from) asks = record {
 }
 init_order settings (Stairs network base journal entry out) asks = absurd (differ (codes "init") (codes "stairs") refl asks.command_is)
 init_order settings (Capacity network base journal first last from to out) asks = absurd (differ (codes "init") (codes "capacity") refl asks.command_is)
-init_order settings (Serve network trains base journal clients rules) asks = absurd (differ (codes "init") (codes "serve") refl asks.command_is)
+init_order settings (Serve network trains base journal clients proofs rules) asks = absurd (differ (codes "init") (codes "serve") refl asks.command_is)
 init_order settings (Demo number out) asks = absurd (differ (codes "init") (codes "demo") refl asks.command_is)
+init_order settings (Check network trains base journal proof) asks = absurd (differ (codes "init") (codes "check") refl asks.command_is)
+init_order settings (Batch network trains base journal client workers rules) asks = absurd (differ (codes "init") (codes "batch") refl asks.command_is)
 
 -- the parts of an order to write a stairway
 pub record IsStairs (settings : List Setting) : Type 0 where
@@ -61,8 +66,10 @@ stairs_order settings (Stairs network base journal entry out) asks = record {
   limits = asks.limits;
 }
 stairs_order settings (Capacity network base journal first last from to out) asks = absurd (differ (codes "stairs") (codes "capacity") refl asks.command_is)
-stairs_order settings (Serve network trains base journal clients rules) asks = absurd (differ (codes "stairs") (codes "serve") refl asks.command_is)
+stairs_order settings (Serve network trains base journal clients proofs rules) asks = absurd (differ (codes "stairs") (codes "serve") refl asks.command_is)
 stairs_order settings (Demo number out) asks = absurd (differ (codes "stairs") (codes "demo") refl asks.command_is)
+stairs_order settings (Check network trains base journal proof) asks = absurd (differ (codes "stairs") (codes "check") refl asks.command_is)
+stairs_order settings (Batch network trains base journal client workers rules) asks = absurd (differ (codes "stairs") (codes "batch") refl asks.command_is)
 
 -- the parts of an order to write a capacity
 pub record IsCapacity (settings : List Setting) : Type 0 where
@@ -93,8 +100,10 @@ capacity_order settings (Capacity network base journal first last from to out) a
   agree = asks.agree;
   limits = asks.limits;
 }
-capacity_order settings (Serve network trains base journal clients rules) asks = absurd (differ (codes "capacity") (codes "serve") refl asks.command_is)
+capacity_order settings (Serve network trains base journal clients proofs rules) asks = absurd (differ (codes "capacity") (codes "serve") refl asks.command_is)
 capacity_order settings (Demo number out) asks = absurd (differ (codes "capacity") (codes "demo") refl asks.command_is)
+capacity_order settings (Check network trains base journal proof) asks = absurd (differ (codes "capacity") (codes "check") refl asks.command_is)
+capacity_order settings (Batch network trains base journal client workers rules) asks = absurd (differ (codes "capacity") (codes "batch") refl asks.command_is)
 
 -- the parts of an order to serve clients
 pub record IsServe (settings : List Setting) : Type 0 where
@@ -103,26 +112,30 @@ pub record IsServe (settings : List Setting) : Type 0 where
   pub base : List ℕ
   pub journal : List ℕ
   pub clients : List ClientWord
+  pub proofs : List ProofWord
   pub rules : List RuleWord
-  pub agree : Agree settings (settings_of (Serve network trains base journal clients rules))
-  pub limits : IsWithinLimits (Serve network trains base journal clients rules)
+  pub agree : Agree settings (settings_of (Serve network trains base journal clients proofs rules))
+  pub limits : IsWithinLimits (Serve network trains base journal clients proofs rules)
 
 pub serve_order : (settings : List Setting) (order : Order) → Asks (codes "serve") settings order → IsServe settings
 serve_order settings (Tables network out) asks = absurd (differ (codes "serve") (codes "list") refl asks.command_is)
 serve_order settings (Init network base journal from) asks = absurd (differ (codes "serve") (codes "init") refl asks.command_is)
 serve_order settings (Stairs network base journal entry out) asks = absurd (differ (codes "serve") (codes "stairs") refl asks.command_is)
 serve_order settings (Capacity network base journal first last from to out) asks = absurd (differ (codes "serve") (codes "capacity") refl asks.command_is)
-serve_order settings (Serve network trains base journal clients rules) asks = record {
+serve_order settings (Serve network trains base journal clients proofs rules) asks = record {
   network = network;
   trains = trains;
   base = base;
   journal = journal;
   clients = clients;
+  proofs = proofs;
   rules = rules;
   agree = asks.agree;
   limits = asks.limits;
 }
 serve_order settings (Demo number out) asks = absurd (differ (codes "serve") (codes "demo") refl asks.command_is)
+serve_order settings (Check network trains base journal proof) asks = absurd (differ (codes "serve") (codes "check") refl asks.command_is)
+serve_order settings (Batch network trains base journal client workers rules) asks = absurd (differ (codes "serve") (codes "batch") refl asks.command_is)
 
 -- the parts of an order to demonstrate
 pub record IsDemo (settings : List Setting) : Type 0 where
@@ -136,10 +149,70 @@ demo_order settings (Tables network out) asks = absurd (differ (codes "demo") (c
 demo_order settings (Init network base journal from) asks = absurd (differ (codes "demo") (codes "init") refl asks.command_is)
 demo_order settings (Stairs network base journal entry out) asks = absurd (differ (codes "demo") (codes "stairs") refl asks.command_is)
 demo_order settings (Capacity network base journal first last from to out) asks = absurd (differ (codes "demo") (codes "capacity") refl asks.command_is)
-demo_order settings (Serve network trains base journal clients rules) asks = absurd (differ (codes "demo") (codes "serve") refl asks.command_is)
+demo_order settings (Serve network trains base journal clients proofs rules) asks = absurd (differ (codes "demo") (codes "serve") refl asks.command_is)
 demo_order settings (Demo number out) asks = record {
   number = number;
   out = out;
+  agree = asks.agree;
+  limits = asks.limits;
+}
+demo_order settings (Check network trains base journal proof) asks = absurd (differ (codes "demo") (codes "check") refl asks.command_is)
+demo_order settings (Batch network trains base journal client workers rules) asks = absurd (differ (codes "demo") (codes "batch") refl asks.command_is)
+
+-- the parts of an order to check proofs
+pub record IsCheck (settings : List Setting) : Type 0 where
+  pub network : List ℕ
+  pub trains : List ℕ
+  pub base : List ℕ
+  pub journal : List ℕ
+  pub proof : List ℕ
+  pub agree : Agree settings (settings_of (Check network trains base journal proof))
+
+pub check_order : (settings : List Setting) (order : Order) → Asks (codes "check") settings order → IsCheck settings
+check_order settings (Tables network out) asks = absurd (differ (codes "check") (codes "list") refl asks.command_is)
+check_order settings (Init network base journal from) asks = absurd (differ (codes "check") (codes "init") refl asks.command_is)
+check_order settings (Stairs network base journal entry out) asks = absurd (differ (codes "check") (codes "stairs") refl asks.command_is)
+check_order settings (Capacity network base journal first last from to out) asks = absurd (differ (codes "check") (codes "capacity") refl asks.command_is)
+check_order settings (Serve network trains base journal clients proofs rules) asks = absurd (differ (codes "check") (codes "serve") refl asks.command_is)
+check_order settings (Demo number out) asks = absurd (differ (codes "check") (codes "demo") refl asks.command_is)
+check_order settings (Check network trains base journal proof) asks = record {
+  network = network;
+  trains = trains;
+  base = base;
+  journal = journal;
+  proof = proof;
+  agree = asks.agree;
+}
+check_order settings (Batch network trains base journal client workers rules) asks = absurd (differ (codes "check") (codes "batch") refl asks.command_is)
+
+-- the parts of an order to answer a list of asks
+pub record IsBatchOrder (settings : List Setting) : Type 0 where
+  pub network : List ℕ
+  pub trains : List ℕ
+  pub base : List ℕ
+  pub journal : List ℕ
+  pub client : ClientWord
+  pub workers : ℕ
+  pub rules : List RuleWord
+  pub agree : Agree settings (settings_of (Batch network trains base journal client workers rules))
+  pub limits : IsWithinLimits (Batch network trains base journal client workers rules)
+
+pub batch_order : (settings : List Setting) (order : Order) → Asks (codes "batch") settings order → IsBatchOrder settings
+batch_order settings (Tables network out) asks = absurd (differ (codes "batch") (codes "list") refl asks.command_is)
+batch_order settings (Init network base journal from) asks = absurd (differ (codes "batch") (codes "init") refl asks.command_is)
+batch_order settings (Stairs network base journal entry out) asks = absurd (differ (codes "batch") (codes "stairs") refl asks.command_is)
+batch_order settings (Capacity network base journal first last from to out) asks = absurd (differ (codes "batch") (codes "capacity") refl asks.command_is)
+batch_order settings (Serve network trains base journal clients proofs rules) asks = absurd (differ (codes "batch") (codes "serve") refl asks.command_is)
+batch_order settings (Demo number out) asks = absurd (differ (codes "batch") (codes "demo") refl asks.command_is)
+batch_order settings (Check network trains base journal proof) asks = absurd (differ (codes "batch") (codes "check") refl asks.command_is)
+batch_order settings (Batch network trains base journal client workers rules) asks = record {
+  network = network;
+  trains = trains;
+  base = base;
+  journal = journal;
+  client = client;
+  workers = workers;
+  rules = rules;
   agree = asks.agree;
   limits = asks.limits;
 }

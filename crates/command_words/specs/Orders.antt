@@ -5,11 +5,14 @@ use Rattle.rail_types.specs.declared.limits.TheConstants.{MAX_NUMBER}
 use Rattle.option_words.specs.Spelling.{Setting, setting, Spell, values_under, Word}
 use Rattle.client_words.specs.Clients.{AreClients, client_text}
 use Rattle.client_words.specs.declared.clients.ClientWord.{ClientWord}
+use Rattle.proof_words.specs.Proofs.{AreProofs, proof_text}
+use Rattle.proof_words.specs.declared.proofs.ProofWord.{ProofWord}
 use Rattle.rule_words.specs.Rules.{AreRulesOf, rule_text}
 use Rattle.rule_words.specs.declared.reading.RuleWord.{RuleWord}
+use Rattle.batch_words.specs.Workers.{IsBatch}
 use Rattle.command_words.specs.declared.orders.TheConstants.{MAX_DEMO_NUMBER}
 use Rattle.command_words.specs.declared.orders.Order.{Order}
-use Rattle.command_words.specs.declared.orders.Order.TheVariants.{Tables, Init, Stairs, Capacity, Serve, Demo}
+use Rattle.command_words.specs.declared.orders.Order.TheVariants.{Tables, Init, Stairs, Capacity, Serve, Demo, Check, Batch}
 
 -- the command word of an order
 abbrev pub command_of : Order → Word
@@ -17,8 +20,10 @@ command_of (Tables network out) = codes "list"
 command_of (Init network base journal from) = codes "init"
 command_of (Stairs network base journal entry out) = codes "stairs"
 command_of (Capacity network base journal first last from to out) = codes "capacity"
-command_of (Serve network trains base journal clients rules) = codes "serve"
+command_of (Serve network trains base journal clients proofs rules) = codes "serve"
 command_of (Demo number out) = codes "demo"
+command_of (Check network trains base journal proof) = codes "check"
+command_of (Batch network trains base journal client workers rules) = codes "batch"
 
 -- an option that may be left out
 abbrev pub if_given : List ℕ → Option (List ℕ) → List Setting
@@ -33,13 +38,18 @@ numbered option number = setting option (decimal number)
 abbrev pub client_setting : ClientWord → Setting
 client_setting word = setting (codes "client") (client_text word)
 
+-- a proof as an option
+abbrev pub proof_setting : ProofWord → Setting
+proof_setting word = setting (codes "proof") (proof_text word)
+
 -- a rule as an option
 abbrev pub rule_setting : RuleWord → Setting
 rule_setting rule = setting (codes "rule") (rule_text rule)
 
--- the options that may stand several times: clients, and rules
-abbrev pub repeated : List ClientWord → List RuleWord → List Setting
-repeated clients rules = map client_setting clients ++ map rule_setting rules
+-- the options that may stand several times: clients, proofs, and rules
+abbrev pub repeated : List ClientWord → List ProofWord → List RuleWord → List Setting
+repeated clients proofs rules =
+    map client_setting clients ++ (map proof_setting proofs ++ map rule_setting rules)
 
 -- the options of an order, each with its value
 abbrev pub settings_of : Order → List Setting
@@ -57,11 +67,19 @@ settings_of (Capacity network base journal first last from to out) =
     ∷ setting (codes "journal") journal ∷ numbered (codes "first") first
     ∷ numbered (codes "last") last ∷ numbered (codes "from") from ∷ numbered (codes "to") to
     ∷ setting (codes "out") out ∷ []
-settings_of (Serve network trains base journal clients rules) =
+settings_of (Serve network trains base journal clients proofs rules) =
     setting (codes "network") network ∷ setting (codes "trains") trains
     ∷ setting (codes "base") base ∷ setting (codes "journal") journal
-    ∷ repeated clients rules
+    ∷ repeated clients proofs rules
 settings_of (Demo number out) = numbered (codes "number") number ∷ setting (codes "out") out ∷ []
+settings_of (Check network trains base journal proof) =
+    setting (codes "network") network ∷ setting (codes "trains") trains
+    ∷ setting (codes "base") base ∷ setting (codes "journal") journal
+    ∷ setting (codes "proof") proof ∷ []
+settings_of (Batch network trains base journal client workers rules) =
+    setting (codes "network") network ∷ setting (codes "trains") trains
+    ∷ setting (codes "base") base ∷ setting (codes "journal") journal
+    ∷ client_setting client ∷ numbered (codes "workers") workers ∷ map rule_setting rules
 
 -- zones, the first to the last, each of 32 bits
 pub record AreZones (first last : ℕ) : Type 0 where
@@ -73,16 +91,20 @@ pub record AreTicks (from to : ℕ) : Type 0 where
   pub ordered : from < to
   pub within : IsTick (pos to)
 
--- the numbers, the clients and the rules of an order are within their limits; each rule is of one of the clients
+-- the numbers, the clients, the proofs and the rules of an order are within their limits; each proof is of one of the clients,
+-- each rule of one of the clients, or of one of the workers
 abbrev pub IsWithinLimits : Order → Type 0
 IsWithinLimits (Tables network out) = ⊤
 IsWithinLimits (Init network base journal from) = ⊤
 IsWithinLimits (Stairs network base journal entry out) = entry ≤ MAX_NUMBER
 IsWithinLimits (Capacity network base journal first last from to out) =
     AreZones first last × AreTicks from to
-IsWithinLimits (Serve network trains base journal clients rules) =
-    AreClients clients × AreRulesOf clients rules
+IsWithinLimits (Serve network trains base journal clients proofs rules) =
+    AreClients clients × AreProofs clients proofs × AreRulesOf clients rules
 IsWithinLimits (Demo number out) = number ≤ MAX_DEMO_NUMBER
+IsWithinLimits (Check network trains base journal proof) = ⊤
+IsWithinLimits (Batch network trains base journal client workers rules) =
+    IsBatch client workers rules
 
 -- each option has the same values in the same order
 abbrev pub Agree : List Setting → List Setting → Type 0
@@ -103,14 +125,16 @@ pub record AreWords (words : List Word) (order : Order) : Type 0 where
   pub spelled : Spell settings options
   pub asks : Asks command settings order
 
--- the rules of an order; none but `serve` has any
+-- the rules of an order; none but `serve` and `batch` have any
 abbrev pub rules_of : Order → List RuleWord
 rules_of (Tables network out) = []
 rules_of (Init network base journal from) = []
 rules_of (Stairs network base journal entry out) = []
 rules_of (Capacity network base journal first last from to out) = []
-rules_of (Serve network trains base journal clients rules) = rules
+rules_of (Serve network trains base journal clients proofs rules) = rules
 rules_of (Demo number out) = []
+rules_of (Check network trains base journal proof) = []
+rules_of (Batch network trains base journal client workers rules) = rules
 
 -- the words spell an order, and these are its rules
 pub record AskRules (words : List Word) (rules : List RuleWord) : Type 0 where

@@ -1,7 +1,9 @@
 //! The words of the server's commands, and the order that they spell.
 #![tactic(auto)]
 
+mod batches;
 mod capacities;
+mod checks;
 mod demos;
 mod file_names;
 mod grants;
@@ -9,8 +11,10 @@ mod orders;
 mod reading;
 mod serves;
 
+pub use batch_words::{MAX_BATCH_NAME_BYTES, MAX_WORKERS};
 pub use client_words::ClientWord;
 pub use option_words::{Text, WordsFault};
 pub use orders::{MAX_DEMO_NUMBER, Order};
+pub use proof_words::ProofWord;
 pub use reading::{read_words, rule_words};
 pub use rule_words::{RuleKind, RuleWord};

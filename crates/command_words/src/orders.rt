@@ -2,6 +2,7 @@
 
 use client_words::ClientWord;
 use option_words::Text;
+use proof_words::ProofWord;
 use rail_types::List;
 use rule_words::RuleWord;
 
@@ -47,14 +48,15 @@ pub enum Order {
         out: Text,
     },
     /// Answer the lines of clients: the names of the network's, the trains', the base timetable's and the journal's file,
-    /// the clients, 1 to `MAX_CLIENTS`, with names and streams of their own, and the rules by which paths may be denied to
-    /// them.
+    /// the clients, 1 to `MAX_CLIENTS`, with names and streams of their own, the files for the proofs of some of them, and the
+    /// rules by which paths may be denied to them.
     Serve {
         network: Text,
         trains: Text,
         base: Text,
         journal: Text,
         clients: List<ClientWord>,
+        proofs: List<ProofWord>,
         rules: List<RuleWord>,
     },
     /// Answer the lines of a client that are made up from a number, at most `MAX_DEMO_NUMBER`, and write how many paths were
@@ -62,5 +64,26 @@ pub enum Order {
     Demo {
         number: u32,
         out: Text,
+    },
+    /// Check the proofs of a file by the journal's history: the names of the network's, the trains', the base timetable's
+    /// and the journal's file, and of the file of proofs.
+    Check {
+        network: Text,
+        trains: Text,
+        base: Text,
+        journal: Text,
+        proof: Text,
+    },
+    /// Answer one list of asks by several workers: the names of the network's, the trains', the base timetable's and the
+    /// journal's file, the client whose list it is, with a name of at most `MAX_BATCH_NAME_BYTES`, how many workers there
+    /// are, 1 to `MAX_WORKERS`, and the rules by which paths may be denied to each of them.
+    Batch {
+        network: Text,
+        trains: Text,
+        base: Text,
+        journal: Text,
+        client: ClientWord,
+        workers: u32,
+        rules: List<RuleWord>,
     },
 }

@@ -4,7 +4,9 @@ ghost use Rattle.std.specs.Prelude.{◌≡◌, codes, IfOk, IsErrOf, map, option
 ghost use Rattle.command_words.specs.Orders.{AreWords, Asks, AskRules, rules_of};
 ghost use Rattle.command_words.specs.declared.orders.Order.{Order as order_type};
 
+use crate::batches::read_batch;
 use crate::capacities::read_capacity;
+use crate::checks::read_check;
 use crate::demos::read_demo;
 use crate::grants::read_stairs;
 use crate::orders::Order;
@@ -31,7 +33,7 @@ pub fn read_words(alloc: Global, words: &[String]) -> Result<Order, WordsFault>
     }
 }
 
-/// Reads the rules of an order's words, in the words' order; only `serve` has any. Any words that spell no order are
+/// Reads the rules of an order's words, in the words' order; only `serve` and `batch` have any. Any words that spell no order are
 /// `NotUnderstood`.
 pub fn rule_words(alloc: Global, words: &[String]) -> Result<List<RuleWord>, WordsFault>
     ensures understood { IfOk result (AskRules (map string_bytes words.now)) }
@@ -50,6 +52,7 @@ fn rules_in(alloc: Global, order: Order) -> List<RuleWord>
 {
     match order {
         Order::Serve { rules, .. } => rules,
+        Order::Batch { rules, .. } => rules,
         _ => List::new(alloc),
     }
 }
@@ -77,6 +80,12 @@ fn read_order(alloc: Global, command: &str, settings: &[Setting<'_>]) -> Result<
     }
     if command == "demo" {
         return read_demo(alloc, settings);
+    }
+    if command == "check" {
+        return read_check(alloc, settings);
+    }
+    if command == "batch" {
+        return read_batch(alloc, settings);
     }
     Err(WordsFault::NotUnderstood)
 }

@@ -10,6 +10,7 @@ use canonical_words::parse_serve;
 use client_words::read_clients;
 use no_memory::NoMemory;
 use option_words::{Setting, WordsFault, has_only, single_value, values_of};
+use proof_words::read_proofs;
 use rule_words::read_rules;
 use std::alloc::Global;
 
@@ -20,7 +21,9 @@ pub(crate) fn read_serve(alloc: Global, settings: &[Setting<'_>]) -> Result<Orde
         → (order : order_type) → Asks (codes "serve") settings.now order → ⊥ }
 {
     if !has_only(
-        &["network", "trains", "base", "journal", "client", "rule"],
+        &[
+            "network", "trains", "base", "journal", "client", "proof", "rule",
+        ],
         settings,
     ) {
         return Err(WordsFault::NotUnderstood);
@@ -38,6 +41,11 @@ pub(crate) fn read_serve(alloc: Global, settings: &[Setting<'_>]) -> Result<Orde
         Ok(clients) => clients,
         Err(fault) => return Err(fault),
     };
+    let proof_words = values_of(alloc, "proof", settings)?;
+    let proofs = match read_proofs(alloc, clients.as_slice(), proof_words.as_slice()) {
+        Ok(proofs) => proofs,
+        Err(fault) => return Err(fault),
+    };
     let rule_words = values_of(alloc, "rule", settings)?;
     let rules = match read_rules(alloc, clients.as_slice(), rule_words.as_slice()) {
         Ok(rules) => rules,
@@ -50,6 +58,7 @@ pub(crate) fn read_serve(alloc: Global, settings: &[Setting<'_>]) -> Result<Orde
             base: texts.base,
             journal: texts.journal,
             clients,
+            proofs,
             rules,
         }),
         Err(NoMemory) => Err(WordsFault::Memory),

@@ -1,5 +1,5 @@
 -- The session of the demo: from what its client was told to what is counted.
-use Rattle.std.proofs.Common.{◌≡◌, ◌∙◌, ℕ, ◌+◌, zero, suc, List, [], ◌∷◌, ◌++◌, Some, All, ap, arith, length, length-append, refl, subst, sym, codes}
+use Rattle.std.proofs.Common.{◌≡◌, ◌∙◌, ℕ, ◌+◌, zero, suc, List, [], ◌∷◌, ◌++◌, Some, All, false, ap, arith, length, length-append, refl, subst, sym, codes}
 use Rattle.std.specs.Prelude.{decimal}
 use Rattle.std.specs.Io.KnownBytes.{IsAtEnd}
 use Rattle.std.proofs.lemmas.List.Elements.{All-append, All-cons, All-nil}
@@ -17,8 +17,10 @@ use Rattle.line_sessions.proofs.SessionSteps.{lines_of-ended}
 use Rattle.outside_io.specs.Memory.{InputInMemory, OutputInMemory}
 use Rattle.outside_io.specs.StoredDisks.{DiskInMemory}
 use Rattle.path_commit.specs.Ledgers.{Ledger}
-use Rattle.request_server.specs.Runs.{AreMatched, IsRun, IsServed, told_own, WereServed}
-use Rattle.request_server.specs.Talks.{Talk}
+use Rattle.client_seats.specs.Runs.{AreMatched, IsRun, told_own}
+use Rattle.client_seats.specs.Talks.{Talk}
+use Rattle.line_sessions.specs.Proofs.{is_wanted}
+use Rattle.request_server.specs.Runs.{IsServed, WereServed}
 use Rattle.demo_command.specs.declared.summaries.Counts.{Counts}
 use Rattle.demo_command.specs.Counts.{AreHeld, count_lines, DemoPlan, DemoSession, IsCount, IsCounted, IsOnePlan}
 use Rattle.demo_command.specs.Lines.{ask_text, demo_lines, departure, first_lines}
@@ -95,10 +97,10 @@ at_input : (kind : Rules Quota) (found left : Ledger DiskInMemory) (plan : DemoP
 at_input kind found left plan session talk why served = subst (λ (w : Why). EndsBy w talk.traffic session.ended.lines (IsAtEnd (Some session.source.left))) why served.passes.ends
 
 held_by : (number : ℕ) (kind : Rules Quota) (found left : Ledger DiskInMemory) (plan : DemoPlan) (session : DemoSession) (front : ℕ) (counts : Counts) (talk : Talk)
-    → found.timetable ≡ demo_timetable → found.entries ≡ [] → plan.name ≡ client_name → plan.source.left ≡ ended (demo_lines number) → plan.sink.held ≡ [] → plan.rules.items ≡ []
+    → found.timetable ≡ demo_timetable → found.entries ≡ [] → plan.name ≡ client_name → plan.source.left ≡ ended (demo_lines number) → plan.sink.held ≡ [] → is_wanted plan.proofs ≡ false → plan.rules.items ≡ []
     → session.ended.why ≡ Input → IsCount session.sink.held front counts → front ≡ length left.entries
     → Serves kind found left plan session talk → Runs found left demo_names (talk ∷ []) → AreHeld number counts
-held_by number kind found left plan session front counts talk timetable empty name lines silent none why count at_front served run =
+held_by number kind found left plan session front counts talk timetable empty name lines silent unwanted none why count at_front served run =
     let ends = at_input kind found left plan session talk why served in
     let taken : talk.traffic.taken ≡ plan.source.left = sym (append-nil talk.traffic.taken) ∙ ap (λ rest. talk.traffic.taken ++ rest) (sym ends.at_end) ∙ sym served.passes.consumed in
     let told : lines_told talk.traffic.told ≡ demo_lines number = ends.lines_are.text ∙ ap lines_of (taken ∙ lines) ∙ lines_again (demo_lines number) (lines_plain number 1000) in
@@ -118,6 +120,7 @@ held_by number kind found left plan session front counts talk timetable empty na
         empty = empty;
         talk = talk;
         name = served.talk_name ∙ name;
+        proves = served.proves ∙ unwanted;
         rules = without_rules kind found left plan session talk empty none served;
         told_is = refl;
         lines = told;
@@ -142,4 +145,4 @@ are_held number kind known found left plans sessions front counts known_is timet
     let run : Runs found left demo_names (talked.talk ∷ []) =
     subst (λ (k : Names). Runs found left k (talked.talk ∷ [])) known_is
     (subst (λ (ts : List Talk). Runs found left known ts) talked.one served.run) in
-    held_by number kind found left planned.plan counted.session front counts talked.talk timetable empty planned.is.name planned.is.lines planned.is.empty planned.is.rules counted.why counted.count at_front talked.served run
+    held_by number kind found left planned.plan counted.session front counts talked.talk timetable empty planned.is.name planned.is.lines planned.is.empty planned.is.unwanted planned.is.rules counted.why counted.count at_front talked.served run

@@ -1,10 +1,11 @@
 -- Lines of a text, counted by how they begin. *inside*
-use Rattle.std.specs.Prelude.{◌≡◌, ℕ, ◌+◌, All, Bool, List, [], ◌∷◌, codes, filter, length, nat_eq}
+use Rattle.std.specs.Prelude.{◌≡◌, ℕ, ◌+◌, All, Bool, false, List, [], ◌∷◌, codes, filter, length, nat_eq}
 use Rattle.std.specs.List.{slice_split, starts_with}
 use Rattle.admission_rules.specs.declared.quotas.Quota.{Quota}
 use Rattle.line_sessions.specs.Told.{Told}
 use Rattle.line_sessions.specs.declared.sessions.Why.TheVariants.{Input}
 use Rattle.line_sessions.specs.Lines.{ended}
+use Rattle.line_sessions.specs.Proofs.{is_wanted}
 use Rattle.outside_io.specs.Memory.{InputInMemory, OutputInMemory}
 use Rattle.outside_io.specs.StoredDisks.{DiskInMemory}
 use Rattle.outside_io.specs.declared.betweens.NoBetween.{NoBetween}
@@ -44,11 +45,12 @@ pub record IsCounted (sessions : List DemoSession) (front : ℕ) (counts : Count
   pub why : session.ended.why ≡ Input
   pub count : IsCount session.sink.held front counts
 
--- the plan of the client whose lines are those of the demo, who was told nothing yet, and who has no rules
+-- the plan of the client whose lines are those of the demo, who was told nothing yet, wants no proofs, and has no rules
 pub record IsDemoPlan (number : ℕ) (plan : DemoPlan) : Type 0 where
   pub name : plan.name ≡ client_name
   pub lines : plan.source.left ≡ ended (demo_lines number)
   pub empty : plan.sink.held ≡ []
+  pub unwanted : is_wanted plan.proofs ≡ false
   pub rules : plan.rules.items ≡ []
 
 -- there is this one plan

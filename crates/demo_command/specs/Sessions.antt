@@ -6,8 +6,8 @@ use Rattle.outside_io.specs.StoredDisks.{DiskInMemory}
 use Rattle.path_commit.specs.Ledgers.{Ledger}
 use Rattle.reply_texts.specs.declared.replies.Reply.{Reply}
 use Rattle.reply_texts.specs.declared.replies.Reply.TheVariants as reply
-use Rattle.request_server.specs.Runs.{IsRun}
-use Rattle.request_server.specs.Talks.{Talk}
+use Rattle.client_seats.specs.Runs.{IsRun}
+use Rattle.client_seats.specs.Talks.{Talk}
 use Rattle.demo_command.specs.Lines.{demo_lines}
 use Rattle.demo_command.specs.Railways.{demo_railway, demo_timetable, demo_train}
 
@@ -19,14 +19,15 @@ client_name = codes "A"
 abbrev pub demo_names : Names
 demo_names = record { railway = demo_railway; trains = demo_train ∷ [] }
 
--- The lines of the demo were told this, as one history gives it, which began without an entry; the client has no rules.
--- These are the entries that were left.
+-- The lines of the demo were told this, as one history gives it, which began without an entry; the client wants no
+-- proofs, and has no rules. These are the entries that were left.
 pub record IsSession (number : ℕ) (told : List Told) (left : Ledger DiskInMemory) : Type 0 where
   pub found : Ledger DiskInMemory
   pub timetable : found.timetable ≡ demo_timetable
   pub empty : found.entries ≡ []
   pub talk : Talk
   pub name : talk.name ≡ client_name
+  pub proves : talk.proves ≡ false
   pub rules : talk.rules ≡ []
   pub told_is : talk.traffic.told ≡ told
   pub lines : lines_told told ≡ demo_lines number

@@ -14,7 +14,7 @@ use crate::trains::trains;
 use admission_rules::Quota;
 use client_lines::Known;
 use command_reports::Refusal;
-use line_sessions::Why;
+use line_sessions::{Proofs, Why};
 use no_memory::NoMemory;
 use outside_io::{MemSink, MemSource, NoBetween};
 use rail_types::Name;
@@ -95,7 +95,7 @@ fn one_plan(
     Ok(plans)
 }
 
-// The one client, whose lines come out of memory, and whose replies go there. It has no rules.
+// The one client, whose lines come out of memory, and whose replies go there. It wants no proofs, and has no rules.
 fn plan(alloc: Global, number: u32) -> Result<Plan<MemSource, MemSink, NoBetween, Quota>, NoMemory>
     ensures { IfOk result (IsDemoPlan number) }
 {
@@ -104,6 +104,7 @@ fn plan(alloc: Global, number: u32) -> Result<Plan<MemSource, MemSink, NoBetween
         name: Name::from_bytes(alloc, b"A")?,
         source: MemSource::new(lines, Vec::new(alloc)),
         sink: MemSink::new(alloc, ROOM, Vec::new(alloc))?,
+        proofs: Proofs::Unwanted,
         between: NoBetween,
         rules: Vec::new(alloc),
     })

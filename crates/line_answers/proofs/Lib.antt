@@ -7,3 +7,4 @@ pub mod Rows
 pub mod Told
 pub mod Behind
 pub mod Denied
+pub mod Proved

@@ -1,5 +1,5 @@
 -- A reply that added nothing, and whose text could not be made.
-use Rattle.std.proofs.Common.{◌≡◌, ℕ, All, IfErr, List, [], Result, Ok, Err, ◌∙◌, subst, refl}
+use Rattle.std.proofs.Common.{◌≡◌, ℕ, true, false, All, IfErr, IsOk, is_err, List, [], Result, Ok, Err, ◌∙◌, subst, refl}
 use Rattle.book_gate.specs.declared.views.Turn.{Turn}
 use Rattle.rail_types.specs.declared.entries.Entry.{Entry}
 use Rattle.reply_texts.specs.declared.replies.Reply.{Reply}
@@ -72,3 +72,8 @@ untold caller bytes told v w adds between =
 pub if_err : {T E : Type 0} (P : Type 0) (result : Result T E) → P → IfErr result (λ refused. P)
 if_err P (Ok value) told = tt
 if_err P (Err refused) told = told
+
+-- nothing is both told and not
+pub not_told : {T E : Type 0} (P : Type 0) (result : Result T E) → is_err result ≡ true → IsOk result → P
+not_told P (Ok value) err ok = absurd (let wrong : false ≡ true = err in cc)
+not_told P (Err refused) err ok = absurd (let wrong : false ≡ true = ok in cc)

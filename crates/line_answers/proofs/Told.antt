@@ -314,7 +314,7 @@ free_not (at ∷ positions) wish rules none = cc
 -- ---- what may be denied
 
 -- a line that a rule denies is one that rules may deny
-no_name : (rule : RuleName) → None ≡ Some rule → ⊥
+pub no_name : (rule : RuleName) → None ≡ Some rule → ⊥
 no_name rule wrong = cc
 
 pub denied_may : (rules : List Ruled) (ask : Ask) (rule : RuleName) → denied_by rules (wished ask) ≡ Some rule → MayBeDenied ask

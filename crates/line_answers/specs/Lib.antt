@@ -6,3 +6,4 @@ pub mod Callers
 pub mod Tells
 pub mod Asked
 pub mod Sharing
+pub mod Proved

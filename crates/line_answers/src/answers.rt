@@ -1,5 +1,5 @@
 //! One line, answered.
-ghost use Rattle.std.specs.Prelude.{◌≡◌, ◌⊎◌, ◌+◌, ◌++◌, ◌≤◌, IfErr, IfOk, OnErr, length};
+ghost use Rattle.std.specs.Prelude.{◌≡◌, ◌⊎◌, ◌+◌, ◌++◌, ◌≤◌, [], IfErr, IfOk, OnErr, length};
 ghost use Rattle.book_gate.specs.Passes.{turns_left, view};
 ghost use Rattle.client_lines.specs.Within.{IsAskWithin};
 ghost use Rattle.client_lines.specs.declared.lines.TheConstants.{MAX_LINE_BYTES};
@@ -13,12 +13,13 @@ ghost use Rattle.line_answers.specs.Asked.{HasRoomIn};
 ghost use Rattle.line_answers.specs.Calls.{AnswersBetween};
 ghost use Rattle.client_rules.specs.Ruled.{stand};
 ghost use Rattle.line_answers.specs.Callers.{AnswersAllowed, caller_of};
+ghost use Rattle.line_answers.specs.Proved.{IsProvedBetween, ShowsBytes, ShowsLine};
 ghost use Rattle.line_answers.specs.Rules.{told_by};
 ghost use Rattle.line_answers.specs.Sharing.{IsShared};
 ghost use Rattle.line_answers.specs.Tells.{AddsNothing};
 
 use crate::asks::ask;
-use crate::replies::unread;
+use crate::replies::{keep_proof, unread};
 use crate::rules::answer_ruled;
 use crate::shared::Shared;
 use crate::words::{free, front, hold, pin, show_entry};
@@ -37,7 +38,9 @@ use std::sync::Wait;
 /// Answers one line of a client, of so many bytes without its end, in at most four turns: the reply, whose text comes
 /// behind what stood in the buffer. For want of memory for the text nothing comes there, and nothing was added to the
 /// history. `between` is called behind each search that found a path. The client's rules are asked as they stand, and
-/// told of the entry that the reply tells as the line's own.
+/// told of the entry that the reply tells as the line's own. Where proofs are wanted and the reply tells that a path was
+/// granted or that there is none, the text of a proof takes the place of what the buffer of the proof held; else that
+/// buffer is emptied.
 pub fn answer_one<R: Wait, L: Rule, D: Disk, B: Between>(
     rt: &R,
     alloc: Global,
@@ -48,6 +51,8 @@ pub fn answer_one<R: Wait, L: Rule, D: Disk, B: Between>(
     line_number: u32,
     line: &[u8],
     text: &mut Buffer,
+    proves: bool,
+    proof: &mut Buffer,
     between: &mut B,
 ) -> Result<Reply, NoMemory>
     requires ready { IsReady shared.now.gate pass.old }
@@ -64,6 +69,9 @@ pub fn answer_one<R: Wait, L: Rule, D: Disk, B: Between>(
         AnswersBetween
         (caller_of shared.now (stand L.Rule rules.old) client.old.name line_number)
         line.now reply (view pass.old) (view pass.new)) }
+    ensures proved { IfOk result (λ reply.
+        IsProvedBetween shared.now.known (timetable_at shared.now.gate) proves line.now reply
+        proof.new.held (view pass.old) (view pass.new)) }
     ensures told { IfOk result (λ reply. stand L.Rule rules.new
         ≡ told_by (view pass.new).seen reply (stand L.Rule rules.old)) }
     ensures text { IfOk result (λ reply. text.new.held ≡ text.old.held ++ text_of reply) }
@@ -72,9 +80,11 @@ pub fn answer_one<R: Wait, L: Rule, D: Disk, B: Between>(
         (caller_of shared.now (stand L.Rule rules.old) client.old.name line_number)
         line.now no_memory (view pass.old) (view pass.new)) }
     ensures untold { OnErr result (text.new.held ≡ text.old.held) }
+    ensures unproved { OnErr result (proof.new.held ≡ []) }
     ensures unruled { OnErr result (stand L.Rule rules.new ≡ stand L.Rule rules.old) }
 {
     replies_have_room();
+    proof.clear();
     // Room for the reply of a line that adds an entry is made before any turn.
     text.reserve(reply_room(0))?;
     let reply = answer_bytes(
@@ -87,9 +97,15 @@ pub fn answer_one<R: Wait, L: Rule, D: Disk, B: Between>(
         line_number,
         line,
         text,
+        proves,
+        proof,
         between,
     );
-    reply_text(&reply, text)?;
+    keep_proof(proves, &reply, proof);
+    if reply_text(&reply, text).is_err() {
+        proof.clear();
+        return Err(NoMemory);
+    }
     Ok(reply)
 }
 
@@ -104,6 +120,8 @@ fn answer_bytes<R: Wait, L: Rule, D: Disk, B: Between>(
     line_number: u32,
     line: &[u8],
     text: &mut Buffer,
+    proves: bool,
+    proof: &mut Buffer,
     between: &mut B,
 ) -> Reply
     requires ready { IsReady shared.now.gate pass.old }
@@ -120,6 +138,8 @@ fn answer_bytes<R: Wait, L: Rule, D: Disk, B: Between>(
     ensures answers { AnswersBetween
         (caller_of shared.now (stand L.Rule rules.old) client.old.name line_number)
         line.now result (view pass.old) (view pass.new) }
+    ensures shown { ShowsBytes shared.now proves line.now result proof.new.held
+        (view pass.old) (view pass.new) }
     ensures told { stand L.Rule rules.new
         ≡ told_by (view pass.new).seen result (stand L.Rule rules.old) }
     ensures held { text.new.held ≡ text.old.held }
@@ -137,6 +157,8 @@ fn answer_bytes<R: Wait, L: Rule, D: Disk, B: Between>(
             line_number,
             line,
             text,
+            proves,
+            proof,
             between,
         ),
         Err(fault) => unread(fault),
@@ -153,6 +175,8 @@ pub(crate) fn answer_line<R: Wait, D: Disk, B: Between>(
     line_number: u32,
     line: Line,
     text: &mut Buffer,
+    proves: bool,
+    proof: &mut Buffer,
     between: &mut B,
 ) -> Reply
     requires ready { IsReady shared.now.gate pass.old }
@@ -167,6 +191,8 @@ pub(crate) fn answer_line<R: Wait, D: Disk, B: Between>(
     ensures name { client.new.name ≡ client.old.name }
     ensures knows { Knows (timetable_at shared.now.gate) client.new (view pass.new).seen }
     ensures answers { AnswersAllowed shared.now client.old.name line_number line result
+        (view pass.old) (view pass.new) }
+    ensures shown { ShowsLine shared.now proves line result proof.new.held
         (view pass.old) (view pass.new) }
     ensures held { text.new.held ≡ text.old.held }
     ensures room { HasRoomIn text.new result ⊎ AddsNothing result }
@@ -207,6 +233,8 @@ pub(crate) fn answer_line<R: Wait, D: Disk, B: Between>(
             number,
             request,
             text,
+            proves,
+            proof,
             between,
         ),
         Ask::Free(number, freed) => free(

@@ -12,6 +12,7 @@ ghost use Rattle.client_turns.specs.Clients.{IsCopyOf, Knows};
 ghost use Rattle.client_turns.specs.Turns.{IsReady, timetable_at};
 ghost use Rattle.line_answers.specs.Asked.{AnswersBehind, HasRoomIn, asking};
 ghost use Rattle.line_answers.specs.Callers.{AnswersAllowed};
+ghost use Rattle.line_answers.specs.Proved.{ShowsBehind, ShowsLine};
 ghost use Rattle.line_answers.specs.Sharing.{IsShared};
 ghost use Rattle.line_answers.specs.Tells.{AddsNothing};
 
@@ -24,6 +25,7 @@ use client_turns::{Client, find_again};
 use no_memory::NoMemory;
 use outside_io::{Between, Disk};
 use path_commit::Book;
+use proof_texts::asks_can_be_told;
 use rail_types::{Deed, List, Network, Path, Request, Wanted};
 use reply_texts::Reply;
 use std::alloc::Global;
@@ -42,6 +44,8 @@ pub(crate) fn ask<R: Wait, D: Disk, B: Between>(
     number: u64,
     request: Request,
     text: &mut Buffer,
+    proves: bool,
+    proof: &mut Buffer,
     between: &mut B,
 ) -> Reply
     requires ready { IsReady shared.now.gate pass.old }
@@ -57,6 +61,8 @@ pub(crate) fn ask<R: Wait, D: Disk, B: Between>(
     ensures knows { Knows (timetable_at shared.now.gate) client.new (view pass.new).seen }
     ensures answers { AnswersAllowed shared.now client.old.name line_number
         (asking after number request) result (view pass.old) (view pass.new) }
+    ensures shown { ShowsLine shared.now proves (asking after number request) result proof.new.held
+        (view pass.old) (view pass.new) }
     ensures held { text.new.held ≡ text.old.held }
     ensures room { HasRoomIn text.new result ⊎ AddsNothing result }
 {
@@ -74,6 +80,8 @@ pub(crate) fn ask<R: Wait, D: Disk, B: Between>(
             number,
             request,
             text,
+            proves,
+            proof,
             between,
         ),
         Ok(Some(told)) => number_told(number, told, client.front()),
@@ -105,6 +113,8 @@ fn seek_path<R: Wait, D: Disk, B: Between>(
     number: u64,
     request: Request,
     text: &mut Buffer,
+    proves: bool,
+    proof: &mut Buffer,
     between: &mut B,
 ) -> Reply
     requires ready { IsReady shared.now.gate pass.old }
@@ -120,9 +130,12 @@ fn seek_path<R: Wait, D: Disk, B: Between>(
     ensures knows { Knows (timetable_at shared.now.gate) client.new (view pass.new).seen }
     ensures answers { AnswersBehind shared.now client.old.name line_number
         number request result (view pass.old) (view pass.new) }
+    ensures shown { ShowsBehind shared.now proves number request result proof.new.held
+        (view pass.old) (view pass.new) }
     ensures held { text.new.held ≡ text.old.held }
     ensures room { HasRoomIn text.new result ⊎ AddsNothing result }
 {
+    asks_can_be_told();
     sound_networks_are_asked();
     let net = network_of(shared);
     let places = match places(alloc, net, &shared.followers, &request) {
@@ -145,12 +158,14 @@ fn seek_path<R: Wait, D: Disk, B: Between>(
         rt,
         alloc,
         &shared.gate,
-        net,
+        &shared.known,
         &shared.settings,
         pass,
         client,
         &ask,
         text,
+        proves,
+        proof,
         between,
     ) {
         Ok(outcome) => ask_told(number, outcome, client.front()),

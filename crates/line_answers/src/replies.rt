@@ -5,9 +5,11 @@ ghost use Rattle.ask_turns.specs.Tries.{IsOfNumber, IsRefusedByNumber};
 ghost use Rattle.byte_fields.specs.Buffered.{Buffered};
 ghost use Rattle.reply_texts.specs.Rooms.{room_for};
 ghost use Rattle.line_answers.specs.Asked.{HasRoomIn, IsOutcomeTold, TellsAsk, TellsPath};
+ghost use Rattle.line_answers.specs.Proved.{kept_text};
 ghost use Rattle.line_answers.specs.Tells.{AddsNothing, IsFreeTold, IsHoldTold, IsPinTold, TellsAgain, TellsFree, TellsHold, TellsPin, fault_reply, halt_reply};
 
 use ask_turns::Outcome;
+use byte_fields::Buffer;
 use client_lines::LineFault;
 use client_turns::{Entered, Halt, Refusal};
 use grant_log::Verdict;
@@ -218,5 +220,19 @@ fn path_told(number: u64, entered: Entered, runs: List<Run>, front: u64) -> Repl
         },
         Entered::Refused(told) => number_told(number, told, front),
         Entered::Full => Reply::Full { number, front },
+    }
+}
+
+// Keeps the text of a proof where one is wanted and stands beside the reply, and empties the buffer else.
+pub(crate) fn keep_proof(proves: bool, reply: &Reply, proof: &mut Buffer)
+    ensures { proof.new.held ≡ kept_text proves reply.now proof.old.held }
+{
+    if !proves {
+        proof.clear();
+        return;
+    }
+    match reply {
+        Reply::NoPath { .. } | Reply::Granted { .. } => {}
+        _ => proof.clear(),
     }
 }

@@ -13,6 +13,7 @@ ghost use Rattle.line_answers.specs.Answers.{MayBeDenied};
 ghost use Rattle.line_answers.specs.Asked.{HasRoomIn};
 ghost use Rattle.line_answers.specs.Callers.{AnswersDenied, AnswersLine, caller_of};
 ghost use Rattle.line_answers.specs.Points.{added};
+ghost use Rattle.line_answers.specs.Proved.{ShowsLine};
 ghost use Rattle.line_answers.specs.Rules.{IsNoFree, IsSentWith, TellsLine, is_some_added, told_free, told_grant, wished};
 ghost use Rattle.line_answers.specs.Sharing.{IsShared};
 ghost use Rattle.line_answers.specs.Tells.{AddsNothing};
@@ -47,6 +48,8 @@ pub(crate) fn answer_ruled<R: Wait, L: Rule, D: Disk, B: Between>(
     line_number: u32,
     line: Line,
     text: &mut Buffer,
+    proves: bool,
+    proof: &mut Buffer,
     between: &mut B,
 ) -> Reply
     requires ready { IsReady shared.now.gate pass.old }
@@ -63,6 +66,8 @@ pub(crate) fn answer_ruled<R: Wait, L: Rule, D: Disk, B: Between>(
     ensures answers { AnswersLine
         (caller_of shared.now (stand L.Rule rules.old) client.old.name line_number)
         line result (view pass.old) (view pass.new) }
+    ensures shown { ShowsLine shared.now proves line result proof.new.held
+        (view pass.old) (view pass.new) }
     ensures told { TellsLine shared.now.known line (view pass.new).seen result
         (stand L.Rule rules.old) (stand L.Rule rules.new) }
     ensures held { text.new.held ≡ text.old.held }
@@ -78,6 +83,8 @@ pub(crate) fn answer_ruled<R: Wait, L: Rule, D: Disk, B: Between>(
             line_number,
             line,
             text,
+            proves,
+            proof,
             between,
         );
     }
@@ -105,6 +112,8 @@ pub(crate) fn answer_ruled<R: Wait, L: Rule, D: Disk, B: Between>(
             line_number,
             Line { after, ask },
             text,
+            proves,
+            proof,
             between,
         ),
     }
@@ -121,6 +130,8 @@ fn answer_wished<R: Wait, L: Rule, D: Disk, B: Between>(
     line_number: u32,
     line: Line,
     text: &mut Buffer,
+    proves: bool,
+    proof: &mut Buffer,
     between: &mut B,
 ) -> Reply
     requires ready { IsReady shared.now.gate pass.old }
@@ -138,6 +149,8 @@ fn answer_wished<R: Wait, L: Rule, D: Disk, B: Between>(
     ensures answers { AnswersLine
         (caller_of shared.now (stand L.Rule rules.old) client.old.name line_number)
         line result (view pass.old) (view pass.new) }
+    ensures shown { ShowsLine shared.now proves line result proof.new.held
+        (view pass.old) (view pass.new) }
     ensures told { TellsLine shared.now.known line (view pass.new).seen result
         (stand L.Rule rules.old) (stand L.Rule rules.new) }
     ensures held { text.new.held ≡ text.old.held }
@@ -156,6 +169,8 @@ fn answer_wished<R: Wait, L: Rule, D: Disk, B: Between>(
         line_number,
         line,
         text,
+        proves,
+        proof,
         between,
     );
     tell_of_grant(rules, &wish, &reply);

@@ -1,4 +1,5 @@
 pub mod Lines
+pub mod Proofs
 pub mod Told
 pub mod Ends
 pub mod Streams

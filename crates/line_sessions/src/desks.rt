@@ -1,6 +1,6 @@
 //! Who answers the lines of a client.
 
-ghost use Rattle.std.specs.Prelude.{◌≡◌, ◌+◌, ◌++◌, ◌≤◌, ℕ, List, length, IfOk, OnErr};
+ghost use Rattle.std.specs.Prelude.{◌≡◌, ◌+◌, ◌++◌, ◌≤◌, [], ℕ, List, length, IfOk, OnErr};
 ghost use Rattle.client_lines.specs.declared.lines.TheConstants.{MAX_LINE_BYTES};
 ghost use Rattle.reply_texts.specs.Replies.{reply_text};
 ghost use Rattle.reply_texts.specs.declared.replies.Reply.{Reply as reply_type};
@@ -14,8 +14,9 @@ use std::sync::Wait;
 
 /// Answers the lines of one client, one after another.
 pub trait Desk {
-    /// A line of this number, counted from 1, was told this reply, which took the desk from one state to the other.
-    ghost answers: { Self → ℕ → List ℕ → reply_type → Self → Type 0 };
+    /// A line of this number, counted from 1, was told this reply, with a proof of this text, which took the desk from one
+    /// state to the other.
+    ghost answers: { Self → ℕ → List ℕ → reply_type → List ℕ → Self → Type 0 };
 
     /// How many lines it may still be asked at least.
     ghost lines_left: { Self → ℕ };
@@ -23,7 +24,8 @@ pub trait Desk {
     /// What it needs before an answer, and keeps.
     ghost is_sound: { Self → Type 0 };
 
-    /// Answers a line, and appends the reply's text. Where memory is wanted the text is as before.
+    /// Answers a line, and appends the reply's text. The text of the reply's proof takes the place of what `proof` held; it
+    /// is empty where the reply has no proof. Where memory is wanted the reply's text is as before.
     fn answer<R: Wait>(
         &mut self,
         rt: &R,
@@ -31,15 +33,17 @@ pub trait Desk {
         line_number: u32,
         line: &[u8],
         text: &mut Buffer,
+        proof: &mut Buffer,
     ) -> Result<Reply, NoMemory>
         requires left { 1 ≤ lines_left self.old }
         requires sound { is_sound self.old }
         requires line { length line.now ≤ MAX_LINE_BYTES }
         ensures sound { is_sound self.new }
         ensures left { lines_left self.old ≤ lines_left self.new + 1 }
-        ensures told { IfOk result (λ told. answers self.old line_number line.now told self.new) }
+        ensures told { IfOk result
+            (λ told. answers self.old line_number line.now told proof.new.held self.new) }
         ensures text { IfOk result (λ told. text.new.held ≡ text.old.held ++ reply_text told) }
         ensures wanted { OnErr result
-            (answers self.old line_number line.now reply.NoMemory self.new) }
+            (answers self.old line_number line.now reply.NoMemory [] self.new) }
         ensures no_text { OnErr result (text.new.held ≡ text.old.held) };
 }

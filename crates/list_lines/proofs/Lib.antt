@@ -1,3 +1,4 @@
 pub mod Gathered
 pub mod Fields
 pub mod Numbered
+pub mod Numbering

@@ -30,6 +30,11 @@ AreNumbered known (line ∷ lines) [] = ⊥
 AreNumbered known (line ∷ lines) (number ∷ numbers) =
     IsNumbered known line number × AreNumbered known lines numbers
 
+-- lines have one list of numbers
+abbrev pub NumbersAreOne : Type 0
+NumbersAreOne = (known : Names) (lines : List (List ℕ)) (numbers others : List (Option ℕ))
+    → AreNumbered known lines numbers → AreNumbered known lines others → numbers ≡ others
+
 -- whether the number is among these
 abbrev pub has : List ℕ → ℕ → Bool
 has numbers number = list_any (nat_eq number) numbers

@@ -2,9 +2,11 @@
 #![tactic(auto)]
 
 mod asks;
+mod laws;
 mod lists;
 mod numbers;
 
 pub use asks::first_no_ask;
+pub use laws::numbers_are_one;
 pub use lists::{ListFault, read_list};
 pub use numbers::{first_twice, numbers_of};

@@ -8,15 +8,17 @@ use Rattle.outside_io.specs.declared.sinks.Sink.{Ghosts as Sinks}
 use Rattle.outside_io.specs.declared.sources.Source.{Ghosts as Sources}
 use Rattle.file_rounds.specs.Scenes.{Scene}
 use Rattle.command_words.specs.declared.orders.Order.{Order}
-use Rattle.command_words.specs.declared.orders.Order.TheVariants.{Tables, Init, Stairs, Capacity, Serve, Demo}
+use Rattle.command_words.specs.declared.orders.Order.TheVariants.{Tables, Init, Stairs, Capacity, Serve, Demo, Check, Batch}
 use Rattle.command_reports.specs.Works.{Runs}
-use Rattle.capacity_command.specs.Capacities.{stretch_of, TellsCapacity}
+use Rattle.batch_command.specs.Runs.{IsBatchDone, IsRefusedList, RunsBatch}
+use Rattle.capacity_command.specs.Capacities.{HasNoCapacity, stretch_of, TellsCapacity}
+use Rattle.check_command.specs.Runs.{IsChecked, IsRefused, RunsCheck}
 use Rattle.demo_command.specs.Works.{demo_calls, DemoWorks, IsShown}
 use Rattle.init_command.specs.Works.{BeginOver, init_calls, IsDone, move_calls, MoveOver, ReadsBoth}
 use Rattle.journal_files.specs.Steps.{IsPrinted, print_calls, Prints}
 use Rattle.list_command.specs.Works.{IsListed, list_calls, ListWorks}
 use Rattle.serve_command.specs.Runs.{IsServed, RunsServe}
-use Rattle.stairs_command.specs.Tables.{TellsStairs}
+use Rattle.stairs_command.specs.Tables.{HasNoGrant, TellsStairs}
 
 -- an order was carried out, step by step, with these rules of clients
 abbrev pub OrderSays : {Src Snk Dsk L : Type 0} → Sources Src → Sinks Snk → Disks Dsk → Rules L
@@ -36,10 +38,16 @@ OrderSays source sink disk kind handed (Capacity network base journal first last
     Runs sink (print_calls network base journal out)
     (Prints source sink disk network base journal out
     (TellsCapacity (stretch_of first last from to))) old new status
-OrderSays source sink disk kind handed (Serve network trains base journal clients rules) old new status =
-    RunsServe source sink disk kind network base trains journal clients handed old new status
+OrderSays source sink disk kind handed (Serve network trains base journal clients proofs rules) old new status =
+    RunsServe source sink disk kind network base trains journal clients proofs handed old new
+    status
 OrderSays source sink disk kind handed (Demo number out) old new status =
     Runs sink (demo_calls out) (DemoWorks sink number out) old new status
+OrderSays source sink disk kind handed (Check network trains base journal proof) old new status =
+    RunsCheck source sink disk network trains base journal proof old new status
+OrderSays source sink disk kind handed (Batch network trains base journal client workers rules) old new status =
+    RunsBatch source sink disk kind network trains base journal client workers handed old new
+    status
 
 -- all that an order asks for was done, with these rules of clients
 abbrev pub OrderIsDone : {Src Snk Dsk L : Type 0} → Sources Src → Sinks Snk → Disks Dsk → Rules L
@@ -55,9 +63,29 @@ OrderIsDone source sink disk kind handed (Stairs network base journal entry out)
 OrderIsDone source sink disk kind handed (Capacity network base journal first last from to out) old new =
     IsPrinted source sink disk network base journal out
     (TellsCapacity (stretch_of first last from to)) old new
-OrderIsDone source sink disk kind handed (Serve network trains base journal clients rules) old new =
-    IsServed source sink disk kind network base trains journal clients handed old new
+OrderIsDone source sink disk kind handed (Serve network trains base journal clients proofs rules) old new =
+    IsServed source sink disk kind network base trains journal clients proofs handed old new
 OrderIsDone source sink disk kind handed (Demo number out) old new = IsShown sink number out old new
+OrderIsDone source sink disk kind handed (Check network trains base journal proof) old new =
+    IsChecked source sink disk network trains base journal proof old new
+OrderIsDone source sink disk kind handed (Batch network trains base journal client workers rules) old new =
+    IsBatchDone source sink disk kind network trains base journal client workers handed old new
+
+-- why an order was answered with its command's own no; only stairways, capacities, proofs and batches have one
+abbrev pub OrderIsRefused : {Src Snk Dsk : Type 0} → Sources Src → Disks Dsk → Order
+    → Scene Src Snk Dsk → Type 0
+OrderIsRefused source disk (Tables network out) old = ⊥
+OrderIsRefused source disk (Init network base journal from) old = ⊥
+OrderIsRefused source disk (Stairs network base journal entry out) old =
+    HasNoGrant source disk network base journal entry old
+OrderIsRefused source disk (Capacity network base journal first last from to out) old =
+    HasNoCapacity source disk network base journal (stretch_of first last from to) old
+OrderIsRefused source disk (Serve network trains base journal clients proofs rules) old = ⊥
+OrderIsRefused source disk (Demo number out) old = ⊥
+OrderIsRefused source disk (Check network trains base journal proof) old =
+    IsRefused source disk network trains base journal proof old
+OrderIsRefused source disk (Batch network trains base journal client workers rules) old =
+    IsRefusedList source disk network trains base journal client workers old
 
 -- the order has no disk of this name
 abbrev pub NamesNoDisk : Order → List ℕ → Type 0
@@ -66,8 +94,10 @@ NamesNoDisk (Init network base journal None) name = name ≢ journal
 NamesNoDisk (Init network base journal (Some from)) name = (name ≢ journal) × (name ≢ from)
 NamesNoDisk (Stairs network base journal entry out) name = name ≢ journal
 NamesNoDisk (Capacity network base journal first last from to out) name = name ≢ journal
-NamesNoDisk (Serve network trains base journal clients rules) name = name ≢ journal
+NamesNoDisk (Serve network trains base journal clients proofs rules) name = name ≢ journal
 NamesNoDisk (Demo number out) name = ⊤
+NamesNoDisk (Check network trains base journal proof) name = name ≢ journal
+NamesNoDisk (Batch network trains base journal client workers rules) name = name ≢ journal
 
 -- the order serves no clients
 abbrev pub HasNoClients : Order → Type 0
@@ -75,5 +105,7 @@ HasNoClients (Tables network out) = ⊤
 HasNoClients (Init network base journal from) = ⊤
 HasNoClients (Stairs network base journal entry out) = ⊤
 HasNoClients (Capacity network base journal first last from to out) = ⊤
-HasNoClients (Serve network trains base journal clients rules) = ⊥
+HasNoClients (Serve network trains base journal clients proofs rules) = ⊥
 HasNoClients (Demo number out) = ⊤
+HasNoClients (Check network trains base journal proof) = ⊤
+HasNoClients (Batch network trains base journal client workers rules) = ⊥

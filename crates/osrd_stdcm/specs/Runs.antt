@@ -15,7 +15,7 @@ use Rattle.command_reports.specs.Refusals.{IsTold, line_with}
 use Rattle.command_reports.specs.Reports.{TellsRefusal}
 use Rattle.command_reports.specs.declared.refusals.Refusal.{Refusal}
 use Rattle.command_reports.specs.declared.refusals.Refusal.TheVariants.{Memory}
-use Rattle.osrd_stdcm.specs.Orders.{HasNoClients, NamesNoDisk, OrderIsDone, OrderSays}
+use Rattle.osrd_stdcm.specs.Orders.{HasNoClients, NamesNoDisk, OrderIsDone, OrderIsRefused, OrderSays}
 
 -- words that spell no order
 abbrev pub AskNothing : List Word → Type 0
@@ -64,3 +64,10 @@ pub record IsDone {Src Snk Dsk L : Type 0} (source : Sources Src) (sink : Sinks 
   pub order : Order
   pub asked : AreWords words order
   pub done : OrderIsDone source sink disk kind handed order old new
+
+-- the words spell an order, and its command's own no was answered, for this reason
+pub record IsRefused {Src Snk Dsk : Type 0} (source : Sources Src) (disk : Disks Dsk)
+    (words : List Word) (old : Scene Src Snk Dsk) : Type 0 where
+  pub order : Order
+  pub asked : AreWords words order
+  pub refused : OrderIsRefused source disk order old

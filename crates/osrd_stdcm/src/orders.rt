@@ -5,10 +5,12 @@ ghost use Rattle.outside_io.specs.Openings.{Undisturbed};
 ghost use Rattle.outside_io.specs.Places.{Untouched};
 ghost use Rattle.command_words.specs.Orders.{IsWithinLimits};
 ghost use Rattle.file_rounds.specs.Scenes.{scene};
-ghost use Rattle.osrd_stdcm.specs.Orders.{HasNoClients, NamesNoDisk, OrderIsDone, OrderSays};
+ghost use Rattle.osrd_stdcm.specs.Orders.{HasNoClients, NamesNoDisk, OrderIsDone, OrderIsRefused, OrderSays};
 
 use admission_rules::Rule;
+use batch_command::run_batch;
 use capacity_command::run_capacity;
+use check_command::run_check;
 use client_rules::ClientRules;
 use command_words::Order;
 use demo_command::run_demo;
@@ -34,6 +36,8 @@ pub(crate) fn obey<R: AllocGlobal + Threads + Wait + Sync, O: Outside, L: Rule +
         (scene O.Outside outside.old) (scene O.Outside outside.new) result }
     ensures done { result ≡ Status.Done → OrderIsDone O.Src.Source O.Snk.Sink O.Dsk.Disk L.Rule
         rules.items order (scene O.Outside outside.old) (scene O.Outside outside.new) }
+    ensures no { result ≡ Status.No → OrderIsRefused O.Src.Source O.Dsk.Disk order
+        (scene O.Outside outside.old) }
     ensures clean { HasNoClients order → result ≢ Status.Done → result ≢ Status.Report
         → Untouched (O.sinks outside.old) (O.sinks outside.new) }
     ensures refused { result ≢ Status.Done → result ≢ Status.ClientEnd → result ≢ Status.Report
@@ -110,6 +114,7 @@ pub(crate) fn obey<R: AllocGlobal + Threads + Wait + Sync, O: Outside, L: Rule +
             base,
             journal,
             clients,
+            proofs,
             ..
         } => run_serve(
             rt,
@@ -118,9 +123,44 @@ pub(crate) fn obey<R: AllocGlobal + Threads + Wait + Sync, O: Outside, L: Rule +
             base.as_str(),
             journal.as_str(),
             clients.as_slice(),
+            proofs.as_slice(),
             rules,
             outside,
         ),
         Order::Demo { number, out } => run_demo(rt, number, out.as_str(), outside),
+        Order::Check {
+            network,
+            trains,
+            base,
+            journal,
+            proof,
+        } => run_check(
+            alloc,
+            network.as_str(),
+            trains.as_str(),
+            base.as_str(),
+            journal.as_str(),
+            proof.as_str(),
+            outside,
+        ),
+        Order::Batch {
+            network,
+            trains,
+            base,
+            journal,
+            client,
+            workers,
+            ..
+        } => run_batch(
+            rt,
+            network.as_str(),
+            trains.as_str(),
+            base.as_str(),
+            journal.as_str(),
+            &client,
+            workers,
+            rules,
+            outside,
+        ),
     }
 }

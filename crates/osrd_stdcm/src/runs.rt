@@ -4,7 +4,7 @@ ghost use Rattle.std.specs.Prelude.{◌≡◌, ◌≢◌, ◌⊎◌, ℕ, List, 
 ghost use Rattle.outside_io.specs.Openings.{Undisturbed};
 ghost use Rattle.outside_io.specs.Places.{Untouched};
 ghost use Rattle.file_rounds.specs.Scenes.{scene};
-ghost use Rattle.osrd_stdcm.specs.Runs.{AskNoClients, AskNoDisk, AskNothing, IsDone, RunSays, TellsWords};
+ghost use Rattle.osrd_stdcm.specs.Runs.{AskNoClients, AskNoDisk, AskNothing, IsDone, IsRefused, RunSays, TellsWords};
 
 use crate::orders::obey;
 use admission_rules::Rule;
@@ -26,11 +26,22 @@ use std::thread::Threads;
 /// `serve --network F --trains F --base F --journal F --client NAME=IN:OUT`, with 1 to 16 clients, answers the lines of all
 /// clients at once, over the journal. With `--rule NAME=quota:N`, `--rule NAME=curfew:FROM:TO` or `--rule NAME=longest:METRES`,
 /// any number of them, paths are denied to clients by rules. These are made by the caller, and handed in: those of a client
-/// are in the elements with its name, in order. Elements with other names are dropped.
+/// are in the elements with its name, in order. Elements with other names are dropped. With `--proof NAME=F`, at most one
+/// for a client, the proof of each reply to it that grants a path, or tells that there is none, is written to F before the
+/// reply.
 ///
 /// `stairs --network F --base F --journal F --entry I --out F` writes the stairway table of a grant.
 ///
 /// `capacity --network F --base F --journal F --first A --last B --from T --to T --out F` writes how full a stretch is.
+///
+/// `check --network F --trains F --base F --journal F --proof F` judges proofs that requests could not be granted, each by the
+/// first entries of the journal's history that it names, and reports how many there are, or the first that does not hold.
+///
+/// `batch --network F --trains F --base F --journal F --client NAME=IN:OUT --workers W` reads a list of asks as a whole, has its
+/// lines answered by 1 to 16 workers at once, over the journal, and writes the replies in the order of the list. A worker is a
+/// client of its own: the first is `NAME_01`. With `--rule NAME_01=quota:N` and the like paths are denied to workers by rules,
+/// which are made and handed in as those of `serve` are. A list with a line that does not ask, or with a number that stands
+/// twice, is refused as a whole.
 ///
 /// `demo --number N --out F` asks a thousand times on a railway of its own, and writes how many asks were granted.
 ///
@@ -53,6 +64,9 @@ pub fn run<R: AllocGlobal + Threads + Wait + Sync, O: Outside, L: Rule + Send>(
     ensures done { result ≡ Status.Done → IsDone O.Src.Source O.Snk.Sink O.Dsk.Disk L.Rule
         rules.items (map string_bytes words.now) (scene O.Outside outside.old)
         (scene O.Outside outside.new) }
+    // At No the command's own no was answered, for a reason that it has.
+    ensures no { result ≡ Status.No → IsRefused O.Src.Source O.Dsk.Disk
+        (map string_bytes words.now) (scene O.Outside outside.old) }
     // At a refusal no sink gained anything: whatever the words, and at want of memory too where they serve no clients.
     ensures refused { result ≢ Status.Done → result ≢ Status.ClientEnd → result ≢ Status.Report
         → result ≢ Status.Memory → Untouched (O.sinks outside.old) (O.sinks outside.new) }

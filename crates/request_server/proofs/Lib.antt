@@ -1,11 +1,1 @@
-pub mod Counts
-pub mod Shares
-pub mod Told
-pub mod Rows
-pub mod Owned
-pub mod Histories
-pub mod Settles
-pub mod Replies
-pub mod Joins
-pub mod Whole
 pub mod Matched

@@ -1,16 +1,22 @@
 -- Lists that stand to one another place by place, and clients that are served and taken in one after another.
-use Rattle.std.proofs.Common.{◌≡◌, ◌≢◌, ℕ, suc, ◌+◌, ◌<◌, List, [], ◌∷◌, ◌++◌, All, AllPairs, IsPermutation, get_or, length, map, reverse, ap, sym, ◌∙◌, subst, refl, arith, length-append}
+use Rattle.std.proofs.Common.{◌≡◌, ◌≢◌, ℕ, suc, ◌+◌, ◌<◌, List, [], ◌∷◌, ◌++◌, All, AllPairs, get_or, length, map, reverse, ap, sym, ◌∙◌, subst, refl, arith, length-append}
 use Rattle.std.proofs.Math.ListN.{get_or-map}
 use Rattle.std.proofs.lemmas.List.{append-nil, append_assoc, get_or_default, length-map, nil_from_length, reverse-append}
 use Rattle.std.proofs.lemmas.List.Elements.{All-cons, All-head, All-nil, All-tail}
 use Rattle.admission_rules.specs.declared.rules.Rule.{Ghosts as Rules}
 use Rattle.book_gate.specs.Passes.{view}
-use Rattle.book_gate.specs.Steps.{joining}
-use Rattle.book_gate.specs.Views.{StartsWith, own, rises}
+use Rattle.book_gate.specs.Views.{StartsWith}
 use Rattle.client_rules.specs.Ruled.{stand}
 use Rattle.client_rules.specs.Told.{told_at}
-use Rattle.client_turns.specs.Turns.{IsReady, Sight, timetable_at}
-use Rattle.line_answers.specs.Callers.{caller_of}
+use Rattle.client_seats.specs.Joins.{AreJoined}
+use Rattle.client_seats.specs.Runs.{AreMatched, owned}
+use Rattle.client_seats.specs.Seats.{callers_at, found_at, IsDone}
+use Rattle.client_seats.specs.Talks.{printed, Talk}
+use Rattle.client_seats.proofs.Done.{seat_done}
+use Rattle.client_seats.proofs.Histories.{given_within}
+use Rattle.client_seats.proofs.Joins.{joined_none}
+use Rattle.client_seats.proofs.Owned.{told_at-longer, told_whole}
+use Rattle.client_turns.specs.Turns.{Sight}
 use Rattle.line_answers.specs.declared.shared.Shared.{Shared}
 use Rattle.line_sessions.specs.Ends.{Streams}
 use Rattle.line_sessions.specs.Told.{Told}
@@ -18,13 +24,8 @@ use Rattle.rail_types.specs.declared.entries.Entry.{Entry}
 use Rattle.request_server.specs.declared.plans.Job.{Job}
 use Rattle.request_server.specs.declared.plans.Plan.{Plan}
 use Rattle.request_server.specs.declared.plans.Session.{Session}
-use Rattle.request_server.specs.Jobs.{AreJoined, Begun, begun, begun_of, found_at, HasPassed, IsDoneJob, IsReadyJob, session_of, WasServed}
-use Rattle.request_server.specs.Runs.{AreMatched, callers_of, IsServed, owned}
-use Rattle.request_server.specs.Talks.{Callers, IsTalk, printed, Talk}
-use Rattle.request_server.proofs.Histories.{given_within}
-use Rattle.request_server.proofs.Joins.{joined_more, joined_none, joined_parts}
-use Rattle.request_server.proofs.Replies.{seat_callers, Seated, seated_all, talk_of}
-use Rattle.request_server.proofs.Owned.{told_at-longer, told_whole}
+use Rattle.request_server.specs.Jobs.{Begun, begun, begun_of, HasPassed, IsDoneJob, IsReadyJob, session_of, WasServed}
+use Rattle.request_server.specs.Runs.{IsServed}
 
 module _ {X Y Z : Type 0} (R : X → Y → Z → Type 0) where
   matched_push : (xs : List X) (ys : List Y) (zs : List Z) (x : X) (y : Y) (z : Z) → AreMatched R xs ys zs → R x y z
@@ -136,43 +137,24 @@ pub apart_alike : {X Z N : Type 0} (f : X → N) (g : Z → N) (xs : List X) (zs
 apart_alike f g xs zs same apart =
     AllPairs-map (λ a b. a ≢ b) g zs (subst (AllPairs (λ a b. a ≢ b)) (sym same) (AllPairs-mapped (λ a b. a ≢ b) f xs apart))
 
--- the callers of a gate's lines
-abbrev pub shared_callers : {D : Type 0} → Shared D → List ℕ → Callers
-shared_callers shared = callers_of shared.known (timetable_at shared.gate)
-
 module _ {D Src Snk Btw L : Type 0} (kind : Rules L) (shared : Shared D) (streams : Streams Src Snk) where
   abbrev pub talk_in : (old new : Job D Src Snk Btw L) → WasServed kind streams old new → Talk
-  talk_in old new was = record { name = old.name; rules = stand kind old.seat.rules.items; traffic = was.ends.traffic }
+  talk_in old new was = record { name = old.name; rules = stand kind old.seat.rules.items; proves = old.seat.proves; traffic = was.ends.traffic }
 
   one_done : (old new : Job D Src Snk Btw L) → IsReadyJob shared old → (was : WasServed kind streams old new)
-      → IsDoneJob kind (shared_callers shared) shared streams (begun_of kind old) new (talk_in old new was)
+      → IsDoneJob kind shared streams (begun_of kind old) new (talk_in old new was)
   one_done old new ready was =
-      let told : List Told = was.ends.traffic.told in
-      let rules = stand kind old.seat.rules.items in
-      let seated : Seated kind old.seat new.seat (seat_callers kind old.seat) told = seated_all kind old.seat new.seat told was.ends.answered in
-      let serves = seated.serving.serves in
-      let gate : new.seat.shared.now ≡ shared = ap (λ s. s.now) seated.shared ∙ ready.shared_is in
-      let callers : seat_callers kind old.seat ≡ shared_callers shared old.name =
-      ap {A = Shared D} {B = Callers} (λ s number its. caller_of s its old.seat.client.name number) ready.shared_is
-      ∙ ap {A = List ℕ} {B = Callers} (λ name number its. caller_of shared its name number) ready.name in record {
-        passed = record { name = was.name; talk_name = refl; rules = refl; passes = was.ends.passes; told = seated.serving.ruled };
-        back = record {
-          ready = subst (λ (s : Shared D). IsReady s.gate new.seat.pass) gate was.seated.ready;
-          share = serves.share ∙ ready.share;
-        };
-        replies = subst (λ (n : ℕ). IsTalk (view new.seat.pass).seen (shared_callers shared old.name) n rules told) (ap length ready.seen)
-            (subst (λ (c : Callers). IsTalk (view new.seat.pass).seen c (length (view old.seat.pass).seen) rules told) callers
-            (talk_of (view old.seat.pass) (view new.seat.pass) (seat_callers kind old.seat) rules (stand kind new.seat.rules.items) told seated.serving));
-        own_entries = serves.own_entries ∙ ap (λ ts. own ts ++ printed told) ready.turns;
-        counts = λ below. let all = serves.counts below in omega arith;
-        told_so = serves.told_so ready.turns;
-        settled = serves.settled;
+      let done : IsDone kind shared new.seat (talk_in old new was) =
+      subst (λ name. IsDone kind shared new.seat (record { name = name; rules = stand kind old.seat.rules.items; proves = old.seat.proves; traffic = was.ends.traffic })) ready.name
+      (seat_done kind shared old.seat new.seat was.ends.traffic ready.taken was.seated was.ends.answered) in record {
+        passed = record { name = was.name; talk_name = refl; rules = refl; proves = ready.proves; passes = was.ends.passes; told = done.told };
+        done = done;
       }
 
   -- where each was served, all are done
   pub all_done : (olds news : List (Job D Src Snk Btw L)) → length news ≡ length olds → All (IsReadyJob shared) olds
       → ((k : ℕ) (d : Job D Src Snk Btw L) → k < length olds → WasServed kind streams (get_or olds k d) (get_or news k d))
-      → (talks : List Talk) × AreMatched (IsDoneJob kind (shared_callers shared) shared streams) (map (begun_of kind) olds) news talks
+      → (talks : List Talk) × AreMatched (IsDoneJob kind shared streams) (map (begun_of kind) olds) news talks
   all_done [] [] long ready each = ([], tt)
   all_done [] (new ∷ news) long ready each = absurd (omega arith)
   all_done (old ∷ olds) [] long ready each = absurd (omega arith)
@@ -185,14 +167,15 @@ module _ {D Src Snk Btw L : Type 0} (kind : Rules L) (shared : Shared D) (stream
 
   -- what passed by what a pass has seen passed by each longer history
   passed_longer : (history : List Entry) (client : Begun Src Snk Btw) (job : Job D Src Snk Btw L) (talk : Talk) → StartsWith history (view job.seat.pass).seen
-      → IsDoneJob kind (shared_callers shared) shared streams client job talk → HasPassed kind streams history client (session_of job) talk
+      → IsDoneJob kind shared streams client job talk → HasPassed kind streams history client (session_of job) talk
   passed_longer history client job talk more done =
       let passed = done.passed in
       let told : List Told = talk.traffic.told in let seen : List Entry = (view job.seat.pass).seen in
-      let within = given_within seen (shared_callers shared talk.name) 1 (length (found_at shared.gate)) talk.rules told done.replies.given in record {
+      let within = given_within seen (callers_at shared talk.name) 1 (length (found_at shared.gate)) talk.rules told done.done.replies.given in record {
         name = passed.name;
         talk_name = passed.talk_name;
         rules = passed.rules;
+        proves = passed.proves;
         passes = passed.passes;
         told = passed.told ∙ sym (told_at-longer history seen (printed told) talk.rules more within);
       }
@@ -206,11 +189,11 @@ module _ {D Src Snk Btw L : Type 0} (kind : Rules L) (shared : Shared D) (stream
     pub clients_are : clients ≡ clients_in ++ clients_out
     pub talks_are : talks ≡ talks_in ++ talks_out
     pub passed : (history : List Entry) → All (λ list. StartsWith history list) v.joined → AreMatched (HasPassed kind streams history) clients_in sessions talks_in
-    pub out : AreMatched (IsDoneJob kind (shared_callers shared) shared streams) clients_out (reverse jobs) talks_out
-    pub joined : AreJoined (shared_callers shared) (length (found_at shared.gate)) v talks_in
+    pub out : AreMatched (IsDoneJob kind shared streams) clients_out (reverse jobs) talks_out
+    pub joined : AreJoined shared v talks_in
 
   pub joining_none : (clients : List (Begun Src Snk Btw)) (talks : List Talk) (jobs : List (Job D Src Snk Btw L)) (v : Sight)
-      → AreMatched (IsDoneJob kind (shared_callers shared) shared streams) clients (reverse jobs) talks → v.turns ≡ []
+      → AreMatched (IsDoneJob kind shared streams) clients (reverse jobs) talks → v.turns ≡ []
       → Joining clients talks jobs [] v
   joining_none clients talks jobs v all none = record {
     clients_in = [];
@@ -221,17 +204,17 @@ module _ {D Src Snk Btw L : Type 0} (kind : Rules L) (shared : Shared D) (stream
     talks_are = refl;
     passed = λ history ends. tt;
     out = all;
-    joined = joined_none (shared_callers shared) (length (found_at shared.gate)) v none;
+    joined = joined_none shared v none;
   }
 
   pub joining_more : (clients : List (Begun Src Snk Btw)) (talks : List Talk) (rest : List (Job D Src Snk Btw L)) (job : Job D Src Snk Btw L) (sessions : List (Session Src Snk L)) (v new : Sight)
-      → Joining clients talks (rest ++ job ∷ []) sessions v → new ≡ joining v (view job.seat.pass)
-      → IsPermutation (v.turns ++ (view job.seat.pass).turns) new.turns
-      → IsPermutation (own v.turns ++ own (view job.seat.pass).turns) (own new.turns)
-      → rises new.turns ≡ rises v.turns + rises (view job.seat.pass).turns
+      → Joining clients talks (rest ++ job ∷ []) sessions v
+      → ((history : List Entry) → All (λ list. StartsWith history list) new.joined → All (λ list. StartsWith history list) v.joined × StartsWith history (view job.seat.pass).seen)
+      → ((before : List Talk) (talk : Talk) → AreJoined shared v before → IsDone kind shared job.seat talk
+      → AreJoined shared new (before ++ talk ∷ []))
       → Joining clients talks rest (sessions ++ session_of job ∷ []) new
-  joining_more clients talks rest job sessions v new j same turns entries rise =
-      let R = IsDoneJob kind (shared_callers shared) shared streams in
+  joining_more clients talks rest job sessions v new j seen more =
+      let R = IsDoneJob kind shared streams in
       let out : AreMatched R j.clients_out (job ∷ reverse rest) j.talks_out =
       subst (λ l. AreMatched R j.clients_out l j.talks_out) (reverse-append rest (job ∷ [])) j.out in
       let f : First R j.clients_out job (reverse rest) j.talks_out = first_of R j.clients_out job (reverse rest) j.talks_out out in record {
@@ -242,26 +225,26 @@ module _ {D Src Snk Btw L : Type 0} (kind : Rules L) (shared : Shared D) (stream
         clients_are = j.clients_are ∙ ap (λ l. j.clients_in ++ l) f.xs_are ∙ sym (append_assoc j.clients_in (f.x ∷ []) f.others);
         talks_are = j.talks_are ∙ ap (λ l. j.talks_in ++ l) f.zs_are ∙ sym (append_assoc j.talks_in (f.z ∷ []) f.rest);
         passed = λ history ends.
-            let parts = joined_parts (λ list. StartsWith history list) v (view job.seat.pass) new same ends in
+            let parts = seen history ends in
             matched_push (HasPassed kind streams history) j.clients_in sessions j.talks_in f.x (session_of job) f.z (j.passed history parts.0) (passed_longer history f.x job f.z parts.1 f.one);
         out = f.left;
-        joined = joined_more (shared_callers shared) (length (found_at shared.gate)) v (view job.seat.pass) new j.talks_in f.z j.joined f.one.replies f.one.own_entries f.one.counts f.one.told_so f.one.settled same turns entries rise;
+        joined = more j.talks_in f.z j.joined f.one.done;
       }
 
   pub joining_all : (clients : List (Begun Src Snk Btw)) (talks : List Talk) (jobs : List (Job D Src Snk Btw L)) (sessions : List (Session Src Snk L)) (v : Sight)
       → Joining clients talks jobs sessions v → length jobs ≡ 0
       → ((history : List Entry) → All (λ list. StartsWith history list) v.joined → AreMatched (HasPassed kind streams history) clients sessions talks)
-      × AreJoined (shared_callers shared) (length (found_at shared.gate)) v talks
+      × AreJoined shared v talks
   joining_all clients talks jobs sessions v j empty =
       let none = nil_from_length jobs empty in
-      let R = IsDoneJob kind (shared_callers shared) shared streams in
+      let R = IsDoneJob kind shared streams in
       let left = none_left R j.clients_out j.talks_out (subst (λ l. AreMatched R j.clients_out (reverse l) j.talks_out) none j.out) in
       let all_clients : j.clients_in ≡ clients = sym (j.clients_are ∙ ap (λ l. j.clients_in ++ l) left.0 ∙ append-nil j.clients_in) in
       let all_talks : j.talks_in ≡ talks = sym (j.talks_are ∙ ap (λ l. j.talks_in ++ l) left.1 ∙ append-nil j.talks_in) in (
         λ history ends.
             subst (λ l. AreMatched (HasPassed kind streams history) l sessions talks) all_clients
             (subst (λ l. AreMatched (HasPassed kind streams history) j.clients_in sessions l) all_talks (j.passed history ends)),
-        subst (AreJoined (shared_callers shared) (length (found_at shared.gate)) v) all_talks j.joined,
+        subst (AreJoined shared v) all_talks j.joined,
       )
 
 -- ---- what the clients were told, by the history left
@@ -276,6 +259,7 @@ module _ {Src Snk Btw L : Type 0} (kind : Rules L) (streams : Streams Src Snk) (
   one_served plan session talk more passed entries = record {
     name = passed.name;
     talk_name = passed.talk_name;
+    proves = passed.proves;
     passes = passed.passes;
     begun = passed.rules;
     told = passed.told ∙ ap (λ ps. told_at left ps talk.rules) (sym entries)

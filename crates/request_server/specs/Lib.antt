@@ -1,5 +1,2 @@
 pub mod Runs
-pub mod Talks
-pub mod Tellings
-pub mod Seats
 pub mod Jobs

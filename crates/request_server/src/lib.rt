@@ -4,8 +4,6 @@
 
 mod plans;
 mod runs;
-mod seats;
-mod tellings;
 
 pub use plans::{Plan, Session};
 pub use runs::serve_clients;

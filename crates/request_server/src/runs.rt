@@ -1,10 +1,14 @@
 //! Many clients at once.
 
-ghost use Rattle.std.specs.Prelude.{◌≡◌, ◌≢◌, ◌+◌, ◌*◌, ◌≤◌, ◌<◌, [], ◌∷◌, ◌++◌, ℕ, List, All, AllPairs, IfOk, IfErr, slice_index_or, length, map, reverse, vec_len, vec_capacity};
-ghost use Rattle.book_gate.specs.Passes.{view, turns_left};
+ghost use Rattle.std.specs.Prelude.{◌≡◌, ◌≢◌, ◌+◌, ◌*◌, ◌<◌, ◌≤◌, [], ◌++◌, ◌∷◌, ℕ, List, All, AllPairs, IfOk, IfErr, slice_index_or, length, map, reverse, vec_len, vec_capacity};
+ghost use Rattle.book_gate.specs.Passes.{view};
 ghost use Rattle.book_gate.specs.Views.{StartsWith};
 ghost use Rattle.client_lines.specs.Within.{AreSound};
-ghost use Rattle.client_turns.specs.Clients.{IsCopyOf};
+ghost use Rattle.client_seats.specs.Gates.{IsHost, IsNewcomer};
+ghost use Rattle.client_seats.specs.Joins.{AreJoined};
+ghost use Rattle.client_seats.specs.Runs.{AreMatched};
+ghost use Rattle.client_seats.specs.Seats.{found_at, IsBack};
+ghost use Rattle.client_seats.specs.Talks.{Talk as talk_type};
 ghost use Rattle.client_turns.specs.Turns.{IsReady, timetable_at};
 ghost use Rattle.line_answers.specs.Sharing.{IsShared};
 ghost use Rattle.line_sessions.specs.Ends.{streams};
@@ -12,37 +16,27 @@ ghost use Rattle.path_commit.specs.Footings.{footing_of};
 ghost use Rattle.path_commit.specs.Ledgers.{settled_of};
 ghost use Rattle.rail_types.specs.Limits.{IsClientName};
 ghost use Rattle.rail_types.specs.declared.entries.Entry.{Entry as entry_type};
-ghost use Rattle.request_server.specs.Jobs.{AreJoined, begun, begun_of, found_at, HasPassed, IsBack, IsDoneJob, IsReadyJob, WasServed};
-ghost use Rattle.request_server.specs.Runs.{AreMatched, callers_of, WereServed};
-ghost use Rattle.request_server.specs.Talks.{Talk as talk_type};
-ghost use Rattle.request_server.specs.Tellings.{own_tellings};
-ghost use Rattle.tail_states.specs.Following.{AreFollowers};
+ghost use Rattle.request_server.specs.Jobs.{begun, begun_of, HasPassed, IsDoneJob, IsReadyJob, WasServed};
+ghost use Rattle.request_server.specs.Runs.{WereServed};
 
-use crate::plans::{Job, Newcomer, Plan, Session};
-use crate::seats::Seat;
-use crate::tellings::{tellings_of, told};
+use crate::plans::{Job, Plan, Session};
 use admission_rules::Rule;
-use book_gate::{Gate, Pass};
+use book_gate::Pass;
 use client_lines::Known;
-use client_turns::Client;
+use client_seats::{Newcomer, close_gate, leave_seat, open_gate, take_seat};
 use line_answers::Shared;
 use line_sessions::{Ended, Why, serve_lines};
 use no_memory::NoMemory;
 use outside_io::{Between, Disk, Sink, Source};
 use path_commit::Book;
-use rail_types::networks_without_flaws;
 use std::alloc::Global;
 use std::sync::Wait;
 use std::thread;
 use std::thread::Threads;
-use tail_states::Followers;
-
-// Each line takes at most four turns, and a client has at most 100,000 lines.
-const TURNS: u64 = 400_000;
 
 /// Serves 1 to 16 clients at once over one book, each in a thread where one can be made. Each client's rules are told its
-/// own entries: first those of the book, and then each that is added for a line of it. It hands back the book, and how each
-/// client's session ended. Where there is no memory for the clients, nothing was read and all is handed back.
+/// own entries: first those of the book, and then each that is added for a line of it. Where a client wants proofs, one is
+/// written before each of its replies that has one. It hands back the book, and how each client's session ended. Where there is no memory for the clients, nothing was read and all is handed back.
 pub fn serve_clients<
     R: Threads + Wait + Sync,
     D: Disk + Send,
@@ -78,44 +72,15 @@ pub fn serve_clients<
     let Ok(sessions) = Vec::with_capacity(alloc, plans.len()) else {
         return Err((book, plans, NoMemory));
     };
-    let Ok(followers) = followers_of(alloc, &known) else {
-        return Err((book, plans, NoMemory));
-    };
-    let settings = *book.history().settings();
-    let count = plans.len() as u64;
-    let (gate, mut pass) = match Gate::new(alloc, book, count * TURNS + 1) {
-        Ok(made) => made,
+    let (shared, mut pass) = match open_gate(alloc, book, known, plans.len()) {
+        Ok(opened) => opened,
         Err((book, refused)) => return Err((book, plans, refused)),
     };
-    let shared = Shared {
-        gate,
-        known,
-        settings,
-        followers,
-    };
-    let jobs = split_all(&shared, &mut pass, plans, newcomers, jobs);
+    let jobs = seat_all(&shared, &mut pass, plans, newcomers, jobs);
     let jobs = serve_all(rt, alloc, &shared, jobs);
     let sessions = join_all(&shared, &mut pass, jobs, sessions);
-    let Shared {
-        gate,
-        known: _known,
-        settings: _settings,
-        followers: _followers,
-    } = shared;
-    let book = gate.close(pass);
-    // The book tells that each of its entries is legal by those before it.
-    book.keeps();
+    let book = close_gate(shared, pass);
     Ok((book, sessions))
-}
-
-// Which blocks follow one another in the network.
-fn followers_of(alloc: Global, known: &Known) -> Result<Followers, NoMemory>
-    requires { AreSound known.now }
-    ensures { IfOk result (AreFollowers known.now.railway.network) }
-{
-    networks_without_flaws();
-    let followers = Followers::new(alloc, &known.railway().network)?;
-    Ok(followers)
 }
 
 // A client for each plan, which knows the book as it stands.
@@ -124,27 +89,22 @@ fn newcomers_of<D: Disk, S: Source + Drop, T: Sink + Drop, B: Between + Drop, L:
     book: &Book<D>,
     plans: &[Plan<S, T, B, L>],
 ) -> Result<Vec<Newcomer>, NoMemory>
+    requires named { All (λ p. IsClientName p.name) plans.now }
     ensures names { IfOk result (λ newcomers.
         map (λ n. n.client.name) newcomers.items ≡ map (λ p. p.name) plans.now) }
-    ensures copies { IfOk result (λ newcomers.
-        All (λ n. IsCopyOf book.now.timetable n.client book.now.entries) newcomers.items) }
-    ensures tellings { IfOk result (λ newcomers.
-        All (λ n. n.tellings.items ≡ own_tellings book.now.entries n.client.name)
-        newcomers.items) }
+    ensures newcomers { IfOk result (λ newcomers. All (λ n.
+        IsNewcomer book.now.timetable book.now.entries n.client.name n) newcomers.items) }
 {
     let mut newcomers = Vec::new(alloc);
     for plan in plans {
-        let name = plan.name.copy(alloc)?;
-        let tellings = tellings_of(alloc, book.history(), &name)?;
-        let client = Client::new(alloc, name, book)?;
-        newcomers.push(Newcomer { client, tellings })?;
+        let newcomer = Newcomer::new(alloc, book, &plan.name)?;
+        newcomers.push(newcomer)?;
     }
     Ok(newcomers)
 }
 
-// Gives each client a pass, with the turns that its lines may take, and tells its rules of the entries that were found. The
-// clients come out in the other order.
-fn split_all<'a, D: Disk, S: Source + Drop, T: Sink + Drop, B: Between + Drop, L: Rule>(
+// Gives each client its seat. The clients come out in the other order.
+fn seat_all<'a, D: Disk, S: Source + Drop, T: Sink + Drop, B: Between + Drop, L: Rule>(
     shared: &'a Shared<D>,
     pass: &mut Pass<Book<D>>,
     mut plans: Vec<Plan<S, T, B, L>>,
@@ -152,49 +112,38 @@ fn split_all<'a, D: Disk, S: Source + Drop, T: Sink + Drop, B: Between + Drop, L
     mut jobs: Vec<Job<'a, D, S, T, B, L>>,
 ) -> Vec<Job<'a, D, S, T, B, L>>
     requires shared { IsShared shared.now }
-    requires ready { IsReady shared.now.gate pass.old }
-    requires left { (view pass.old).share ≡ length plans.items * 400000 + 1 }
-    requires all_left { turns_left pass.old ≡ (view pass.old).share }
-    requires turns { (view pass.old).turns ≡ [] }
-    requires seen { (view pass.old).seen ≡ found_at shared.now.gate }
-    requires named { All (λ p. IsClientName p.name) plans.items }
+    requires host { IsHost shared.now pass.old }
+    requires share { (view pass.old).share ≡ length plans.items * 400000 + 1 }
     requires names { map (λ n. n.client.name) newcomers.items ≡ map (λ p. p.name) plans.items }
-    requires copies { All (λ n. IsCopyOf (timetable_at shared.now.gate) n.client
-        (view pass.old).seen) newcomers.items }
-    requires tellings { All (λ n. n.tellings.items
-        ≡ own_tellings (found_at shared.now.gate) n.client.name) newcomers.items }
+    requires newcomers { All (λ n. IsNewcomer (timetable_at shared.now.gate)
+        (found_at shared.now.gate) n.client.name n) newcomers.items }
     requires jobs { jobs.items ≡ [] }
     requires room { vec_len plans ≤ vec_capacity jobs }
-    ensures ready { IsReady shared.now.gate pass.new }
+    ensures host { IsHost shared.now pass.new }
     ensures share { (view pass.new).share ≡ 1 }
-    ensures turns { (view pass.new).turns ≡ [] }
     ensures jobs { All (IsReadyJob shared.now) result.items }
     ensures begun { map (begun_of L.Rule) result.items
         ≡ reverse (map (begun L.Rule (found_at shared.now.gate)) plans.items) }
     ensures count { length result.items ≡ length plans.items }
 {
     while let Some(plan) = plans.pop() {
-        let Newcomer { client, tellings } = last_of(&mut newcomers);
-        let pass = shared.gate.split(pass, TURNS);
+        let newcomer = last_of(&mut newcomers);
         let Plan {
             name,
             source,
             sink,
+            proofs,
             between,
             rules,
         } = plan;
-        let seat = Seat {
-            shared,
-            pass,
-            client,
-            between,
-            rules: told(rules, &tellings),
-        };
+        let proves = proofs.is_wanted();
+        let seat = take_seat(shared, pass, newcomer, between, rules, proves);
         jobs.push_reserved(Job {
             seat,
             name,
             source,
             sink,
+            proofs,
             ended: Ended {
                 lines: 0,
                 why: Why::Memory,
@@ -230,11 +179,10 @@ fn serve_all<
     mut jobs: Vec<Job<'a, D, S, T, B, L>>,
 ) -> Vec<Job<'a, D, S, T, B, L>>
     requires { All (IsReadyJob shared.now) jobs.items }
-    ensures back { All (IsBack shared.now) result.items }
+    ensures back { All (λ job. IsBack shared.now job.seat) result.items }
     ensures count { length result.items ≡ length jobs.entry.items }
     ensures done { (talks : List talk_type) × AreMatched
-        (IsDoneJob L.Rule (callers_of shared.now.known (timetable_at shared.now.gate)) shared.now
-        (streams S.left S.faults T.held T.faults))
+        (IsDoneJob L.Rule shared.now (streams S.left S.faults T.held T.faults))
         (map (begun_of L.Rule) jobs.entry.items) result.items talks }
 {
     serve_each(rt, alloc, shared, jobs.as_mut_slice());
@@ -272,7 +220,14 @@ fn serve_job<'a, R: Wait, D: Disk, S: Source + Drop, T: Sink + Drop, B: Between 
     requires { IsReadyJob shared.now job.old }
     ensures { WasServed L.Rule (streams S.left S.faults T.held T.faults) job.old job.new }
 {
-    let ended = serve_lines(rt, alloc, &mut job.seat, &mut job.source, &mut job.sink);
+    let ended = serve_lines(
+        rt,
+        alloc,
+        &mut job.seat,
+        &mut job.source,
+        &mut job.sink,
+        &mut job.proofs,
+    );
     job.ended = ended;
 }
 
@@ -285,21 +240,19 @@ fn join_all<'a, D: Disk, S: Source + Drop, T: Sink + Drop, B: Between + Drop, L:
 ) -> Vec<Session<S, T, L>>
     requires ready { IsReady shared.now.gate pass.old }
     requires turns { (view pass.old).turns ≡ [] }
-    requires jobs { All (IsBack shared.now) jobs.items }
+    requires jobs { All (λ job. IsBack shared.now job.seat) jobs.items }
     requires sessions { sessions.items ≡ [] }
     requires room { vec_len jobs ≤ vec_capacity sessions }
     ensures ready { IsReady shared.now.gate pass.new }
     ensures share { (view pass.new).share
         ≡ (view pass.old).share + length jobs.entry.items * 400000 }
     ensures joined { (clients : _) (talks : List talk_type) → AreMatched
-        (IsDoneJob L.Rule (callers_of shared.now.known (timetable_at shared.now.gate)) shared.now
-        (streams S.left S.faults T.held T.faults))
+        (IsDoneJob L.Rule shared.now (streams S.left S.faults T.held T.faults))
         clients (reverse jobs.entry.items) talks
         → ((history : List entry_type) → All (λ list. StartsWith history list) (view pass.new).joined
         → AreMatched (HasPassed L.Rule (streams S.left S.faults T.held T.faults) history)
         clients result.items talks)
-        × AreJoined (callers_of shared.now.known (timetable_at shared.now.gate))
-        (length (found_at shared.now.gate)) (view pass.new) talks }
+        × AreJoined shared.now (view pass.new) talks }
 {
     while let Some(job) = jobs.pop() {
         let Job {
@@ -307,20 +260,15 @@ fn join_all<'a, D: Disk, S: Source + Drop, T: Sink + Drop, B: Between + Drop, L:
             name,
             source,
             sink,
+            proofs,
             ended,
         } = job;
-        let Seat {
-            pass: other,
-            shared: _shared,
-            client: _client,
-            between: _between,
-            rules,
-        } = seat;
-        shared.gate.join(pass, other);
+        let rules = leave_seat(shared, pass, seat);
         sessions.push_reserved(Session {
             name,
             source,
             sink,
+            proofs,
             ended,
             rules,
         });

@@ -1,5 +1,5 @@
 -- What a run of `serve` comes to.
-use Rattle.std.proofs.Common.{◌≡◌, ◌≢◌, ◌∙◌, ◌⊎◌, ℕ, Bool, true, false, List, [], ◌∷◌, All, Option, None, Some, Result, Ok, Err, inl, inr, refl, sym, subst, ap, if◌then◌else◌, ◌||◌}
+use Rattle.std.proofs.Common.{◌≡◌, ◌≢◌, ◌∙◌, ℕ, Bool, true, false, List, [], ◌∷◌, All, Result, Ok, Err, inl, inr, refl, sym, ◌||◌}
 use Rattle.std.proofs.lemmas.List.Elements.{All-cons, All-nil}
 use Rattle.outside_io.specs.Openings.{Opening, Standing, disk_at}
 use Rattle.outside_io.specs.Places.{Untouched}
@@ -10,13 +10,9 @@ use Rattle.exit_status.specs.declared.Status.{Status}
 use Rattle.exit_status.specs.declared.Status.TheVariants.{Done, Words, Network, Base, Trains, Journal, Opening as not_opened, DiskFault, ClientEnd, Report, Memory}
 use Rattle.file_rounds.specs.Scenes.{Scene}
 use Rattle.file_rounds.specs.Writing.{ReportSays}
-use Rattle.file_rounds.specs.declared.writing.OutFault.{OutFault}
-use Rattle.journal_reading.specs.declared.faults.OpenFault.{OpenFault}
-use Rattle.journal_reading.specs.declared.faults.OpenFault.TheVariants.{ReadFault, Empty, OldVersion, NotAJournal, OtherNetwork, OtherBase, Damaged, Illegal, Memory as of_open}
 use Rattle.line_sessions.specs.declared.sessions.Why.{Why}
 use Rattle.line_sessions.specs.declared.sessions.Why.TheVariants as why
 use Rattle.command_reports.specs.Refusals.{status_of}
-use Rattle.command_reports.specs.Works.{Misses}
 use Rattle.command_reports.specs.declared.refusals.Refusal.{Refusal}
 use Rattle.command_reports.proofs.Steps.{follows_clean}
 use Rattle.command_files.specs.Files.{BaseStep, HasBaseFault, HasNetworkFault, HasTrainFault, IsBaseFile, IsNetworkFile, IsTrainFile, NetworkStep, TrainStep}
@@ -24,20 +20,24 @@ use Rattle.command_files.specs.declared.bases.BaseFile.{BaseFile}
 use Rattle.command_files.specs.declared.files.FileKind.TheVariants as kind
 use Rattle.command_files.specs.declared.networks.NetworkFile.{NetworkFile}
 use Rattle.command_files.proofs.Refused.{file_other, memory_other, told_other}
-use Rattle.path_recover.specs.Texts.{fault_text}
 use Rattle.rail_types.specs.declared.trains.Train.{Train}
 use Rattle.request_server.specs.declared.plans.Session.{Session}
 use Rattle.admission_rules.specs.declared.rules.Rule.{Ghosts as Rules}
 use Rattle.client_rules.specs.declared.clients.ClientRules.{ClientRules}
-use Rattle.client_streams.specs.Clients.{client_calls}
+use Rattle.client_plans.specs.Clients.{client_calls}
 use Rattle.client_streams.specs.Refusing.{AreMade, WhyStopped}
 use Rattle.client_words.specs.declared.clients.ClientWord.{ClientWord}
-use Rattle.serve_reports.specs.Ends.{EndsSay, has_faulty, has_wanting, IsEnds, is_faulty, is_wanting, line_of, report_text, status_behind, status_unreported, status_untold}
+use Rattle.proof_words.specs.declared.proofs.ProofWord.{ProofWord}
+use Rattle.serve_reports.specs.Ends.{EndsSay, has_faulty, has_wanting, IsEnds, is_faulty, is_wanting, report_text}
 use Rattle.serve_reports.specs.declared.ends.Ends.{Ends}
-use Rattle.serve_command.specs.Journals.{Refuses, ServeStep, TellsOpen, TellsText}
+use Rattle.serve_command.specs.Journals.{Refuses, ServeStep}
+use Rattle.serve_command.proofs.Disks.{disk_missed}
 use Rattle.serve_command.specs.Runs.{EndsRun, IsServed, RunsServe}
-use Rattle.serve_command.specs.Works.{files_of, ReadsBase, ReadsNetwork, ReadsTrains}
-use Rattle.serve_command.specs.declared.works.Files.{Files}
+use Rattle.serve_command.specs.Works.{ReadsBase, ReadsNetwork, ReadsTrains}
+use Rattle.serve_reports.proofs.Statuses.{AtEnd, not_words, other_end, said_at, said_done}
+use Rattle.served_journals.specs.Files.{files_of}
+use Rattle.served_journals.specs.declared.files.Files.{Files}
+use Rattle.served_journals.proofs.Statuses.{IsNoJournals, open_other}
 
 -- ---- which statuses a refusal cannot have
 
@@ -57,100 +57,46 @@ done_other = record { opening = λ e. cc; network = λ e. cc; base = λ e. cc; t
 words_other : IsOther Words
 words_other = record { opening = λ e. cc; network = λ e. cc; base = λ e. cc; trains = λ e. cc; journal = λ e. cc; disk = λ e. cc; memory = λ e. cc }
 
-text_other : (text : Option (List ℕ)) (refusal : Refusal) (other : Status) → IsOther other → TellsText text refusal → status_of refusal ≢ other
-text_other None refusal other is told = memory_other other refusal told is.memory
-text_other (Some text) refusal other is told = told_other Journal other _ refusal told is.journal is.memory
-
-open_other : (name : List ℕ) (fault : OpenFault) (refusal : Refusal) (other : Status) → IsOther other → TellsOpen name fault refusal → status_of refusal ≢ other
-open_other name ReadFault refusal other is told = told_other DiskFault other _ refusal told is.disk is.memory
-open_other name Empty refusal other is told = text_other (fault_text Empty) refusal other is told
-open_other name OldVersion refusal other is told = text_other (fault_text OldVersion) refusal other is told
-open_other name (NotAJournal at) refusal other is told = text_other (fault_text (NotAJournal at)) refusal other is told
-open_other name (OtherNetwork had found) refusal other is told = text_other (fault_text (OtherNetwork had found)) refusal other is told
-open_other name (OtherBase had found) refusal other is told = text_other (fault_text (OtherBase had found)) refusal other is told
-open_other name (Damaged at) refusal other is told = text_other (fault_text (Damaged at)) refusal other is told
-open_other name (Illegal entry) refusal other is told = text_other (fault_text (Illegal entry)) refusal other is told
-open_other name of_open refusal other is told = text_other (fault_text of_open) refusal other is told
+journals_other : (other : Status) → IsOther other → IsNoJournals other
+journals_other other is = record { journal = is.journal; disk = is.disk; memory = is.memory }
 
 stopped_other : (calls : List Opening) (made : List Opening → Type 0) (standing : Opening → Standing) (faults faults' : ℕ) (refusal : Refusal) (other : Status) → IsOther other → WhyStopped calls made standing faults faults' refusal → status_of refusal ≢ other
 stopped_other calls made standing faults faults' refusal other is (inl cannot) = told_other not_opened other _ refusal cannot.told is.opening is.memory
 stopped_other calls made standing faults faults' refusal other is (inr memory) = memory_other other refusal memory is.memory
 
-module _ {Src Snk Dsk L : Type 0} (source : Sources Src) (sink : Sinks Snk) (disk : Disks Dsk) (rule_kind : Rules L) (journal : List ℕ) (clients : List ClientWord) (rules : List (ClientRules L)) where
-  refuses_other : (files : Files) (old new : Scene Src Snk Dsk) (refusal : Refusal) (other : Status) → IsOther other → Refuses disk files journal clients old new refusal → status_of refusal ≢ other
+module _ {Src Snk Dsk L : Type 0} (source : Sources Src) (sink : Sinks Snk) (disk : Disks Dsk) (rule_kind : Rules L) (journal : List ℕ) (clients : List ClientWord) (proofs : List ProofWord) (rules : List (ClientRules L)) where
+  refuses_other : (files : Files) (old new : Scene Src Snk Dsk) (refusal : Refusal) (other : Status) → IsOther other → Refuses disk files journal (client_calls clients proofs) old new refusal → status_of refusal ≢ other
   refuses_other files old new refusal other is refuses = elim refuses.why [
     | inl unopened ↦ told_other not_opened other _ refusal unopened.told is.opening is.memory
-    | inr (inl refused) ↦ open_other journal refused.fault refusal other is refused.told
-    | inr (inr halted) ↦ stopped_other (client_calls clients) (λ calls. AreMade old new (disk_at journal ∷ calls)) old.standing old.faults new.faults refusal other is halted.why
+    | inr (inl refused) ↦ open_other journal refused.fault refusal other (journals_other other is) refused.told
+    | inr (inr halted) ↦ stopped_other (client_calls clients proofs) (λ calls. AreMade old new (disk_at journal ∷ calls)) old.standing old.faults new.faults refusal other is halted.why
   ]
 
-  trains_other : (trains : List ℕ) (network : NetworkFile) (base : BaseFile) (old new : Scene Src Snk Dsk) (refusal : Refusal) (other : Status) → IsOther other → ReadsTrains source sink disk rule_kind trains journal clients rules network base old new (Err refusal) → status_of refusal ≢ other
+  trains_other : (trains : List ℕ) (network : NetworkFile) (base : BaseFile) (old new : Scene Src Snk Dsk) (refusal : Refusal) (other : Status) → IsOther other → ReadsTrains source sink disk rule_kind trains journal clients proofs rules network base old new (Err refusal) → status_of refusal ≢ other
   trains_other trains network base old new refusal other is (inl stopped) = file_other kind.Trains source trains IsTrainFile HasTrainFault old new refusal other stopped.says is.opening is.trains is.memory
   trains_other trains network base old new refusal other is (inr goes) = refuses_other (files_of network base goes.given) goes.between new refusal other is goes.next.says
 
-  base_other : (base trains : List ℕ) (network : NetworkFile) (old new : Scene Src Snk Dsk) (refusal : Refusal) (other : Status) → IsOther other → ReadsBase source sink disk rule_kind base trains journal clients rules network old new (Err refusal) → status_of refusal ≢ other
+  base_other : (base trains : List ℕ) (network : NetworkFile) (old new : Scene Src Snk Dsk) (refusal : Refusal) (other : Status) → IsOther other → ReadsBase source sink disk rule_kind base trains journal clients proofs rules network old new (Err refusal) → status_of refusal ≢ other
   base_other base trains network old new refusal other is (inl stopped) = file_other kind.Base source base (IsBaseFile network.named.network.zones) (HasBaseFault network.named.network.zones) old new refusal other stopped.says is.opening is.base is.memory
   base_other base trains network old new refusal other is (inr goes) = trains_other trains network goes.given goes.between new refusal other is goes.next
 
-  works_other : (network base trains : List ℕ) (old new : Scene Src Snk Dsk) (refusal : Refusal) (other : Status) → IsOther other → ReadsNetwork source sink disk rule_kind network base trains journal clients rules old new (Err refusal) → status_of refusal ≢ other
+  works_other : (network base trains : List ℕ) (old new : Scene Src Snk Dsk) (refusal : Refusal) (other : Status) → IsOther other → ReadsNetwork source sink disk rule_kind network base trains journal clients proofs rules old new (Err refusal) → status_of refusal ≢ other
   works_other network base trains old new refusal other is (inl stopped) = file_other kind.Network source network IsNetworkFile HasNetworkFault old new refusal other stopped.says is.opening is.network is.memory
   works_other network base trains old new refusal other is (inr goes) = base_other base trains goes.given goes.between new refusal other is goes.next
 
   -- ---- refusals change no sink
 
-  trains_clean : (trains : List ℕ) (network : NetworkFile) (base : BaseFile) (old new : Scene Src Snk Dsk) (refusal : Refusal) → ReadsTrains source sink disk rule_kind trains journal clients rules network base old new (Err refusal) → Untouched old.sinks new.sinks
+  trains_clean : (trains : List ℕ) (network : NetworkFile) (base : BaseFile) (old new : Scene Src Snk Dsk) (refusal : Refusal) → ReadsTrains source sink disk rule_kind trains journal clients proofs rules network base old new (Err refusal) → Untouched old.sinks new.sinks
   trains_clean trains network base old new refusal works =
-      follows_clean (TrainStep source trains) (λ (read : List Train). ServeStep source sink disk rule_kind (files_of network base read) journal clients rules) (λ before after result step. step.only.sinks) (λ read before after refused step. step.says.sinks) old new refusal works
+      follows_clean (TrainStep source trains) (λ (read : List Train). ServeStep source sink disk rule_kind (files_of network base read) journal clients proofs rules) (λ before after result step. step.only.sinks) (λ read before after refused step. step.says.sinks) old new refusal works
 
-  base_clean : (base trains : List ℕ) (network : NetworkFile) (old new : Scene Src Snk Dsk) (refusal : Refusal) → ReadsBase source sink disk rule_kind base trains journal clients rules network old new (Err refusal) → Untouched old.sinks new.sinks
+  base_clean : (base trains : List ℕ) (network : NetworkFile) (old new : Scene Src Snk Dsk) (refusal : Refusal) → ReadsBase source sink disk rule_kind base trains journal clients proofs rules network old new (Err refusal) → Untouched old.sinks new.sinks
   base_clean base trains network old new refusal works =
-      follows_clean (BaseStep source network.named.network.zones base) (λ (file : BaseFile). ReadsTrains source sink disk rule_kind trains journal clients rules network file) (λ before after result step. step.only.sinks) (λ file. trains_clean trains network file) old new refusal works
+      follows_clean (BaseStep source network.named.network.zones base) (λ (file : BaseFile). ReadsTrains source sink disk rule_kind trains journal clients proofs rules network file) (λ before after result step. step.only.sinks) (λ file. trains_clean trains network file) old new refusal works
 
-  works_clean : (network base trains : List ℕ) (old new : Scene Src Snk Dsk) (refusal : Refusal) → ReadsNetwork source sink disk rule_kind network base trains journal clients rules old new (Err refusal) → Untouched old.sinks new.sinks
+  works_clean : (network base trains : List ℕ) (old new : Scene Src Snk Dsk) (refusal : Refusal) → ReadsNetwork source sink disk rule_kind network base trains journal clients proofs rules old new (Err refusal) → Untouched old.sinks new.sinks
   works_clean network base trains old new refusal works =
-      follows_clean (NetworkStep source network) (λ (file : NetworkFile). ReadsBase source sink disk rule_kind base trains journal clients rules file) (λ before after result step. step.only.sinks) (λ file. base_clean base trains file) old new refusal works
-
-  -- ---- the ends and their statuses
-
-  -- a status of clients that were served
-  abbrev AtEnd : Status → Type 0
-  AtEnd status = (status ≡ Done) ⊎ ((status ≡ ClientEnd) ⊎ ((status ≡ Report) ⊎ (status ≡ Memory)))
-
-  all_done : AtEnd Done
-  all_done = inl refl
-
-  faulty_end : AtEnd ClientEnd
-  faulty_end = inr (inl refl)
-
-  no_report : AtEnd Report
-  no_report = inr (inr (inl refl))
-
-  no_memory : AtEnd Memory
-  no_memory = inr (inr (inr refl))
-
-  untold_at : (faulty wanting : Bool) → AtEnd (status_untold (if faulty then ClientEnd else if wanting then Memory else Done))
-  untold_at true wanting = faulty_end
-  untold_at false true = no_memory
-  untold_at false false = no_memory
-
-  told_at : (faulty wanting : Bool) → AtEnd (if faulty then ClientEnd else if wanting then Memory else Done)
-  told_at true wanting = faulty_end
-  told_at false true = no_memory
-  told_at false false = all_done
-
-  ends_at : (sessions : List (Session Src Snk L)) (ends : Ends) → IsEnds rule_kind sessions ends → AtEnd ends.status
-  ends_at sessions ends (inl is) = subst AtEnd (sym (ap (λ (e : Ends). e.status) is)) (told_at (has_faulty sessions) (has_wanting sessions))
-  ends_at sessions ends (inr is) = subst AtEnd (sym (ap (λ (e : Ends). e.status) is)) (untold_at (has_faulty sessions) (has_wanting sessions))
-
-  failed_at : (status : Status) → AtEnd status → AtEnd (status_unreported status)
-  failed_at status (inl is) = subst (λ (s : Status). AtEnd (status_unreported s)) (sym is) no_report
-  failed_at status (inr (inl is)) = subst (λ (s : Status). AtEnd (status_unreported s)) (sym is) faulty_end
-  failed_at status (inr (inr (inl is))) = subst (λ (s : Status). AtEnd (status_unreported s)) (sym is) no_report
-  failed_at status (inr (inr (inr is))) = subst (λ (s : Status). AtEnd (status_unreported s)) (sym is) no_report
-
-  behind_at : (status : Status) (result : Result (Unit {0}) OutFault) → AtEnd status → AtEnd (status_behind status result)
-  behind_at status (Ok _) at = at
-  behind_at status (Err fault) at = failed_at status at
+      follows_clean (NetworkStep source network) (λ (file : NetworkFile). ReadsBase source sink disk rule_kind base trains journal clients proofs rules file) (λ before after result step. step.only.sinks) (λ file. base_clean base trains file) old new refusal works
 
   -- ---- all done
 
@@ -173,55 +119,28 @@ module _ {Src Snk Dsk L : Type 0} (source : Sources Src) (sink : Sinks Snk) (dis
       let w = or_false (is_wanting one.ended.why) (has_wanting sessions) wanting in
       All-cons (λ session. session.ended.why ≡ why.Input) one sessions (input_of one.ended.why f.0 w.0) (all_input sessions f.1 w.1)
 
-  done_of : (faulty wanting : Bool) → (if faulty then ClientEnd else if wanting then Memory else Done) ≡ Done → (faulty ≡ false) × (wanting ≡ false)
-  done_of true wanting is = cc
-  done_of false true is = cc
-  done_of false false is = (refl, refl)
-
-  untold_not : (faulty wanting : Bool) → status_untold (if faulty then ClientEnd else if wanting then Memory else Done) ≢ Done
-  untold_not true wanting is = cc
-  untold_not false true is = cc
-  untold_not false false is = cc
-
-  failed_not : (status : Status) → AtEnd status → status_unreported status ≢ Done
-  failed_not status (inl is) same = let e : status_unreported Done ≡ Done = subst (λ (s : Status). status_unreported s ≡ Done) is same in cc
-  failed_not status (inr (inl is)) same = let e : status_unreported ClientEnd ≡ Done = subst (λ (s : Status). status_unreported s ≡ Done) is same in cc
-  failed_not status (inr (inr (inl is))) same = let e : status_unreported Report ≡ Done = subst (λ (s : Status). status_unreported s ≡ Done) is same in cc
-  failed_not status (inr (inr (inr is))) same = let e : status_unreported Memory ≡ Done = subst (λ (s : Status). status_unreported s ≡ Done) is same in cc
-
-  behind_done : (status : Status) (result : Result (Unit {0}) OutFault) → AtEnd status → status_behind status result ≡ Done → (result ≡ Ok tt) × (status ≡ Done)
-  behind_done status (Ok _) at is = (refl, is)
-  behind_done status (Err fault) at is = absurd (failed_not status at is)
-
   -- what was reported where the status is Done
   record AllInput (sessions : List (Session Src Snk L)) (old new : Scene Src Snk Dsk) : Type 0 where
     pub inputs : All (λ session. session.ended.why ≡ why.Input) sessions
     pub told : ReportSays sink (report_text rule_kind sessions) old new (Ok tt)
 
   ends_done : (sessions : List (Session Src Snk L)) (ends : Ends) (old new : Scene Src Snk Dsk) (status : Status) → IsEnds rule_kind sessions ends → EndsSay sink ends old new status → status ≡ Done → AllInput sessions old new
-  ends_done sessions ends old new status (inr are) say is =
-      let both = behind_done ends.status say.result (ends_at sessions ends (inr are)) (sym say.status_is ∙ is) in
-      absurd (untold_not (has_faulty sessions) (has_wanting sessions) (sym (ap (λ (e : Ends). e.status) are) ∙ both.1))
-  ends_done sessions ends old new status (inl are) say is =
-      let both = behind_done ends.status say.result (ends_at sessions ends (inl are)) (sym say.status_is ∙ is) in
-      let none = done_of (has_faulty sessions) (has_wanting sessions) (sym (ap (λ (e : Ends). e.status) are) ∙ both.1) in
-      record {
-        inputs = all_input sessions none.0 none.1;
-        told = subst (λ (text : List ℕ). ReportSays sink text old new (Ok tt)) (ap line_of are) (subst (λ (r : Result (Unit {0}) OutFault). ReportSays sink (line_of ends) old new r) both.0 say.says);
-      }
+  ends_done sessions ends old new status are say is =
+      let all = said_done sink (has_faulty sessions) (has_wanting sessions) (report_text rule_kind sessions) ends old new status are say is in
+      record { inputs = all_input sessions all.none.0 all.none.1; told = all.told }
 
-  refusal_not : (network base trains : List ℕ) (old between new : Scene Src Snk Dsk) (refusal : Refusal) (status other : Status) → IsOther other → ReadsNetwork source sink disk rule_kind network base trains journal clients rules old between (Err refusal)
+  refusal_not : (network base trains : List ℕ) (old between new : Scene Src Snk Dsk) (refusal : Refusal) (status other : Status) → IsOther other → ReadsNetwork source sink disk rule_kind network base trains journal clients proofs rules old between (Err refusal)
       → EndsRun sink between new (Err refusal) status → status ≢ other
   refusal_not network base trains old between new refusal status other is works ends same = works_other network base trains old between refusal other is works (sym ends.status_is ∙ same)
 
-  served_by : (network base trains : List ℕ) (old between new : Scene Src Snk Dsk) (outcome : Result Ends Refusal) (status : Status) → ReadsNetwork source sink disk rule_kind network base trains journal clients rules old between outcome → EndsRun sink between new outcome status
-      → status ≡ Done → IsServed source sink disk rule_kind network base trains journal clients rules old new
+  served_by : (network base trains : List ℕ) (old between new : Scene Src Snk Dsk) (outcome : Result Ends Refusal) (status : Status) → ReadsNetwork source sink disk rule_kind network base trains journal clients proofs rules old between outcome → EndsRun sink between new outcome status
+      → status ≡ Done → IsServed source sink disk rule_kind network base trains journal clients proofs rules old new
   served_by network base trains old between new (Err refusal) status works ends is = absurd (refusal_not network base trains old between new refusal status Done done_other works ends is)
   served_by network base trains old between new (Ok ends) status (inl stopped) say is = absurd stopped
   served_by network base trains old between new (Ok ends) status (inr goes) say is = base_served goes.next
     where
       last : (base_file : BaseFile) (second third : Scene Src Snk Dsk) (list : List Train) → BaseStep source goes.given.named.network.zones base goes.between second (Ok base_file) → TrainStep source trains second third (Ok list)
-          → ServeStep source sink disk rule_kind (files_of goes.given base_file list) journal clients rules third between (Ok ends) → IsServed source sink disk rule_kind network base trains journal clients rules old new
+          → ServeStep source sink disk rule_kind (files_of goes.given base_file list) journal clients proofs rules third between (Ok ends) → IsServed source sink disk rule_kind network base trains journal clients proofs rules old new
       last base_file second third list read_base read_trains step =
           let whole = ends_done step.says.serving.sessions ends between new status step.says.serving.ends_are say is in
           record {
@@ -242,76 +161,62 @@ module _ {Src Snk Dsk L : Type 0} (source : Sources Src) (sink : Sinks Snk) (dis
             only = say.only;
           }
 
-      trains_served : (base_file : BaseFile) (second : Scene Src Snk Dsk) → BaseStep source goes.given.named.network.zones base goes.between second (Ok base_file) → ReadsTrains source sink disk rule_kind trains journal clients rules goes.given base_file second between (Ok ends)
-          → IsServed source sink disk rule_kind network base trains journal clients rules old new
+      trains_served : (base_file : BaseFile) (second : Scene Src Snk Dsk) → BaseStep source goes.given.named.network.zones base goes.between second (Ok base_file) → ReadsTrains source sink disk rule_kind trains journal clients proofs rules goes.given base_file second between (Ok ends)
+          → IsServed source sink disk rule_kind network base trains journal clients proofs rules old new
       trains_served base_file second read_base (inl stopped) = absurd stopped
       trains_served base_file second read_base (inr on) = last base_file second on.between on.given read_base on.first on.next
 
-      base_served : ReadsBase source sink disk rule_kind base trains journal clients rules goes.given goes.between between (Ok ends) → IsServed source sink disk rule_kind network base trains journal clients rules old new
+      base_served : ReadsBase source sink disk rule_kind base trains journal clients proofs rules goes.given goes.between between (Ok ends) → IsServed source sink disk rule_kind network base trains journal clients proofs rules old new
       base_served (inl stopped) = absurd stopped
       base_served (inr on) = trains_served on.given on.between on.first on.next
 
   -- at Done all was done
-  pub serve_done : (network base trains : List ℕ) (old new : Scene Src Snk Dsk) (status : Status) → RunsServe source sink disk rule_kind network base trains journal clients rules old new status → status ≡ Done → IsServed source sink disk rule_kind network base trains journal clients rules old new
+  pub serve_done : (network base trains : List ℕ) (old new : Scene Src Snk Dsk) (status : Status) → RunsServe source sink disk rule_kind network base trains journal clients proofs rules old new status → status ≡ Done → IsServed source sink disk rule_kind network base trains journal clients proofs rules old new
   serve_done network base trains old new status runs is = served_by network base trains old runs.between new runs.outcome status runs.works runs.ends is
 
-  ends_of_served : (network base trains : List ℕ) (old between new : Scene Src Snk Dsk) (ends : Ends) (status : Status) → ReadsNetwork source sink disk rule_kind network base trains journal clients rules old between (Ok ends) → EndsRun sink between new (Ok ends) status → AtEnd status
+  ends_of_served : (network base trains : List ℕ) (old between new : Scene Src Snk Dsk) (ends : Ends) (status : Status) → ReadsNetwork source sink disk rule_kind network base trains journal clients proofs rules old between (Ok ends) → EndsRun sink between new (Ok ends) status → AtEnd status
   ends_of_served network base trains old between new ends status (inl stopped) say = absurd stopped
   ends_of_served network base trains old between new ends status (inr goes) say = at_base goes.next
     where
-      at_last : (files : Files) (third : Scene Src Snk Dsk) → ServeStep source sink disk rule_kind files journal clients rules third between (Ok ends) → AtEnd status
-      at_last files third step = subst AtEnd (sym say.status_is) (behind_at ends.status say.result (ends_at step.says.serving.sessions ends step.says.serving.ends_are))
+      at_last : (files : Files) (third : Scene Src Snk Dsk) → ServeStep source sink disk rule_kind files journal clients proofs rules third between (Ok ends) → AtEnd status
+      at_last files third step =
+          let sessions = step.says.serving.sessions in
+          said_at sink (has_faulty sessions) (has_wanting sessions) (report_text rule_kind sessions) ends between new status step.says.serving.ends_are say
 
-      at_trains : (base_file : BaseFile) (second : Scene Src Snk Dsk) → ReadsTrains source sink disk rule_kind trains journal clients rules goes.given base_file second between (Ok ends) → AtEnd status
+      at_trains : (base_file : BaseFile) (second : Scene Src Snk Dsk) → ReadsTrains source sink disk rule_kind trains journal clients proofs rules goes.given base_file second between (Ok ends) → AtEnd status
       at_trains base_file second (inl stopped) = absurd stopped
       at_trains base_file second (inr on) = at_last (files_of goes.given base_file on.given) on.between on.next
 
-      at_base : ReadsBase source sink disk rule_kind base trains journal clients rules goes.given goes.between between (Ok ends) → AtEnd status
+      at_base : ReadsBase source sink disk rule_kind base trains journal clients proofs rules goes.given goes.between between (Ok ends) → AtEnd status
       at_base (inl stopped) = absurd stopped
       at_base (inr on) = at_trains on.given on.between on.next
 
-  not_words : (status : Status) → AtEnd status → status ≢ Words
-  not_words status (inl at) is = let e : Done ≡ Words = sym at ∙ is in cc
-  not_words status (inr (inl at)) is = let e : ClientEnd ≡ Words = sym at ∙ is in cc
-  not_words status (inr (inr (inl at))) is = let e : Report ≡ Words = sym at ∙ is in cc
-  not_words status (inr (inr (inr at))) is = let e : Memory ≡ Words = sym at ∙ is in cc
-
-  words_by : (network base trains : List ℕ) (old between new : Scene Src Snk Dsk) (outcome : Result Ends Refusal) (status : Status) → ReadsNetwork source sink disk rule_kind network base trains journal clients rules old between outcome → EndsRun sink between new outcome status
+  words_by : (network base trains : List ℕ) (old between new : Scene Src Snk Dsk) (outcome : Result Ends Refusal) (status : Status) → ReadsNetwork source sink disk rule_kind network base trains journal clients proofs rules old between outcome → EndsRun sink between new outcome status
       → status ≢ Words
   words_by network base trains old between new (Err refusal) status works ends = refusal_not network base trains old between new refusal status Words words_other works ends
   words_by network base trains old between new (Ok ends) status works say = not_words status (ends_of_served network base trains old between new ends status works say)
 
   -- names that are given are never refused as words
-  pub serve_words : (network base trains : List ℕ) (old new : Scene Src Snk Dsk) (status : Status) → RunsServe source sink disk rule_kind network base trains journal clients rules old new status → status ≢ Words
+  pub serve_words : (network base trains : List ℕ) (old new : Scene Src Snk Dsk) (status : Status) → RunsServe source sink disk rule_kind network base trains journal clients proofs rules old new status → status ≢ Words
   serve_words network base trains old new status runs = words_by network base trains old runs.between new runs.outcome status runs.works runs.ends
 
-  other_end : (status : Status) → AtEnd status → status ≢ Done → status ≢ ClientEnd → status ≢ Report → status ≢ Memory → ⊥
-  other_end status (inl at) d c r m = d at
-  other_end status (inr (inl at)) d c r m = c at
-  other_end status (inr (inr (inl at))) d c r m = r at
-  other_end status (inr (inr (inr at))) d c r m = m at
-
-  clean_by : (network base trains : List ℕ) (old between new : Scene Src Snk Dsk) (outcome : Result Ends Refusal) (status : Status) → ReadsNetwork source sink disk rule_kind network base trains journal clients rules old between outcome → EndsRun sink between new outcome status
+  clean_by : (network base trains : List ℕ) (old between new : Scene Src Snk Dsk) (outcome : Result Ends Refusal) (status : Status) → ReadsNetwork source sink disk rule_kind network base trains journal clients proofs rules old between outcome → EndsRun sink between new outcome status
       → status ≢ Done → status ≢ ClientEnd → status ≢ Report → status ≢ Memory → Untouched old.sinks new.sinks
   clean_by network base trains old between new (Err refusal) status works ends d c r m = λ name. ends.reports.only.sinks name ∙ works_clean network base trains old between refusal works name
   clean_by network base trains old between new (Ok ends) status works say d c r m = absurd (other_end status (ends_of_served network base trains old between new ends status works say) d c r m)
 
   -- at a refusal no sink gained anything
-  pub serve_clean : (network base trains : List ℕ) (old new : Scene Src Snk Dsk) (status : Status) → RunsServe source sink disk rule_kind network base trains journal clients rules old new status → status ≢ Done → status ≢ ClientEnd → status ≢ Report → status ≢ Memory
+  pub serve_clean : (network base trains : List ℕ) (old new : Scene Src Snk Dsk) (status : Status) → RunsServe source sink disk rule_kind network base trains journal clients proofs rules old new status → status ≢ Done → status ≢ ClientEnd → status ≢ Report → status ≢ Memory
       → Untouched old.sinks new.sinks
   serve_clean network base trains old new status runs d c r m = clean_by network base trains old runs.between new runs.outcome status runs.works runs.ends d c r m
 
   -- ---- other disks
-
-  no_disk : (name : List ℕ) (list : List ClientWord) → Misses (disk_at name) (client_calls list)
-  no_disk name [] = tt
-  no_disk name (c ∷ cs) = ((λ e. cc), ((λ e. cc), no_disk name cs))
 
   ends_disks : (old new : Scene Src Snk Dsk) (outcome : Result Ends Refusal) (status : Status) → EndsRun sink old new outcome status → Untouched old.disks new.disks
   ends_disks old new (Ok ends) status said = said.only.disks
   ends_disks old new (Err refusal) status said = said.reports.only.disks
 
   -- no disk but the journal's changed
-  pub serve_disks : (network base trains : List ℕ) (old new : Scene Src Snk Dsk) (status : Status) → RunsServe source sink disk rule_kind network base trains journal clients rules old new status → (name : List ℕ) → name ≢ journal → new.disks name ≡ old.disks name
+  pub serve_disks : (network base trains : List ℕ) (old new : Scene Src Snk Dsk) (status : Status) → RunsServe source sink disk rule_kind network base trains journal clients proofs rules old new status → (name : List ℕ) → name ≢ journal → new.disks name ≡ old.disks name
   serve_disks network base trains old new status runs name differs =
-      ends_disks runs.between new runs.outcome status runs.ends name ∙ runs.keeps.keeps.disks name ((λ e. cc), ((λ e. cc), ((λ e. cc), ((λ e. differs cc), no_disk name clients))))
+      ends_disks runs.between new runs.outcome status runs.ends name ∙ runs.keeps.keeps.disks name ((λ e. cc), ((λ e. cc), ((λ e. cc), ((λ e. differs cc), disk_missed name clients proofs))))

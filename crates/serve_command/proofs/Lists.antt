@@ -3,7 +3,7 @@ use Rattle.std.proofs.Common.{◌≡◌, ◌≢◌, ◌∙◌, ℕ, suc, List, [
 use Rattle.std.proofs.lemmas.List.{length-map}
 use Rattle.std.proofs.lemmas.List.Elements.{All-cons, All-head, All-nil, All-tail}
 use Rattle.std.proofs.lemmas.List.Kept.{AllPairs-cons}
-use Rattle.request_server.specs.Runs.{AreMatched}
+use Rattle.client_seats.specs.Runs.{AreMatched}
 use Rattle.client_streams.proofs.Lists.{pairs_head, pairs_tail}
 
 module _ {X Y : Type 0} (f : X → List ℕ) (g : Y → List ℕ) where

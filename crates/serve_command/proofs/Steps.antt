@@ -16,32 +16,34 @@ use Rattle.command_files.specs.declared.networks.NetworkFile.{NetworkFile}
 use Rattle.command_files.proofs.Kept.{file_keeps}
 use Rattle.admission_rules.specs.declared.rules.Rule.{Ghosts as Rules}
 use Rattle.client_rules.specs.declared.clients.ClientRules.{ClientRules}
-use Rattle.client_streams.specs.Clients.{client_calls}
+use Rattle.client_plans.specs.Clients.{client_calls}
 use Rattle.client_words.specs.declared.clients.ClientWord.{ClientWord}
+use Rattle.proof_words.specs.declared.proofs.ProofWord.{ProofWord}
 use Rattle.rail_types.specs.declared.trains.Train.{Train}
 use Rattle.serve_reports.specs.declared.ends.Ends.{Ends}
 use Rattle.serve_command.specs.Journals.{ServeStep}
 use Rattle.serve_command.specs.Runs.{EndsRun, RunsServe}
-use Rattle.serve_command.specs.Works.{files_of, ReadsBase, ReadsNetwork, ReadsTrains, serve_calls}
+use Rattle.serve_command.specs.Works.{ReadsBase, ReadsNetwork, ReadsTrains, serve_calls}
+use Rattle.served_journals.specs.Files.{files_of}
 
-module _ {Src Snk Dsk L : Type 0} (source : Sources Src) (sink : Sinks Snk) (disk : Disks Dsk) (rule_kind : Rules L) (journal : List ℕ) (clients : List ClientWord) (rules : List (ClientRules L)) where
-  trains_keep : (trains : List ℕ) (network : NetworkFile) (base : BaseFile) (old new : Scene Src Snk Dsk) (result : Result Ends Refusal) → ReadsTrains source sink disk rule_kind trains journal clients rules network base old new result
-      → KeepsTo (source_at trains ∷ disk_at journal ∷ client_calls clients) old new result
+module _ {Src Snk Dsk L : Type 0} (source : Sources Src) (sink : Sinks Snk) (disk : Disks Dsk) (rule_kind : Rules L) (journal : List ℕ) (clients : List ClientWord) (proofs : List ProofWord) (rules : List (ClientRules L)) where
+  trains_keep : (trains : List ℕ) (network : NetworkFile) (base : BaseFile) (old new : Scene Src Snk Dsk) (result : Result Ends Refusal) → ReadsTrains source sink disk rule_kind trains journal clients proofs rules network base old new result
+      → KeepsTo (source_at trains ∷ disk_at journal ∷ client_calls clients proofs) old new result
   trains_keep trains network base old new result works =
-      follows_keep (source_at trains ∷ []) (disk_at journal ∷ client_calls clients) (TrainStep source trains) (λ (read : List Train). ServeStep source sink disk rule_kind (files_of network base read) journal clients rules)
+      follows_keep (source_at trains ∷ []) (disk_at journal ∷ client_calls clients proofs) (TrainStep source trains) (λ (read : List Train). ServeStep source sink disk rule_kind (files_of network base read) journal clients proofs rules)
       (file_keeps kind.Trains source trains IsTrainFile HasTrainFault) (λ read before after ended step. step.only) old new result works
 
-  base_keeps : (base trains : List ℕ) (network : NetworkFile) (old new : Scene Src Snk Dsk) (result : Result Ends Refusal) → ReadsBase source sink disk rule_kind base trains journal clients rules network old new result
-      → KeepsTo (source_at base ∷ source_at trains ∷ disk_at journal ∷ client_calls clients) old new result
+  base_keeps : (base trains : List ℕ) (network : NetworkFile) (old new : Scene Src Snk Dsk) (result : Result Ends Refusal) → ReadsBase source sink disk rule_kind base trains journal clients proofs rules network old new result
+      → KeepsTo (source_at base ∷ source_at trains ∷ disk_at journal ∷ client_calls clients proofs) old new result
   base_keeps base trains network old new result works =
-      follows_keep (source_at base ∷ []) (source_at trains ∷ disk_at journal ∷ client_calls clients) (BaseStep source network.named.network.zones base) (λ (file : BaseFile). ReadsTrains source sink disk rule_kind trains journal clients rules network file)
+      follows_keep (source_at base ∷ []) (source_at trains ∷ disk_at journal ∷ client_calls clients proofs) (BaseStep source network.named.network.zones base) (λ (file : BaseFile). ReadsTrains source sink disk rule_kind trains journal clients proofs rules network file)
       (file_keeps kind.Base source base (IsBaseFile network.named.network.zones) (HasBaseFault network.named.network.zones)) (λ file. trains_keep trains network file) old new result works
 
   -- the work of `serve` keeps to its opening calls
-  pub works_keep : (network base trains : List ℕ) (old new : Scene Src Snk Dsk) (result : Result Ends Refusal) → ReadsNetwork source sink disk rule_kind network base trains journal clients rules old new result
-      → KeepsTo (serve_calls network base trains journal clients) old new result
+  pub works_keep : (network base trains : List ℕ) (old new : Scene Src Snk Dsk) (result : Result Ends Refusal) → ReadsNetwork source sink disk rule_kind network base trains journal clients proofs rules old new result
+      → KeepsTo (serve_calls network base trains journal clients proofs) old new result
   works_keep network base trains old new result works =
-      follows_keep (source_at network ∷ []) (source_at base ∷ source_at trains ∷ disk_at journal ∷ client_calls clients) (NetworkStep source network) (λ (file : NetworkFile). ReadsBase source sink disk rule_kind base trains journal clients rules file)
+      follows_keep (source_at network ∷ []) (source_at base ∷ source_at trains ∷ disk_at journal ∷ client_calls clients proofs) (NetworkStep source network) (λ (file : NetworkFile). ReadsBase source sink disk rule_kind base trains journal clients proofs rules file)
       (file_keeps kind.Network source network IsNetworkFile HasNetworkFault) (λ file. base_keeps base trains file) old new result works
 
   ends_back : (old new : Scene Src Snk Dsk) (outcome : Result Ends Refusal) (status : Status) → EndsRun sink old new outcome status → Undisturbed old.standing new.standing
@@ -49,5 +51,5 @@ module _ {Src Snk Dsk L : Type 0} (source : Sources Src) (sink : Sinks Snk) (dis
   ends_back old new (Err refusal) status said = said.reports.only.standing
 
   -- whatever came, all that was opened is put back
-  pub serve_back : (network base trains : List ℕ) (old new : Scene Src Snk Dsk) (status : Status) → RunsServe source sink disk rule_kind network base trains journal clients rules old new status → Undisturbed old.standing new.standing
+  pub serve_back : (network base trains : List ℕ) (old new : Scene Src Snk Dsk) (status : Status) → RunsServe source sink disk rule_kind network base trains journal clients proofs rules old new status → Undisturbed old.standing new.standing
   serve_back network base trains old new status runs = λ call. ends_back runs.between new runs.outcome status runs.ends call ∙ runs.keeps.keeps.standing call

@@ -3,6 +3,7 @@ use Rattle.std.specs.Prelude.{◌≡◌, ℕ, All, List, Result, Ok, Err}
 use Rattle.admission_rules.specs.declared.rules.Rule.{Ghosts as Rules}
 use Rattle.client_rules.specs.declared.clients.ClientRules.{ClientRules}
 use Rattle.client_words.specs.declared.clients.ClientWord.{ClientWord}
+use Rattle.proof_words.specs.declared.proofs.ProofWord.{ProofWord}
 use Rattle.command_files.specs.Files.{BaseStep, NetworkStep, TrainStep}
 use Rattle.command_files.specs.declared.bases.BaseFile.{BaseFile}
 use Rattle.command_files.specs.declared.networks.NetworkFile.{NetworkFile}
@@ -19,7 +20,8 @@ use Rattle.outside_io.specs.declared.sources.Source.{Ghosts as Sources}
 use Rattle.rail_types.specs.declared.trains.Train.{Train}
 use Rattle.serve_reports.specs.Ends.{EndsSay, report_text}
 use Rattle.serve_reports.specs.declared.ends.Ends.{Ends}
-use Rattle.serve_command.specs.Works.{files_of, ReadsNetwork, serve_calls}
+use Rattle.serve_command.specs.Works.{ReadsNetwork, serve_calls}
+use Rattle.served_journals.specs.Files.{files_of}
 use Rattle.serve_command.specs.Journals.{Serves}
 
 -- what is reported at the end: the ends of the clients, or what refused
@@ -32,21 +34,21 @@ EndsRun sink old new (Err refusal) status = TellsRefusal sink refusal old new st
 -- opened once, and all put back.
 pub record RunsServe {Src Snk Dsk L : Type 0} (source : Sources Src) (sink : Sinks Snk)
     (disk : Disks Dsk) (kind : Rules L) (network base trains journal : List ℕ)
-    (clients : List ClientWord) (rules : List (ClientRules L)) (old new : Scene Src Snk Dsk)
-    (status : Status) : Type 0 where
+    (clients : List ClientWord) (proofs : List ProofWord) (rules : List (ClientRules L))
+    (old new : Scene Src Snk Dsk) (status : Status) : Type 0 where
   pub between : Scene Src Snk Dsk
   pub outcome : Result Ends Refusal
-  pub works : ReadsNetwork source sink disk kind network base trains journal clients rules
-      old between outcome
-  pub keeps : KeepsTo (serve_calls network base trains journal clients) old between outcome
+  pub works : ReadsNetwork source sink disk kind network base trains journal clients proofs
+      rules old between outcome
+  pub keeps : KeepsTo (serve_calls network base trains journal clients proofs) old between outcome
   pub ends : EndsRun sink between new outcome status
 
 -- All was done: the files were read, the journal was opened, the clients were served over it, the input of each was read
 -- to its end, and a line for each and for each of its rules was reported.
 pub record IsServed {Src Snk Dsk L : Type 0} (source : Sources Src) (sink : Sinks Snk)
     (disk : Disks Dsk) (kind : Rules L) (network base trains journal : List ℕ)
-    (clients : List ClientWord) (rules : List (ClientRules L)) (old new : Scene Src Snk Dsk)
-    : Type 0 where
+    (clients : List ClientWord) (proofs : List ProofWord) (rules : List (ClientRules L))
+    (old new : Scene Src Snk Dsk) : Type 0 where
   pub network_file : NetworkFile
   pub base_file : BaseFile
   pub train_list : List Train
@@ -59,7 +61,7 @@ pub record IsServed {Src Snk Dsk L : Type 0} (source : Sources Src) (sink : Sink
   pub read_trains : TrainStep source trains second third (Ok train_list)
   pub ends : Ends
   pub serves : Serves source sink disk kind (files_of network_file base_file train_list) journal
-      clients rules third fourth ends
+      clients proofs rules third fourth ends
   pub inputs : All (λ session. session.ended.why ≡ Input) serves.serving.sessions
   pub told : ReportSays sink (report_text kind serves.serving.sessions) fourth new (Ok tt)
   pub only : ChangesOnlyReport fourth new

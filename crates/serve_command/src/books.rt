@@ -2,24 +2,27 @@
 
 ghost use Rattle.std.specs.Prelude.{◌≡◌, length};
 ghost use Rattle.client_lines.specs.Within.{AreSound};
-ghost use Rattle.client_streams.specs.Clients.{AreClients, client_calls};
+ghost use Rattle.client_plans.specs.Clients.{AreClients, client_calls};
 ghost use Rattle.command_reports.specs.Works.{KeepsTo};
 ghost use Rattle.file_rounds.specs.Scenes.{scene};
 ghost use Rattle.path_commit.specs.Ledgers.{settled_of};
-ghost use Rattle.serve_command.specs.Serving.{BookSays, IsClosed, names_of};
+ghost use Rattle.serve_command.specs.Serving.{BookSays};
+ghost use Rattle.served_journals.specs.Files.{names_of};
 
 use admission_rules::Rule;
 use client_lines::Known;
+use client_plans::{open_clients, put_back_plans, put_back_sessions};
 use client_rules::ClientRules;
-use client_streams::{open_clients, put_back_plans, put_back_sessions};
 use client_words::ClientWord;
 use command_reports::Refusal;
 use named_network::Named;
 use no_memory::NoMemory;
-use outside_io::{Disk, Outside};
+use outside_io::Outside;
 use path_commit::Book;
+use proof_words::ProofWord;
 use request_server::serve_clients;
 use serve_reports::{Ends, ends_of};
+use served_journals::close_book;
 use std::alloc::AllocGlobal;
 use std::sync::Wait;
 use std::thread::Threads;
@@ -33,42 +36,36 @@ pub(crate) fn serve_book<R: AllocGlobal + Threads + Wait + Sync, O: Outside, L: 
     named: Named,
     trains: Trains,
     clients: &[ClientWord],
+    proofs: &[ProofWord],
     mut rules: Vec<ClientRules<L>>,
     outside: &mut O,
 ) -> (O::Dsk, Result<Ends, Refusal>)
-    requires clients { AreClients clients.now }
+    requires clients { AreClients clients.now proofs.now }
     requires settled { settled_of book ≡ length book.entries }
     requires sound { AreSound (names_of named trains) }
     requires network { named.network ≡ book.timetable.net }
     ensures says { BookSays O.Src.Source O.Snk.Sink O.Dsk.Disk L.Rule (names_of named trains)
-        clients.now rules.items book result.0 (scene O.Outside outside.old)
+        clients.now proofs.now rules.items book result.0 (scene O.Outside outside.old)
         (scene O.Outside outside.new) result.1 }
-    ensures keeps { KeepsTo (client_calls clients.now) (scene O.Outside outside.old)
+    ensures keeps { KeepsTo (client_calls clients.now proofs.now) (scene O.Outside outside.old)
         (scene O.Outside outside.new) result.1 }
 {
     let Ok(known) = Known::new(rt.alloc(), named, trains) else {
         return (book.close(), Err(Refusal::Memory));
     };
-    let plans = match open_clients(rt.alloc(), clients, rules.as_mut_slice(), outside) {
+    let plans = match open_clients(rt.alloc(), clients, proofs, rules.as_mut_slice(), outside) {
         Ok(plans) => plans,
         Err(refusal) => return (book.close(), Err(refusal)),
     };
     match serve_clients(rt, rt.alloc(), book, known, plans) {
         Ok((book, sessions)) => {
             let ends = ends_of(rt.alloc(), &sessions);
-            put_back_sessions(clients, sessions, outside);
+            put_back_sessions(clients, proofs, sessions, outside);
             (close_book(book), Ok(ends))
         }
         Err((book, plans, NoMemory)) => {
-            put_back_plans(clients, plans, outside);
+            put_back_plans(clients, proofs, plans, outside);
             (book.close(), Err(Refusal::Memory))
         }
     }
-}
-
-// Hands back the disk of a book.
-fn close_book<D: Disk>(book: Book<D>) -> D
-    ensures closed { IsClosed D.Disk book result }
-{
-    book.close()
 }

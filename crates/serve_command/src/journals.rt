@@ -1,22 +1,20 @@
 //! The journal of a run.
 
-ghost use Rattle.client_streams.specs.Clients.{AreClients, client_calls};
+ghost use Rattle.client_plans.specs.Clients.{AreClients, client_calls};
 ghost use Rattle.command_reports.specs.Works.{KeepsTo};
 ghost use Rattle.file_rounds.specs.Scenes.{scene};
 ghost use Rattle.serve_command.specs.Journals.{DiskSays, ServeStep};
-ghost use Rattle.serve_command.specs.Works.{AreFiles};
+ghost use Rattle.served_journals.specs.Files.{AreFiles};
 
 use crate::books::serve_book;
-use crate::refusals::{journal_refusal, not_opened};
-use crate::works::Files;
 use admission_rules::Rule;
 use client_rules::ClientRules;
 use client_words::ClientWord;
-use command_files::{BaseFile, NetworkFile};
 use command_reports::Refusal;
 use outside_io::Outside;
-use path_recover::open;
+use proof_words::ProofWord;
 use serve_reports::Ends;
+use served_journals::{Files, Opened, not_opened, open_book};
 use std::alloc::AllocGlobal;
 use std::sync::Wait;
 use std::thread::Threads;
@@ -27,18 +25,19 @@ pub(crate) fn serve_files<R: AllocGlobal + Threads + Wait + Sync, O: Outside, L:
     files: Files,
     journal: &str,
     clients: &[ClientWord],
+    proofs: &[ProofWord],
     rules: Vec<ClientRules<L>>,
     outside: &mut O,
 ) -> Result<Ends, Refusal>
-    requires clients { AreClients clients.now }
+    requires clients { AreClients clients.now proofs.now }
     requires files { AreFiles files }
     ensures step { ServeStep O.Src.Source O.Snk.Sink O.Dsk.Disk L.Rule files journal.now
-        clients.now rules.items (scene O.Outside outside.old) (scene O.Outside outside.new) result }
+        clients.now proofs.now rules.items (scene O.Outside outside.old) (scene O.Outside outside.new) result }
 {
     let Ok(disk) = outside.disk(journal) else {
         return Err(not_opened(rt.alloc(), journal));
     };
-    let (disk, outcome) = serve_disk(rt, disk, files, journal, clients, rules, outside);
+    let (disk, outcome) = serve_disk(rt, disk, files, journal, clients, proofs, rules, outside);
     outside.put_back_disk(journal, disk);
     outcome
 }
@@ -50,33 +49,27 @@ fn serve_disk<R: AllocGlobal + Threads + Wait + Sync, O: Outside, L: Rule + Send
     files: Files,
     journal: &str,
     clients: &[ClientWord],
+    proofs: &[ProofWord],
     rules: Vec<ClientRules<L>>,
     outside: &mut O,
 ) -> (O::Dsk, Result<Ends, Refusal>)
-    requires clients { AreClients clients.now }
+    requires clients { AreClients clients.now proofs.now }
     requires files { AreFiles files }
     ensures says { DiskSays O.Src.Source O.Snk.Sink O.Dsk.Disk L.Rule files journal.now
-        clients.now rules.items disk result.0 (scene O.Outside outside.old)
+        clients.now proofs.now rules.items disk result.0 (scene O.Outside outside.old)
         (scene O.Outside outside.new) result.1 }
-    ensures keeps { KeepsTo (client_calls clients.now) (scene O.Outside outside.old)
+    ensures keeps { KeepsTo (client_calls clients.now proofs.now) (scene O.Outside outside.old)
         (scene O.Outside outside.new) result.1 }
 {
-    let Files {
-        network,
-        base,
-        trains,
-    } = files;
-    let NetworkFile {
-        named,
-        digest: network_digest,
-    } = network;
-    let BaseFile {
-        base,
-        digest: base_digest,
-    } = base;
-    let net = &named.network;
-    match open(rt.alloc(), disk, net, base, &network_digest, &base_digest) {
-        Ok(book) => serve_book(rt, book, named, trains, clients, rules, outside),
-        Err((disk, fault)) => (disk, Err(journal_refusal(rt.alloc(), journal, &fault))),
+    match open_book(rt.alloc(), disk, files, journal) {
+        Ok(opened) => {
+            let Opened {
+                book,
+                named,
+                trains,
+            } = opened;
+            serve_book(rt, book, named, trains, clients, proofs, rules, outside)
+        }
+        Err((disk, refusal)) => (disk, Err(refusal)),
     }
 }

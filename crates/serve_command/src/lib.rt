@@ -3,10 +3,7 @@
 
 mod books;
 mod journals;
-mod refusals;
 mod runs;
 mod works;
 
 pub use runs::run_serve;
-#[doc(hidden)]
-pub use works::Files;

@@ -1,7 +1,7 @@
 //! The run of `serve`.
 
 ghost use Rattle.std.specs.Prelude.{◌≡◌, ◌≢◌, ℕ, List};
-ghost use Rattle.client_streams.specs.Clients.{AreClients};
+ghost use Rattle.client_plans.specs.Clients.{AreClients};
 ghost use Rattle.file_rounds.specs.Scenes.{scene};
 ghost use Rattle.outside_io.specs.Openings.{Undisturbed};
 ghost use Rattle.outside_io.specs.Places.{Untouched};
@@ -14,16 +14,18 @@ use client_words::ClientWord;
 use command_reports::{Refusal, finish};
 use exit_status::Status;
 use outside_io::Outside;
+use proof_words::ProofWord;
 use serve_reports::{Ends, tell_ends};
 use std::alloc::AllocGlobal;
 use std::sync::Wait;
 use std::thread::Threads;
 
-/// Runs `serve` over the names of a network's file, a train file, a base timetable's and a journal, 1 to 16 clients, and
-/// rules of clients. It reads the files, opens the journal, opens the source and the sink of each client, answers the lines
-/// of all clients at once, each in a thread where one can be made, puts all back, and reports how each client's session ended
-/// and what its rules were told, or what refused. The rules of a client are those in the elements with its name, in order;
-/// elements with other names are dropped.
+/// Runs `serve` over the names of a network's file, a train file, a base timetable's and a journal, 1 to 16 clients, files for
+/// the proofs of some of them, and rules of clients. It reads the files, opens the journal, opens the source and the sink of
+/// each client and the file of its proofs if it has one, answers the lines of all clients at once, each in a thread where one
+/// can be made, puts all back, and reports how each client's session ended and what its rules were told, or what refused. To
+/// the file of a client goes the text of each proof that comes along with a reply to it, before the reply. The rules of a
+/// client are those in the elements with its name, in order; elements with other names are dropped.
 pub fn run_serve<R: AllocGlobal + Threads + Wait + Sync, O: Outside, L: Rule + Send>(
     rt: &R,
     network: &str,
@@ -31,17 +33,19 @@ pub fn run_serve<R: AllocGlobal + Threads + Wait + Sync, O: Outside, L: Rule + S
     base: &str,
     journal: &str,
     clients: &[ClientWord],
+    proofs: &[ProofWord],
     rules: Vec<ClientRules<L>>,
     outside: &mut O,
 ) -> Status
-    requires clients { AreClients clients.now }
+    requires clients { AreClients clients.now proofs.now }
     // All that is done, by the status and the report.
     ensures runs { RunsServe O.Src.Source O.Snk.Sink O.Dsk.Disk L.Rule network.now base.now
-        trains.now journal.now clients.now rules.items (scene O.Outside outside.old)
+        trains.now journal.now clients.now proofs.now rules.items (scene O.Outside outside.old)
         (scene O.Outside outside.new) result }
-    // At Done each line of each client was answered, and a line for each client and for each of its rules was reported.
+    // At Done each line of each client was answered, with its proofs where they are wanted, and a line for each client and
+    // for each of its rules was reported.
     ensures done { result ≡ Status.Done → IsServed O.Src.Source O.Snk.Sink O.Dsk.Disk L.Rule
-        network.now base.now trains.now journal.now clients.now rules.items
+        network.now base.now trains.now journal.now clients.now proofs.now rules.items
         (scene O.Outside outside.old) (scene O.Outside outside.new) }
     // At a refusal no sink but the report gained anything.
     ensures clean { result ≢ Status.Done → result ≢ Status.ClientEnd → result ≢ Status.Report
@@ -53,7 +57,9 @@ pub fn run_serve<R: AllocGlobal + Threads + Wait + Sync, O: Outside, L: Rule + S
     ensures disks { (name : List ℕ) → name ≢ journal.now
         → O.disks outside.new name ≡ O.disks outside.old name }
 {
-    let outcome = serve(rt, network, base, trains, journal, clients, rules, outside);
+    let outcome = serve(
+        rt, network, base, trains, journal, clients, proofs, rules, outside,
+    );
     end(outcome, outside)
 }
 

@@ -1,8 +1,9 @@
 //! The work of `serve`: reads the three files, and then serves.
 
-ghost use Rattle.client_streams.specs.Clients.{AreClients};
+ghost use Rattle.client_plans.specs.Clients.{AreClients};
 ghost use Rattle.file_rounds.specs.Scenes.{scene};
-ghost use Rattle.serve_command.specs.Works.{IsBaseRead, IsNetworkRead, ReadsBase, ReadsNetwork, ReadsTrains};
+ghost use Rattle.serve_command.specs.Works.{ReadsBase, ReadsNetwork, ReadsTrains};
+ghost use Rattle.served_journals.specs.Files.{IsBaseRead, IsNetworkRead};
 
 use crate::journals::serve_files;
 use admission_rules::Rule;
@@ -12,19 +13,12 @@ use client_words::ClientWord;
 use command_files::{BaseFile, NetworkFile, read_base_file, read_network_file, read_train_file};
 use command_reports::Refusal;
 use outside_io::Outside;
+use proof_words::ProofWord;
 use serve_reports::Ends;
+use served_journals::Files;
 use std::alloc::AllocGlobal;
 use std::sync::Wait;
 use std::thread::Threads;
-use train_file::Trains;
-
-/// The files of the command: for contracts.
-#[derive(Debug, Drop)]
-pub struct Files {
-    pub network: NetworkFile,
-    pub base: BaseFile,
-    pub trains: Trains,
-}
 
 /// The work of `serve`.
 pub(crate) fn serve<R: AllocGlobal + Threads + Wait + Sync, O: Outside, L: Rule + Send>(
@@ -34,16 +28,19 @@ pub(crate) fn serve<R: AllocGlobal + Threads + Wait + Sync, O: Outside, L: Rule 
     trains: &str,
     journal: &str,
     clients: &[ClientWord],
+    proofs: &[ProofWord],
     rules: Vec<ClientRules<L>>,
     outside: &mut O,
 ) -> Result<Ends, Refusal>
-    requires clients { AreClients clients.now }
+    requires clients { AreClients clients.now proofs.now }
     ensures works { ReadsNetwork O.Src.Source O.Snk.Sink O.Dsk.Disk L.Rule network.now base.now
-        trains.now journal.now clients.now rules.items (scene O.Outside outside.old)
+        trains.now journal.now clients.now proofs.now rules.items (scene O.Outside outside.old)
         (scene O.Outside outside.new) result }
 {
     let network = read_network_file(rt.alloc(), network, outside)?;
-    serve_network(rt, network, base, trains, journal, clients, rules, outside)
+    serve_network(
+        rt, network, base, trains, journal, clients, proofs, rules, outside,
+    )
 }
 
 // The same, once the network is read.
@@ -54,17 +51,20 @@ fn serve_network<R: AllocGlobal + Threads + Wait + Sync, O: Outside, L: Rule + S
     trains: &str,
     journal: &str,
     clients: &[ClientWord],
+    proofs: &[ProofWord],
     rules: Vec<ClientRules<L>>,
     outside: &mut O,
 ) -> Result<Ends, Refusal>
-    requires clients { AreClients clients.now }
+    requires clients { AreClients clients.now proofs.now }
     requires network { IsNetworkRead network }
     ensures works { ReadsBase O.Src.Source O.Snk.Sink O.Dsk.Disk L.Rule base.now trains.now
-        journal.now clients.now rules.items network (scene O.Outside outside.old)
+        journal.now clients.now proofs.now rules.items network (scene O.Outside outside.old)
         (scene O.Outside outside.new) result }
 {
     let base = read_base_file(rt.alloc(), base, network.named.network.zones, outside)?;
-    serve_base(rt, network, base, trains, journal, clients, rules, outside)
+    serve_base(
+        rt, network, base, trains, journal, clients, proofs, rules, outside,
+    )
 }
 
 // The same, once the base timetable is read.
@@ -75,13 +75,14 @@ fn serve_base<R: AllocGlobal + Threads + Wait + Sync, O: Outside, L: Rule + Send
     trains: &str,
     journal: &str,
     clients: &[ClientWord],
+    proofs: &[ProofWord],
     rules: Vec<ClientRules<L>>,
     outside: &mut O,
 ) -> Result<Ends, Refusal>
-    requires clients { AreClients clients.now }
+    requires clients { AreClients clients.now proofs.now }
     requires base { IsBaseRead network base }
     ensures works { ReadsTrains O.Src.Source O.Snk.Sink O.Dsk.Disk L.Rule trains.now journal.now
-        clients.now rules.items network base (scene O.Outside outside.old)
+        clients.now proofs.now rules.items network base (scene O.Outside outside.old)
         (scene O.Outside outside.new) result }
 {
     bases_make_timetables();
@@ -91,5 +92,5 @@ fn serve_base<R: AllocGlobal + Threads + Wait + Sync, O: Outside, L: Rule + Send
         base,
         trains,
     };
-    serve_files(rt, files, journal, clients, rules, outside)
+    serve_files(rt, files, journal, clients, proofs, rules, outside)
 }

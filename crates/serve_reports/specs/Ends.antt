@@ -4,6 +4,7 @@ use Rattle.std.specs.List.{list_any}
 use Rattle.exit_status.specs.declared.Status.{Status}
 use Rattle.exit_status.specs.declared.Status.TheVariants.{Done, No, Words, Network, Base, Trains, Journal, Opening, DiskFault, ClientEnd, Report, Memory}
 use Rattle.outside_io.specs.declared.sinks.Sink.{Ghosts}
+use Rattle.line_sessions.specs.declared.sessions.Ended.{Ended}
 use Rattle.line_sessions.specs.declared.sessions.Why.{Why}
 use Rattle.line_sessions.specs.declared.sessions.Why.TheVariants as why
 use Rattle.request_server.specs.declared.plans.Session.{Session}
@@ -24,16 +25,17 @@ why_text why.LongLine = codes "long-line"
 why_text why.LineCount = codes "line-count"
 why_text why.Memory = codes "memory"
 
--- the line of a session: its client, how many of its lines were answered, and its end
-abbrev pub end_line : {Src Snk L : Type 0} → Session Src Snk L → List ℕ
-end_line session =
-    codes "client " ++ session.name ++ codes " lines " ++ decimal session.ended.lines
-    ++ codes " end " ++ why_text session.ended.why ++ 10 ∷ []
+-- the line of an end: a head, the name of what ended, how many of its replies were taken, and why it ended
+abbrev pub end_line : List ℕ → List ℕ → Ended → List ℕ
+end_line head name ended =
+    head ++ name ++ codes " lines " ++ decimal ended.lines ++ codes " end "
+    ++ why_text ended.why ++ 10 ∷ []
 
 -- the lines of a session: its own, and behind it one for each rule of its client
 abbrev pub session_lines : {Src Snk L : Type 0} → Rules L → Session Src Snk L → List ℕ
 session_lines kind session =
-    end_line session ++ rule_lines session.name (stand kind session.rules.items)
+    end_line (codes "client ") session.name session.ended
+    ++ rule_lines session.name (stand kind session.rules.items)
 
 -- the lines of all sessions, in order
 abbrev pub report_text : {Src Snk L : Type 0} → Rules L → List (Session Src Snk L) → List ℕ
@@ -64,11 +66,18 @@ has_faulty sessions = list_any (λ session. is_faulty session.ended.why) session
 abbrev pub has_wanting : {Src Snk L : Type 0} → List (Session Src Snk L) → Bool
 has_wanting sessions = list_any (λ session. is_wanting session.ended.why) sessions
 
+-- what ends come to, by whether one is faulty, and whether memory was wanted at one
+abbrev pub end_status : Bool → Bool → Status
+end_status faulty wanting =
+    if faulty then ClientEnd else if wanting then Memory else Done
+
+-- what one end comes to
+abbrev pub status_at : Why → Status
+status_at why = end_status (is_faulty why) (is_wanting why)
+
 -- what the ends of sessions come to
 abbrev pub ends_status : {Src Snk L : Type 0} → List (Session Src Snk L) → Status
-ends_status sessions =
-    if has_faulty sessions then ClientEnd
-    else if has_wanting sessions then Memory else Done
+ends_status sessions = end_status (has_faulty sessions) (has_wanting sessions)
 
 -- the status where memory was wanted for the report as well: a faulty end stands before it
 abbrev pub status_untold : Status → Status
@@ -100,11 +109,15 @@ status_unreported ClientEnd = ClientEnd
 status_unreported Report = Report
 status_unreported Memory = Report
 
--- these are the ends of the sessions: their status and the text of their report, or memory was wanted for the text
+-- these ends come to this status and this text of their report, or memory was wanted for the text
+abbrev pub ComeTo : Status → List ℕ → Ends → Type 0
+ComeTo status text ends =
+    (ends ≡ record { status = status; text = Some text })
+    ⊎ (ends ≡ record { status = status_untold status; text = None })
+
+-- these are the ends of the sessions
 abbrev pub IsEnds : {Src Snk L : Type 0} → Rules L → List (Session Src Snk L) → Ends → Type 0
-IsEnds kind sessions ends =
-    (ends ≡ record { status = ends_status sessions; text = Some (report_text kind sessions) })
-    ⊎ (ends ≡ record { status = status_untold (ends_status sessions); text = None })
+IsEnds kind sessions ends = ComeTo (ends_status sessions) (report_text kind sessions) ends
 
 -- the text that the report gains
 abbrev pub line_of : Ends → List ℕ

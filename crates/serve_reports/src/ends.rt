@@ -2,7 +2,7 @@
 
 ghost use Rattle.std.specs.Prelude.{◌≡◌};
 ghost use Rattle.file_rounds.specs.Scenes.{scene};
-ghost use Rattle.serve_reports.specs.Ends.{EndsSay, ends_status, has_faulty, has_wanting, IsEnds, is_faulty, is_wanting, line_of, status_unreported, status_untold};
+ghost use Rattle.serve_reports.specs.Ends.{EndsSay, end_status, ends_status, has_faulty, has_wanting, IsEnds, is_faulty, is_wanting, line_of, status_at, status_unreported, status_untold};
 
 use crate::texts::text_of;
 use admission_rules::Rule;
@@ -36,7 +36,7 @@ pub fn ends_of<S: Source, T: Sink, L: Rule>(alloc: Global, sessions: &[Session<S
             text: Some(List::from_vec(text.into_vec())),
         },
         Err(NoMemory) => Ends {
-            status: untold(status),
+            status: status_untold(status),
             text: None,
         },
     }
@@ -68,10 +68,24 @@ fn line(ends: &Ends) -> &[u8]
 fn status_of<S: Source, T: Sink, L: Rule>(sessions: &[Session<S, T, L>]) -> Status
     ensures { result ≡ ends_status sessions.now }
 {
-    if any_faulty(sessions) {
+    end_status(any_faulty(sessions), any_wanting(sessions))
+}
+
+/// What one end comes to.
+pub fn status_at(why: Why) -> Status
+    ensures { result ≡ status_at why }
+{
+    end_status(faulty(why), wanting(why))
+}
+
+// What ends come to, by whether one is faulty, and whether memory was wanted at one.
+fn end_status(faulty: bool, wanting: bool) -> Status
+    ensures { result ≡ end_status faulty wanting }
+{
+    if faulty {
         return Status::ClientEnd;
     }
-    if any_wanting(sessions) {
+    if wanting {
         return Status::Memory;
     }
     Status::Done
@@ -104,8 +118,8 @@ fn wanting(why: Why) -> bool
     why == Why::Memory
 }
 
-// The status where memory was wanted for the report.
-fn untold(status: Status) -> Status
+/// The status where memory was wanted for the report.
+pub fn status_untold(status: Status) -> Status
     ensures { result ≡ status_untold status }
 {
     match status {

@@ -12,7 +12,7 @@ use rail_types::Name;
 
 /// Appends a line for each rule of a client, in order: `rule NAME RULE granted G freed F`. For want of memory a part of them
 /// may be there.
-pub(crate) fn push_rule_lines<L: Rule>(
+pub fn push_rule_lines<L: Rule>(
     text: &mut Buffer,
     client: &Name,
     rules: &[L],

@@ -7,9 +7,10 @@ use crate::rules::push_rule_lines;
 use admission_rules::Rule;
 use byte_fields::Buffer;
 use itoa::Buffer as Digits;
-use line_sessions::Why;
+use line_sessions::{Ended, Why};
 use no_memory::NoMemory;
 use outside_io::{Sink, Source};
+use rail_types::Name;
 use request_server::Session;
 use std::alloc::Global;
 
@@ -22,32 +23,31 @@ pub(crate) fn text_of<S: Source, T: Sink, L: Rule>(
 {
     let mut text = Buffer::new(alloc);
     for session in sessions {
-        push_line(&mut text, session)?;
+        push_end(&mut text, b"client ", &session.name, &session.ended)?;
         push_rule_lines(&mut text, &session.name, session.rules.as_slice())?;
     }
     Ok(text)
 }
 
-// Appends the line of a session.
-fn push_line<S: Source, T: Sink, L: Rule>(
-    text: &mut Buffer,
-    session: &Session<S, T, L>,
-) -> Result<(), NoMemory>
-    ensures { OnOk result (text.new.held ≡ text.old.held ++ end_line session.now) }
+/// Appends the line of an end: a head, the name of what ended, how many of its replies were taken, and why it ended. For want
+/// of memory a part of it may be there.
+pub fn push_end(text: &mut Buffer, head: &[u8], name: &Name, ended: &Ended) -> Result<(), NoMemory>
+    ensures { OnOk result
+        (text.new.held ≡ text.old.held ++ end_line head.now name.now ended.now) }
 {
     let mut digits = Digits::new();
-    text.extend(b"client ")?;
-    text.extend(session.name.as_bytes())?;
+    text.extend(head)?;
+    text.extend(name.as_bytes())?;
     text.extend(b" lines ")?;
-    text.extend(digits.format(session.ended.lines).as_bytes())?;
+    text.extend(digits.format(ended.lines).as_bytes())?;
     text.extend(b" end ")?;
-    text.extend(why_text(session.ended.why))?;
+    text.extend(why_text(ended.why))?;
     text.extend(b"\n")?;
     Ok(())
 }
 
-// Why a session ended, in words.
-fn why_text(why: Why) -> &'static [u8]
+/// Why a session ended, in words.
+pub fn why_text(why: Why) -> &'static [u8]
     ensures { result.now ≡ text_of_why why }
 {
     match why {

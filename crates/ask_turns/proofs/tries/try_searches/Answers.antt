@@ -1,23 +1,26 @@
-use Rattle.std.proofs.Common.{◌≡◌, ℕ, suc, ◌+◌, List, sym, ◌∙◌, subst, arith}
+use Rattle.std.proofs.Common.{◌≡◌, ℕ, suc, ◌+◌, List, Some, None, ap, sym, ◌∙◌, subst, arith}
 use Rattle.book_gate.specs.Passes.{view}
 use Rattle.path_labels.specs.Answers.{claims_held}
+use Rattle.rail_types.specs.declared.entries.Entry.{Entry}
 use Rattle.rail_types.specs.Limits.{IsClientName}
 use Rattle.rail_types.specs.Timetables.{Timetable}
 use Rattle.client_turns.specs.declared.clients.Client.{Client}
 use Rattle.client_turns.specs.declared.told.Tried.{Tried}
 use Rattle.client_turns.specs.Clients.{IsCopyOf}
-use Rattle.client_turns.specs.Turns.{HasTried, Sight, timetable_at}
+use Rattle.client_turns.specs.Turns.{HasEntered, HasTried, Sight, timetable_at}
 use Rattle.ask_turns.specs.declared.asks.Ask.{Ask}
 use Rattle.ask_turns.specs.declared.asks.Found.{Found}
-use Rattle.ask_turns.specs.Finds.{IsFoundBeside}
+use Rattle.ask_turns.specs.Finds.{IsFoundBeside, entry_for}
+use Rattle.ask_turns.specs.Shown.{ShowsBeside}
 use Rattle.ask_turns.specs.Tries.{HaveMissed}
-use Rattle.ask_turns.proofs.Searching.{beside_none, found_fits, in_range, judged, misses, none_fits}
+use Rattle.ask_turns.proofs.Searching.{beside_none, entered_of, found_fits, in_range, judged, misses, none_fits}
+use Rattle.ask_turns.proofs.Showing.{shown_at, shown_none}
 use Rattle.ask_turns.proofs.tries.try_searches.Goals as goal
 
 pub returns-in_default-clause-searched : goal.returns-in_default-clause-searched
 returns-in_default-clause-searched g c =
     let now = c.loop-search.invariant in let timetable : Timetable = timetable_at c.args.gate.now in
-    let net = c.args.net.now in let settings = c.args.settings.now in let ask : Ask = c.args.ask.now in
+    let net = c.args.known.now.railway.network in let settings = c.args.settings.now in let ask : Ask = c.args.ask.now in
     let client : Client = c.loop-search.client in let u : Sight = view c.loop-search.pass in (
       record {
         count = c.loop-search.search;
@@ -28,13 +31,13 @@ returns-in_default-clause-searched g c =
       },
       none_fits timetable net settings c.requires.net c.requires.settings client u.seen now.copy ask
           (beside_none timetable net settings c.requires.net c.requires.settings client ask
-          c.in_ok-found.field-0 c.in_default.not-Some c.in_ok-found.ensures.found),
+          c.in_ok-found.found c.in_default.not-Some c.in_ok-found.ensures.found),
     )
 
 pub try_entry-requires-clause-range : goal.try_entry-requires-clause-range
 try_entry-requires-clause-range g c =
     let now = c.loop-search.invariant in let timetable : Timetable = timetable_at c.args.gate.now in
-    let net = c.args.net.now in let settings = c.args.settings.now in let ask : Ask = c.args.ask.now in
+    let net = c.args.known.now.railway.network in let settings = c.args.settings.now in let ask : Ask = c.args.ask.now in
     let client : Client = c.loop-search.client in
     let found = subst (IsFoundBeside net settings client ask) c.in-Some.is c.in_ok-found.ensures.found in
     in_range timetable net settings c.requires.net c.requires.settings c.found_paths_are_short.ensures ask
@@ -44,7 +47,7 @@ try_entry-requires-clause-range g c =
 pub returns-in-Entered-clause-searched : goal.returns-in-Entered-clause-searched
 returns-in-Entered-clause-searched g c =
     let now = c.loop-search.invariant in let timetable : Timetable = timetable_at c.args.gate.now in
-    let net = c.args.net.now in let settings = c.args.settings.now in let ask : Ask = c.args.ask.now in
+    let net = c.args.known.now.railway.network in let settings = c.args.settings.now in let ask : Ask = c.args.ask.now in
     let client : Client = c.loop-search.client in
     let u : Sight = view c.loop-search.pass in let w : Sight = view c.try_entry.new.pass in
     let it : Found = c.in-Some.found in
@@ -69,7 +72,7 @@ returns-in-Entered-clause-searched g c =
 pub loop-search-preserved : goal.loop-search-preserved
 loop-search-preserved g c =
     let now = c.loop-search.invariant in let timetable : Timetable = timetable_at c.args.gate.now in
-    let net = c.args.net.now in let settings = c.args.settings.now in let ask : Ask = c.args.ask.now in
+    let net = c.args.known.now.railway.network in let settings = c.args.settings.now in let ask : Ask = c.args.ask.now in
     let client : Client = c.loop-search.client in let owner : List ℕ = c.args.client.now.name in
     let v : Sight = view c.args.pass.now in
     let u : Sight = view c.loop-search.pass in let w : Sight = view c.try_entry.new.pass in
@@ -99,3 +102,39 @@ returns-clause-searched g c =
     let three : c.loop-search.search ≡ 3 = omega arith in
     subst (λ n. HaveMissed timetable c.args.client.now.name c.args.ask.now n c.loop-search.missed c.loop-search.front v u)
     three now.missed
+
+pub returns-in_default-clause-shown : goal.returns-in_default-clause-shown
+returns-in_default-clause-shown g c proved =
+    let now = c.loop-search.invariant in let timetable : Timetable = timetable_at c.args.gate.now in
+    let known = c.args.known.now in let settings = c.args.settings.now in let ask : Ask = c.args.ask.now in
+    let client : Client = c.loop-search.client in let u : Sight = view c.loop-search.pass in
+    let text : List ℕ = c.find_entry.new.proof.held in
+    shown_at known timetable settings c.requires.net c.requires.settings client u.seen now.copy ask None text
+    (shown_none known settings client ask text c.in_ok-found.found c.in_default.not-Some (c.in_ok-found.ensures.shown proved))
+
+pub returns-in-Entered-clause-shown : goal.returns-in-Entered-clause-shown
+returns-in-Entered-clause-shown g c proved =
+    let now = c.loop-search.invariant in let timetable : Timetable = timetable_at c.args.gate.now in
+    let known = c.args.known.now in let net = known.railway.network in
+    let settings = c.args.settings.now in let ask : Ask = c.args.ask.now in
+    let client : Client = c.loop-search.client in let entered = c.in-Entered.entered in
+    let u : Sight = view c.loop-search.pass in let w : Sight = view c.try_entry.new.pass in
+    let it : Found = c.in-Some.found in let text : List ℕ = c.find_entry.new.proof.held in
+    let shown = subst (ShowsBeside known settings client ask text) c.in-Some.is (c.in_ok-found.ensures.shown proved) in
+    let told = subst (λ (t : Tried). HasTried timetable it.entry client.front t u w) c.in-Entered.is c.in_ok-tried.ensures.tried in (
+      u,
+      shown.0,
+      record {
+        count = c.loop-search.search;
+        few = c.loop-search-test.true;
+        at = c.loop-search.missed;
+        front = c.loop-search.front;
+        missed = now.missed;
+      },
+      sym shown.1.runs_are,
+      subst (λ (e : Entry). HasEntered timetable e entered u w)
+          (shown.1.entry_is ∙ ap (λ o. entry_for o ask shown.0) now.name)
+          (entered_of timetable it.entry client.front u w entered told),
+      found_fits timetable net settings c.requires.net c.requires.settings client u.seen now.copy ask shown.0 shown.1.can,
+      shown_at known timetable settings c.requires.net c.requires.settings client u.seen now.copy ask (Some shown.0) text shown.2,
+    )

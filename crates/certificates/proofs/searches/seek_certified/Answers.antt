@@ -29,5 +29,5 @@ returns-in_ok-excluded-in-Found c =
       excludes = cut;
       certificate = subst (λ (r : Request). IsCertificate net settings live r closed) (sym cut) found.1;
       passes = subst (λ (r : Request). Passes net settings live r c.args.places.now closed) (sym cut)
-          (c.certificates_pass.ensures.earlier net settings live request c.args.places.now c.in-Found.path closed c.requires.flawless c.requires.settings c.requires.request c.requires.places c.requires.moves found);
+          (c.certificates_pass.ensures.earlier net settings live request c.args.places.now c.in-Found.path closed c.requires.flawless c.requires.settings c.requires.request c.requires.places c.requires.moves c.requires.few found);
     }

@@ -1,15 +1,18 @@
-use Rattle.std.proofs.Common.{◌≡◌, List, sym, subst}
+use Rattle.std.proofs.Common.{◌≡◌, ℕ, List, sym, subst}
 use Rattle.book_gate.specs.Passes.{view}
 use Rattle.client_rules.specs.Ruled.{Ruled, stand}
+use Rattle.rail_types.specs.Timetables.{Timetable}
 use Rattle.reply_texts.specs.declared.replies.Reply.{Reply}
-use Rattle.client_turns.specs.Turns.{Sight}
+use Rattle.client_turns.specs.Turns.{Sight, timetable_at}
 use Rattle.line_answers.specs.Answers.{Caller}
 use Rattle.line_answers.specs.Callers.{caller_of}
 use Rattle.line_answers.specs.Calls.{AnswersBetween}
+use Rattle.line_answers.specs.Proved.{ProvedOr}
 use Rattle.line_answers.specs.Rules.{told_by}
 use Rattle.line_answers.specs.Tells.{fault_reply}
 use Rattle.line_answers.proofs.Rows.{unread_line}
 use Rattle.line_answers.proofs.Told.{fault_adds, read_as, untold_by}
+use Rattle.line_answers.proofs.Proved.{shows_fault}
 use Rattle.line_answers.proofs.answers.answer_bytes.Goals as goal
 
 pub returns-in-Ok-clause-answers : goal.returns-in-Ok-clause-answers
@@ -36,3 +39,16 @@ returns-in-Err-clause-told g c =
     let v : Sight = view c.args.pass.now in
     subst (λ (r : Reply). rules ≡ told_by v.seen r rules) (sym c.unread.ensures)
     (sym (untold_by v.seen (fault_reply c.in-Err.fault) (fault_adds c.in-Err.fault) rules))
+
+pub returns-in-Ok-clause-shown : goal.returns-in-Ok-clause-shown
+returns-in-Ok-clause-shown g c =
+    c.answer_ruled.ensures.shown c.args.line.now
+    (read_as c.args.shared.now.known c.args.line.now c.in-Ok.line c.in-Ok.ensures.spelled c.in-Ok.ensures.read c.in-Ok.ensures.refused)
+
+pub returns-in-Err-clause-shown : goal.returns-in-Err-clause-shown
+returns-in-Err-clause-shown g c wanted =
+    let v : Sight = view c.args.pass.now in
+    let timetable : Timetable = timetable_at c.args.shared.now.gate in
+    let text : List ℕ = c.args.proof.now.held in
+    subst (λ (r : Reply). ProvedOr (Unit {0}) c.args.shared.now.known timetable c.args.line.now r text v v) (sym c.unread.ensures)
+    (shows_fault c.args.shared.now.known timetable c.args.line.now c.in-Err.fault text v v)

@@ -5,16 +5,19 @@ use Rattle.rail_types.specs.declared.entries.Deed.{Deed}
 use Rattle.rail_types.specs.declared.entries.Deed.TheVariants.{Free, Grant}
 use Rattle.rail_types.specs.declared.entries.Wanted.TheVariants.{Asked}
 use Rattle.rail_types.specs.declared.paths.Path.{Path}
+use Rattle.rail_types.specs.Timetables.{Timetable}
 use Rattle.reply_texts.specs.declared.replies.Reply.{Reply}
 use Rattle.client_turns.specs.Told.{IsFoundAgain}
-use Rattle.client_turns.specs.Turns.{Sight}
+use Rattle.client_turns.specs.Turns.{Sight, timetable_at}
 use Rattle.line_answers.specs.Answers.{Caller, entry_of}
 use Rattle.line_answers.specs.Asked.{AnswersBehind, HasRoomIn, asking}
 use Rattle.line_answers.specs.Callers.{AnswersLine, caller_of}
+use Rattle.line_answers.specs.Proved.{ProvedOr}
 use Rattle.line_answers.specs.Tells.{AddsNothing}
 use Rattle.line_answers.proofs.Sought.{found_line, of_number}
 use Rattle.line_answers.proofs.Rooms.{halt_room}
 use Rattle.line_answers.proofs.Rows.{halted_line, want_line}
+use Rattle.line_answers.proofs.Proved.{again_shows, shows_halt}
 use Rattle.line_answers.proofs.asks.ask.Goals as goal
 
 pub returns-in_default-clause-answers : goal.returns-in_default-clause-answers
@@ -57,3 +60,24 @@ pub returns-in-Err-clause-room : goal.returns-in-Err-clause-room
 returns-in-Err-clause-room g c =
     subst (λ (r : Reply). HasRoomIn c.args.text.now r ⊎ AddsNothing r) (sym c.halted.ensures)
     (halt_room c.args.text.now c.in-Err.halt c.requires.spare)
+
+pub returns-in_default-clause-shown : goal.returns-in_default-clause-shown
+returns-in_default-clause-shown g c bytes read wanted = tt
+
+pub returns-in-Ok-None-clause-shown : goal.returns-in-Ok-None-clause-shown
+returns-in-Ok-None-clause-shown g c =
+    c.seek_path.ensures.shown (view c.args.pass.now) c.args.after c.in-Ok-None.ensures.looks
+
+pub returns-in-Ok-Some-clause-shown : goal.returns-in-Ok-Some-clause-shown
+returns-in-Ok-Some-clause-shown g c bytes read wanted =
+    again_shows c.args.shared.now.known (timetable_at c.args.shared.now.gate) bytes c.args.number c.front.result
+    c.in-Ok-Some.told c.number_told.result c.args.proof.now.held (view c.args.pass.now) (view c.find_again.new.pass)
+    c.number_told.ensures.tells
+
+pub returns-in-Err-clause-shown : goal.returns-in-Err-clause-shown
+returns-in-Err-clause-shown g c bytes read wanted =
+    let v : Sight = view c.args.pass.now in let w : Sight = view c.find_again.new.pass in
+    let timetable : Timetable = timetable_at c.args.shared.now.gate in
+    let text : List ℕ = c.args.proof.now.held in
+    subst (λ (r : Reply). ProvedOr (Unit {0}) c.args.shared.now.known timetable bytes r text v w) (sym c.halted.ensures)
+    (shows_halt c.args.shared.now.known timetable bytes c.in-Err.halt text v w)

@@ -1,17 +1,20 @@
-use Rattle.std.proofs.Common.{◌⊎◌, length, ap, sym, ◌∙◌, subst, arith}
+use Rattle.std.proofs.Common.{◌⊎◌, ℕ, List, length, ap, sym, ◌∙◌, subst, refl, arith}
 use Rattle.book_gate.specs.Passes.{view}
 use Rattle.rail_types.specs.declared.limits.TheConstants.{MAX_PLACES}
 use Rattle.rail_types.specs.declared.tracks.Network.{Network}
+use Rattle.rail_types.specs.Timetables.{Timetable}
 use Rattle.reply_texts.specs.declared.replies.Reply.{Reply}
 use Rattle.tail_states.specs.Listed.{HasMoreThan, Refuses}
-use Rattle.client_turns.specs.Turns.{Sight}
+use Rattle.client_turns.specs.Turns.{Sight, timetable_at}
 use Rattle.ask_turns.specs.Tries.{IsTheFront}
 use Rattle.line_answers.specs.Answers.{Caller}
 use Rattle.line_answers.specs.Asked.{HasRoomIn, asking}
 use Rattle.line_answers.specs.Callers.{AnswersLine, caller_of}
+use Rattle.line_answers.specs.Proved.{ProvedOr}
 use Rattle.line_answers.specs.Tells.{AddsNothing}
 use Rattle.line_answers.proofs.Rooms.{halt_room}
 use Rattle.line_answers.proofs.Sought.{asked_line, halted_ask, want_line, wide_line}
+use Rattle.line_answers.proofs.Proved.{ask_shows, shows_halt}
 use Rattle.line_answers.proofs.asks.seek_path.Goals as goal
 
 pub returns-in-Err-Wide-clause-answers : goal.returns-in-Err-Wide-clause-answers
@@ -58,3 +61,28 @@ returns-clause-room g c =
     subst (λ (r : Reply). HasRoomIn c.try_searches.new.text r ⊎ AddsNothing r) (sym c.halted.ensures)
     (halt_room c.try_searches.new.text c.in-Err.halt
     (let was = c.requires.spare in let more = c.in-Err.ensures.spare in omega arith))
+
+pub returns-in-Err-Wide-clause-shown : goal.returns-in-Err-Wide-clause-shown
+returns-in-Err-Wide-clause-shown g c v after looks bytes read wanted = tt
+
+pub returns-in-Err-Memory-clause-shown : goal.returns-in-Err-Memory-clause-shown
+returns-in-Err-Memory-clause-shown g c v after looks bytes read wanted = tt
+
+pub returns-in-Ok-try_searches-clause-shown : goal.returns-in-Ok-try_searches-clause-shown
+returns-in-Ok-try_searches-clause-shown g c v after looks bytes read wanted =
+    let u : Sight = view c.args.pass.now in let w : Sight = view c.try_searches.new.pass in
+    let told = c.in-Ok-try_searches.outcome in
+    ask_shows c.asks_can_be_told.ensures c.args.shared.now.known (timetable_at c.args.shared.now.gate) c.args.client.now.name
+    (record { number = c.args.number; line = c.args.line_number; request = c.args.request; places = c.in-Ok.places })
+    bytes (asking after c.args.number c.args.request) read.spells refl v u w looks c.try_searches.new.proof.held
+    told c.front-in-Ok-try_searches.result c.ask_told.result
+    (subst (λ n. IsTheFront told n w) (sym c.front-in-Ok-try_searches.ensures) c.in-Ok-try_searches.ensures.front)
+    c.in-Ok-try_searches.ensures.searched (c.in-Ok-try_searches.ensures.shown wanted) c.ask_told.ensures.tells
+
+pub returns-clause-shown : goal.returns-clause-shown
+returns-clause-shown g c v after looks bytes read wanted =
+    let w : Sight = view c.try_searches.new.pass in
+    let timetable : Timetable = timetable_at c.args.shared.now.gate in
+    let text : List ℕ = c.try_searches.new.proof.held in
+    subst (λ (r : Reply). ProvedOr (Unit {0}) c.args.shared.now.known timetable bytes r text v w) (sym c.halted.ensures)
+    (shows_halt c.args.shared.now.known timetable bytes c.in-Err.halt text v w)

@@ -8,6 +8,7 @@ use Rattle.line_answers.specs.Callers.{caller_of}
 use Rattle.line_answers.specs.Points.{added}
 use Rattle.line_answers.specs.Rules.{told_grant}
 use Rattle.line_answers.proofs.Told.{denied_may, untold_by, wished_told}
+use Rattle.line_answers.proofs.Proved.{denied_shows}
 use Rattle.line_answers.proofs.rules.answer_wished.Goals as goal
 
 pub returns-in-Some-clause-told : goal.returns-in-Some-clause-told
@@ -46,3 +47,12 @@ deny-requires-clause-may g c =
     let some : c.first_denial.result ≡ Some c.in-Some.rule = search all_rules in
     denied_may rules c.args.line.ask c.in-Some.rule
     (ap (denied_by rules) (sym c.wish_of_line-wish.ensures) ∙ sym c.first_denial.ensures ∙ some)
+
+pub returns-in-Some-clause-shown : goal.returns-in-Some-clause-shown
+returns-in-Some-clause-shown g c =
+    let rules : List Ruled = stand g.L.Rule c.args.rules.now in
+    let some : c.first_denial.result ≡ Some c.in-Some.rule = search all_rules in
+    let denied = ap (denied_by rules) (sym c.wish_of_line-wish.ensures) ∙ sym c.first_denial.ensures ∙ some in
+    denied_shows c.args.shared.now rules c.args.client.now.name c.args.line_number c.args.line c.args.proves c.deny.result
+    c.args.proof.now.held (view c.args.pass.now) (view c.deny.new.pass) (c.deny.ensures.answers rules denied) c.in-Some.rule
+    (denied_may rules c.args.line.ask c.in-Some.rule denied) denied

@@ -1,10 +1,11 @@
-use Rattle.std.proofs.Common.{rules, refl, ◌∷◌, [], List, Some, length, ap, sym, ◌∙◌, subst, arith, length-append}
+use Rattle.std.proofs.Common.{rules, refl, ◌∷◌, ◌++◌, [], List, Some, length, ap, sym, ◌∙◌, subst, arith, length-append}
 use Rattle.std.proofs.lemmas.List.Elements.{All-pop}
 use Rattle.book_gate.specs.Passes.{view}
 use Rattle.line_sessions.specs.Ends.{streams}
 use Rattle.request_server.specs.declared.plans.Job.{Job}
 use Rattle.request_server.specs.declared.plans.Session.{Session}
-use Rattle.request_server.specs.Jobs.{IsBack, session_of}
+use Rattle.client_seats.specs.Seats.{IsBack}
+use Rattle.request_server.specs.Jobs.{session_of}
 use Rattle.request_server.proofs.Matched.{Joining, joining_all, joining_more, joining_none}
 use Rattle.request_server.proofs.runs.join_all.Goals as goal
 
@@ -26,33 +27,28 @@ loop-job-preserved g c =
     let now = c.loop-job.invariant in
     let job : Job D S T B L = c.in-Some.job in let rest : List (Job D S T B L) = c.pop.new.self.items in
     let items = c.in-Some.ensures.items in
-    let popped = All-pop (IsBack c.args.shared.now) c.loop-job.jobs.items rest (Some job) items now.jobs in
-    let back = popped.1 in
+    let popped = All-pop (λ (j : Job D S T B L). IsBack c.args.shared.now j.seat) c.loop-job.jobs.items rest (Some job) items now.jobs in
     let before : List (Session S T L) = c.loop-job.sessions.items in
-    let pushed = c.push_reserved.ensures.items in
+    let pushed = c.push_reserved.ensures.items
+    ∙ ap (λ r. before ++ record { name = job.name; source = job.source; sink = job.sink; proofs = job.proofs; ended = job.ended; rules = r } ∷ []) c.leave_seat-rules.ensures.rules in
     let long = ap length items ∙ length-append rest (job ∷ []) in
     let longer = ap length pushed ∙ length-append before (session_of job ∷ []) in record {
-      ready = search rules;
-      share = let shares = ap (λ v. v.share) c.join.ensures.joined in let was = now.share in let its = back.share in omega arith;
+      ready = c.leave_seat-rules.ensures.ready;
+      share = let shares = c.leave_seat-rules.ensures.share in let was = now.share in omega arith;
       jobs = popped.0;
       room = let same = c.push_reserved.ensures.capacity in let was = now.room in omega arith;
       joined = λ clients talks all.
-          subst (λ l. Joining g.L.Rule c.args.shared.now (streams g.S.Source.left g.S.Source.faults g.T.Sink.held g.T.Sink.faults) clients talks rest l (view c.join.new.into)) (sym pushed)
-          (joining_more g.L.Rule c.args.shared.now (streams g.S.Source.left g.S.Source.faults g.T.Sink.held g.T.Sink.faults) clients talks rest job before (view c.loop-job.pass) (view c.join.new.into)
+          subst (λ l. Joining g.L.Rule c.args.shared.now (streams g.S.Source.left g.S.Source.faults g.T.Sink.held g.T.Sink.faults) clients talks rest l (view c.leave_seat-rules.new.pass))
+          (sym pushed)
+          (joining_more g.L.Rule c.args.shared.now (streams g.S.Source.left g.S.Source.faults g.T.Sink.held g.T.Sink.faults) clients talks rest job before (view c.loop-job.pass) (view c.leave_seat-rules.new.pass)
           (subst (λ l. Joining g.L.Rule c.args.shared.now (streams g.S.Source.left g.S.Source.faults g.T.Sink.held g.T.Sink.faults) clients talks l before (view c.loop-job.pass)) items (now.joined clients talks all))
-          c.join.ensures.joined c.join.ensures.turns c.join.ensures.own_entries c.join.ensures.rises);
+          c.leave_seat-rules.ensures.seen c.leave_seat-rules.ensures.joined);
     }
 
-pub join-requires-clause-other_own : goal.join-requires-clause-other_own
-join-requires-clause-other_own g c =
+pub leave_seat-rules-requires-clause-back : goal.leave_seat-rules-requires-clause-back
+leave_seat-rules-requires-clause-back g c =
     let D = g.row.D.Denot in let S = g.row.S.Denot in let T = g.row.T.Denot in let B = g.row.B.Denot in let L = g.row.L.Denot in
-    let popped = All-pop (IsBack c.args.shared.now) c.loop-job.jobs.items c.pop.new.self.items (Some c.in-Some.job) c.in-Some.ensures.items c.loop-job.invariant.jobs in
-    popped.1.ready.0
-
-pub join-requires-clause-other_idle : goal.join-requires-clause-other_idle
-join-requires-clause-other_idle g c =
-    let popped = All-pop (IsBack c.args.shared.now) c.loop-job.jobs.items c.pop.new.self.items (Some c.in-Some.job) c.in-Some.ensures.items c.loop-job.invariant.jobs in
-    popped.1.ready.1
+    (All-pop (λ (j : Job D S T B L). IsBack c.args.shared.now j.seat) c.loop-job.jobs.items c.pop.new.self.items (Some c.in-Some.job) c.in-Some.ensures.items c.loop-job.invariant.jobs).1
 
 pub returns-clause-joined : goal.returns-clause-joined
 returns-clause-joined g c clients talks all =

@@ -2,10 +2,11 @@ use Rattle.std.proofs.Common.{◌≡◌, ◌+◌, ◌*◌, ◌≤◌, All, List,
 use Rattle.book_gate.specs.Passes.{view}
 use Rattle.client_turns.specs.Turns.{IsReady}
 use Rattle.line_sessions.specs.Ends.{streams}
-use Rattle.request_server.specs.Jobs.{IsBack, IsDoneJob}
-use Rattle.request_server.specs.Runs.{AreMatched}
-use Rattle.request_server.specs.Talks.{Talk}
-use Rattle.request_server.proofs.Matched.{Joining, shared_callers}
+use Rattle.client_seats.specs.Runs.{AreMatched}
+use Rattle.client_seats.specs.Seats.{IsBack}
+use Rattle.client_seats.specs.Talks.{Talk}
+use Rattle.request_server.specs.Jobs.{IsDoneJob}
+use Rattle.request_server.proofs.Matched.{Joining}
 use Rattle.request_server.proofs.runs.join_all.Given as goal
 
 abbrev pub invariant-loop-job : goal.invariant-loop-job
@@ -13,10 +14,10 @@ invariant-loop-job g l = record {
   ready : IsReady l.shared.gate l.pass;
   share : (view l.pass).share + length l.jobs.items * 400000
       ≡ (view l.fn.pass).share + length l.fn.jobs.items * 400000;
-  jobs : All (IsBack l.shared) l.jobs.items;
+  jobs : All (λ job. IsBack l.shared job.seat) l.jobs.items;
   room : length l.jobs.items + length l.sessions.items ≤ vec_capacity l.sessions;
   joined : (clients : _) (talks : List Talk)
-      → AreMatched (IsDoneJob g.L.Rule (shared_callers l.shared) l.shared (streams g.S.Source.left g.S.Source.faults g.T.Sink.held g.T.Sink.faults)) clients (reverse l.fn.jobs.items) talks
+      → AreMatched (IsDoneJob g.L.Rule l.shared (streams g.S.Source.left g.S.Source.faults g.T.Sink.held g.T.Sink.faults)) clients (reverse l.fn.jobs.items) talks
       → Joining g.L.Rule l.shared (streams g.S.Source.left g.S.Source.faults g.T.Sink.held g.T.Sink.faults) clients talks l.jobs.items l.sessions.items (view l.pass);
 }
 

@@ -2,9 +2,10 @@ use Rattle.std.proofs.Common.{List, All, drop, length, map, ap, sym, ◌∙◌, 
 use Rattle.std.proofs.lemmas.List.{take_at}
 use Rattle.line_sessions.specs.Ends.{streams}
 use Rattle.request_server.specs.declared.plans.Job.{Job}
-use Rattle.request_server.specs.Jobs.{begun_of, IsBack, IsDoneJob, IsReadyJob}
-use Rattle.request_server.specs.Runs.{AreMatched}
-use Rattle.request_server.proofs.Matched.{all_done, matched_all, shared_callers}
+use Rattle.client_seats.specs.Runs.{AreMatched}
+use Rattle.client_seats.specs.Seats.{IsBack}
+use Rattle.request_server.specs.Jobs.{begun_of, IsDoneJob, IsReadyJob}
+use Rattle.request_server.proofs.Matched.{all_done, matched_all}
 use Rattle.request_server.proofs.runs.serve_all.Goals as goal
 
 pub returns-clause-back : goal.returns-clause-back
@@ -14,12 +15,13 @@ returns-clause-back g c =
     let was : List (Job D S T B L) = c.as_mut_slice.result.now in let now : List (Job D S T B L) = c.serve_each.new.jobs in
     let value = c.as_mut_slice.ensures.value in let long = c.serve_each.auto.jobs in
     let all = take_at now (drop (length now) c.args.jobs.items) c.args.jobs.len (long ∙ ap length value ∙ sym c.args.jobs.ok.0) in
-    let R = IsDoneJob kind (shared_callers c.args.shared.now) c.args.shared.now (streams g.S.Source.left g.S.Source.faults g.T.Sink.held g.T.Sink.faults) in
+    let R = IsDoneJob kind c.args.shared.now (streams g.S.Source.left g.S.Source.faults g.T.Sink.held g.T.Sink.faults) in
     let ready = subst (All (IsReadyJob c.args.shared.now)) (sym value) c.requires in
     let done = all_done kind c.args.shared.now (streams g.S.Source.left g.S.Source.faults g.T.Sink.held g.T.Sink.faults) was now long ready c.serve_each.ensures in
     let there = subst (λ l. AreMatched R (map (begun_of kind) l) now done.0) value done.1 in
-    subst (All (IsBack c.args.shared.now)) (sym all)
-    (matched_all R (IsBack c.args.shared.now) (λ client job talk one. one.back) (map (begun_of kind) c.args.jobs.items) now done.0 there)
+    let P : Job D S T B L → Type 0 = λ j. IsBack c.args.shared.now j.seat in
+    subst (All P) (sym all)
+    (matched_all R P (λ client job talk one. one.done.back) (map (begun_of kind) c.args.jobs.items) now done.0 there)
 
 pub returns-clause-count : goal.returns-clause-count
 returns-clause-count g c =
@@ -36,7 +38,7 @@ returns-clause-done g c =
     let was : List (Job D S T B L) = c.as_mut_slice.result.now in let now : List (Job D S T B L) = c.serve_each.new.jobs in
     let value = c.as_mut_slice.ensures.value in let long = c.serve_each.auto.jobs in
     let all = take_at now (drop (length now) c.args.jobs.items) c.args.jobs.len (long ∙ ap length value ∙ sym c.args.jobs.ok.0) in
-    let R = IsDoneJob kind (shared_callers c.args.shared.now) c.args.shared.now (streams g.S.Source.left g.S.Source.faults g.T.Sink.held g.T.Sink.faults) in
+    let R = IsDoneJob kind c.args.shared.now (streams g.S.Source.left g.S.Source.faults g.T.Sink.held g.T.Sink.faults) in
     let ready = subst (All (IsReadyJob c.args.shared.now)) (sym value) c.requires in
     let done = all_done kind c.args.shared.now (streams g.S.Source.left g.S.Source.faults g.T.Sink.held g.T.Sink.faults) was now long ready c.serve_each.ensures in
     let there = subst (λ l. AreMatched R (map (begun_of kind) l) now done.0) value done.1 in

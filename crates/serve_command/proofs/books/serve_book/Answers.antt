@@ -1,4 +1,4 @@
-use Rattle.std.proofs.Common.{◌≡◌, ◌∙◌, List, length, map, take, arith, ap, subst}
+use Rattle.std.proofs.Common.{◌≡◌, ◌∙◌, List, length, map, arith, ap, subst}
 use Rattle.client_lines.specs.Names.{Names}
 use Rattle.client_rules.specs.Clients.{rules_named}
 use Rattle.file_rounds.specs.Scenes.{Scene, scene}
@@ -7,11 +7,17 @@ use Rattle.request_server.specs.Runs.{IsServed, WereServed}
 use Rattle.outside_io.specs.declared.betweens.NoBetween.{NoBetween}
 use Rattle.request_server.specs.declared.plans.Plan.{Plan}
 use Rattle.request_server.specs.declared.plans.Session.{Session}
-use Rattle.client_streams.specs.Lending.{AreIn, streams_of}
+use Rattle.client_plans.specs.Clients.{AreFit, client_calls, client_loans, returned_of, streams_of}
+use Rattle.client_seats.specs.Talks.{Talk}
+use Rattle.client_streams.specs.Lending.{AreIn}
 use Rattle.client_words.specs.declared.clients.ClientWord.{ClientWord}
 use Rattle.path_commit.specs.Ledgers.{Ledger}
+use Rattle.serve_reports.specs.declared.ends.Ends.{Ends}
 use Rattle.serve_command.specs.Serving.{streams_by}
-use Rattle.serve_command.proofs.Nesting.{known_same, rounds_by, Rounds, Unserved, unserved_again}
+use Rattle.served_journals.proofs.Names.{known_same}
+use Rattle.served_journals.proofs.Halts.{Unserved}
+use Rattle.proof_words.specs.declared.proofs.ProofWord.{ProofWord}
+use Rattle.serve_command.proofs.Nesting.{all_fit_again, rounds_by, Rounds, served_stopped, unserved_again}
 use Rattle.serve_command.proofs.Lists.{all_alike, long_alike, matched_long, pairs_alike}
 use Rattle.serve_command.proofs.books.serve_book.Goals as goal
 
@@ -59,6 +65,16 @@ put_back_plans-requires-clause-many g c κs within =
     let same : again ≡ plans = c.in-Err-serve_clients.ensures.refused.1 in
     let as_long = ap length same in omega arith
 
+pub returns-in-Err : goal.returns-in-Err
+returns-in-Err g c =
+    let Src = g.row.O-Src.Denot in let Snk = g.row.O-Snk.Denot in let Dsk = g.row.O-Dsk.Denot in
+    let s0 : Scene Src Snk Dsk = scene g.O.Outside c.args.outside.now in
+    let s1 : Scene Src Snk Dsk = scene g.O.Outside c.open_clients.new.outside in
+    let clients : List ClientWord = c.args.clients.now in let proofs : List ProofWord = c.args.proofs.now in
+    let after : Dsk = c.close-in-Err.result in let found : Ledger Dsk = c.args.book in
+    let unserved : Unserved Ends (client_calls clients proofs) found after s0 s1 c.in-Err.refusal = served_stopped (client_calls clients proofs) found after s0 s1 c.in-Err.refusal c.close-in-Err.ensures.disk c.in-Err.ensures.stopped in
+    record { says = unserved.says; keeps = unserved.keeps }
+
 pub returns-in-Ok-serve_clients : goal.returns-in-Ok-serve_clients
 returns-in-Ok-serve_clients g c =
     let Src = g.row.O-Src.Denot in let Snk = g.row.O-Snk.Denot in let L = g.row.L.Denot in let Dsk = g.row.O-Dsk.Denot in
@@ -67,11 +83,13 @@ returns-in-Ok-serve_clients g c =
     let s2 : Scene Src Snk Dsk = scene g.O.Outside c.put_back_sessions.new.outside in
     let plans : List (Plan Src Snk NoBetween L) = c.in-Ok-open_clients.plans.items in let clients : List ClientWord = c.args.clients.now in
     let sessions : List (Session Src Snk L) = c.in-Ok-serve_clients.sessions.items in
-    let long = long_alike (λ (p : Plan Src Snk NoBetween L). p.name) (λ (w : ClientWord). w.client) plans clients c.in-Ok-open_clients.ensures.names in
     let served = c.in-Ok-serve_clients.ensures.served in
     let left : Ledger Dsk = c.in-Ok-serve_clients.book in
-    let as_long = matched_long (IsServed g.L.Rule (streams_by g.O.Src.Source g.O.Snk.Sink) c.args.book.entries left.entries) plans sessions served.talks served.served in
-    let rounds : Rounds clients plans sessions s0 s2 c.ends_of-ends.result = rounds_by clients plans sessions s0 s1 s2 c.ends_of-ends.result c.requires.clients (as_long ∙ long) c.in-Ok-open_clients.ensures.out c.put_back_sessions.ensures.back in
+    let proofs : List ProofWord = c.args.proofs.now in
+    let R : Plan Src Snk NoBetween L → Session Src Snk L → Talk → Type 0 = IsServed g.L.Rule (streams_by g.O.Src.Source g.O.Snk.Sink) c.args.book.entries left.entries in
+    let fit = c.in-Ok-open_clients.ensures.fit in
+    let again : AreFit clients proofs (map returned_of sessions) = all_fit_again R (λ plan session talk is. is.passes.wanted) clients proofs plans sessions served.talks served.served fit in
+    let rounds : Rounds clients proofs plans sessions s0 s2 c.ends_of-ends.result = rounds_by clients proofs plans sessions s0 s1 s2 c.ends_of-ends.result c.requires.clients fit again c.in-Ok-open_clients.ensures.out c.put_back_sessions.ensures.back in
     let known = known_same c.in-Ok.known c.args.named c.args.trains c.in-Ok.ensures.railway c.in-Ok.ensures.trains in
     record {
       says = record {
@@ -98,11 +116,11 @@ returns g c =
     let s1 : Scene Src Snk Dsk = scene g.O.Outside c.open_clients.new.outside in
     let s2 : Scene Src Snk Dsk = scene g.O.Outside c.put_back_plans.new.outside in
     let plans : List (Plan Src Snk NoBetween L) = c.in-Ok-open_clients.plans.items in let clients : List ClientWord = c.args.clients.now in
-    let long = long_alike (λ (p : Plan Src Snk NoBetween L). p.name) (λ (w : ClientWord). w.client) plans clients c.in-Ok-open_clients.ensures.names in
     let again : List (Plan Src Snk NoBetween L) = c.in-Err-serve_clients.plans.items in
     let same : again ≡ plans = c.in-Err-serve_clients.ensures.refused.1 in
-    let ins = subst (λ (l : List (Plan Src Snk NoBetween L)). AreIn (take (length l) clients) (map streams_of l) s1 s2) same c.put_back_plans.ensures.back in
+    let proofs : List ProofWord = c.args.proofs.now in
+    let ins = subst (λ (l : List (Plan Src Snk NoBetween L)). AreIn (client_loans clients proofs (map streams_of l)) s1 s2) same c.put_back_plans.ensures.back in
     let after : Dsk = c.close-in-Err-serve_clients.result in let found : Ledger Dsk = c.args.book in
     let disk : after ≡ found.disk = c.close-in-Err-serve_clients.ensures.disk ∙ ap (λ (b : Ledger Dsk). b.disk) c.in-Err-serve_clients.ensures.refused.0 in
-    let unserved : Unserved clients found after s0 s2 _ = unserved_again clients found after plans s0 s1 s2 disk long c.in-Ok-open_clients.ensures.out ins in
+    let unserved : Unserved Ends (client_calls clients proofs) found after s0 s2 _ = unserved_again clients proofs found after plans s0 s1 s2 disk c.in-Ok-open_clients.ensures.fit c.in-Ok-open_clients.ensures.out ins in
     record { says = unserved.says; keeps = unserved.keeps }

@@ -1,17 +1,14 @@
+use Rattle.std.proofs.Common.{subst}
+use Rattle.client_lines.specs.Names.{Names}
 use Rattle.file_rounds.specs.Scenes.{scene}
-use Rattle.serve_command.specs.Journals.{IsFound}
+use Rattle.serve_command.specs.Serving.{BookSays}
+use Rattle.served_journals.proofs.Names.{known_both}
 use Rattle.serve_command.proofs.Disks.{disk_by}
 use Rattle.serve_command.proofs.journals.serve_disk.Goals as goal
 
 pub returns-in-Ok-clause-says : goal.returns-in-Ok-clause-says
 returns-in-Ok-clause-says g c =
-    let found : IsFound g.O.Dsk.Disk c.args.files c.args.disk c.in-Ok.book = record {
-      made = c.in-Ok.ensures.made;
-      tells = c.in-Ok.ensures.tells;
-      synced = c.in-Ok.ensures.synced;
-      read = c.in-Ok.ensures.read;
-      tick = c.in-Ok.ensures.tick;
-      quiet = c.in-Ok.ensures.quiet;
-    } in
-    disk_by g.O.Src.Source g.O.Snk.Sink g.O.Dsk.Disk g.L.Rule c.args.files c.args.journal.now c.args.clients.now c.args.rules.items c.args.disk c.serve_book.result.0 c.in-Ok.book (scene g.O.Outside c.args.outside.now) (scene g.O.Outside c.serve_book.new.outside) c.serve_book.result.1 found
-    c.serve_book.ensures.says
+    let says = subst (λ (known : Names). BookSays g.O.Src.Source g.O.Snk.Sink g.O.Dsk.Disk g.L.Rule known c.args.clients.now c.args.proofs.now c.args.rules.items c.in-Ok.opened.book c.serve_book.result.0 (scene g.O.Outside c.args.outside.now) (scene g.O.Outside c.serve_book.new.outside) c.serve_book.result.1)
+    (known_both c.in-Ok.opened.named c.args.files.network.named c.in-Ok.opened.trains c.args.files.trains c.in-Ok.ensures.named c.in-Ok.ensures.trains) c.serve_book.ensures.says in
+    disk_by g.O.Src.Source g.O.Snk.Sink g.O.Dsk.Disk g.L.Rule c.args.files c.args.journal.now c.args.clients.now c.args.proofs.now c.args.rules.items c.args.disk c.serve_book.result.0 c.in-Ok.opened.book (scene g.O.Outside c.args.outside.now) (scene g.O.Outside c.serve_book.new.outside) c.serve_book.result.1 c.in-Ok.ensures.found
+    says

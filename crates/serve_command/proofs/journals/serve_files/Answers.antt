@@ -1,5 +1,6 @@
 use Rattle.file_rounds.specs.Scenes.{Scene, scene}
-use Rattle.serve_command.proofs.Disks.{DiskIsRefused, IsRound, step_by, unopened_step}
+use Rattle.served_journals.proofs.Rounds.{DiskIsRefused, IsRound}
+use Rattle.serve_command.proofs.Disks.{step_by, unopened_step}
 use Rattle.serve_command.proofs.journals.serve_files.Goals as goal
 
 pub returns-in_default : goal.returns-in_default
@@ -17,7 +18,7 @@ returns-in_default g c =
       report = c.in_default.ensures.report;
     } in
     record {
-      step = unopened_step g.O.Src.Source g.O.Snk.Sink g.O.Dsk.Disk g.L.Rule c.args.files c.args.journal.now c.args.clients.now c.args.rules.items c.in_default.field-0 s0 s1 c.not_opened.result refused c.not_opened.ensures;
+      step = unopened_step g.O.Src.Source g.O.Snk.Sink g.O.Dsk.Disk g.L.Rule c.args.files c.args.journal.now c.args.clients.now c.args.proofs.now c.args.rules.items c.in_default.field-0 s0 s1 c.not_opened.result refused c.not_opened.ensures;
     }
 
 pub returns : goal.returns
@@ -45,5 +46,5 @@ returns g c =
       report_still = c.put_back_disk.ensures.report;
     } in
     record {
-      step = step_by c.args.journal.now c.args.clients.now before after s0 s1 s2 s3 round g.O.Src.Source g.O.Snk.Sink g.O.Dsk.Disk g.L.Rule c.args.rules.items c.args.files c.serve_disk-disk.result.1 c.serve_disk-disk.ensures.says c.serve_disk-disk.ensures.keeps;
+      step = step_by c.args.journal.now c.args.clients.now c.args.proofs.now before after s0 s1 s2 s3 round g.O.Src.Source g.O.Snk.Sink g.O.Dsk.Disk g.L.Rule c.args.rules.items c.args.files c.serve_disk-disk.result.1 c.serve_disk-disk.ensures.says c.serve_disk-disk.ensures.keeps;
     }

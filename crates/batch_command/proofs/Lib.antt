@@ -1,0 +1,7 @@
+pub mod Workers
+pub mod Whole
+pub mod Nesting
+pub mod Disks
+pub mod Steps
+pub mod Ended
+mod Once

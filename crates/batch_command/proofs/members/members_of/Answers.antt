@@ -1,0 +1,33 @@
+use Rattle.std.proofs.Common.{◌≡◌, ◌≢◌, ◌∙◌, ◌+◌, ℕ, List, arith}
+use Rattle.batch_server.specs.declared.members.Member.{Member}
+use Rattle.batch_words.specs.Workers.{worker_name}
+use Rattle.client_rules.specs.declared.clients.ClientRules.{ClientRules}
+use Rattle.outside_io.specs.declared.betweens.NoBetween.{NoBetween}
+use Rattle.batch_command.proofs.Workers.{given_more, names_more, rules_left, rules_own}
+use Rattle.batch_command.proofs.members.members_of.Goals as goal
+
+pub loop-before-preserved : goal.loop-before-preserved
+loop-before-preserved g c =
+    let L = g.row.L.Denot in
+    let batch : List ℕ = c.args.batch.now in
+    let before : ℕ = c.loop-before.before in
+    let all : List (ClientRules L) = c.args.rules.items in
+    let rest : List (ClientRules L) = c.loop-before.rules.items in
+    let left : List (ClientRules L) = c.take_rules.new.all in
+    let slice : List (ClientRules L) = c.as_mut_slice.result.now in
+    let handed : slice ≡ rest = c.as_mut_slice.ensures.value in
+    let members : List (Member NoBetween L) = c.loop-before.members.items in
+    let pushed : List (Member NoBetween L) = c.push.new.self.items in
+    let member : Member NoBetween L = record { name = c.in_ok-name.name; between = record {}; rules = c.in_ok-own.own } in
+    let few = c.requires.few in
+    let below = c.loop-before-test.true in
+    let named : c.in_ok-name.name ≡ worker_name batch (before + 1) = c.in_ok-name.ensures in
+    let own = rules_own rest slice all handed c.in_ok-own.own.items c.in_ok-name.name (worker_name batch (before + 1)) named c.in_ok-own.ensures.taken (c.loop-before.invariant.others (before + 1) (omega arith) (omega arith)) in
+    record {
+      names = names_more batch before all members pushed member c.in_ok-push.ensures.items c.loop-before.invariant.names named;
+      given = given_more batch before all members pushed member c.in_ok-push.ensures.items c.loop-before.invariant.given own;
+      others = λ other behind most.
+          let name : List ℕ = worker_name batch other in
+          let differs : name ≢ c.in_ok-name.name = λ same. let one : other ≡ before + 1 = c.worker_names_differ.ensures batch other (before + 1) most (omega arith) (same ∙ named) in absurd (omega (arith, one, behind)) in
+          rules_left rest slice all handed left c.loop-before.rules.len name c.take_rules.auto.all c.loop-before.rules.ok.0 (c.in_ok-own.ensures.others name differs) (c.loop-before.invariant.others other (omega (arith, behind)) most);
+    }

@@ -1,0 +1,59 @@
+-- What a list over an opened journal comes to: its streams are opened, used, and put back.
+use Rattle.std.specs.Prelude.{◌≡◌, ◌⊎◌, ℕ, All, List, Result, Ok, Err}
+use Rattle.admission_rules.specs.declared.rules.Rule.{Ghosts as Rules}
+use Rattle.client_lines.specs.Names.{Names}
+use Rattle.client_rules.specs.declared.clients.ClientRules.{ClientRules}
+use Rattle.client_streams.specs.Clients.{IsExchanged, pair_calls}
+use Rattle.client_streams.specs.Refusing.{IsOpen}
+use Rattle.client_words.specs.declared.clients.ClientWord.{ClientWord}
+use Rattle.command_reports.specs.declared.refusals.Refusal.{Refusal}
+use Rattle.file_rounds.specs.Scenes.{Scene}
+use Rattle.outside_io.specs.declared.disks.Disk.{Ghosts as Disks}
+use Rattle.outside_io.specs.declared.sinks.Sink.{Ghosts as Sinks}
+use Rattle.outside_io.specs.declared.sources.Source.{Ghosts as Sources}
+use Rattle.path_commit.specs.Ledgers.{Ledger}
+use Rattle.serve_reports.specs.declared.ends.Ends.{Ends}
+use Rattle.served_journals.specs.Rounds.{IsUnserved}
+use Rattle.batch_command.specs.Lists.{IsAnswered, IsRefused}
+
+-- the source and the sink of a client were opened, came to this, and were put back, each under its name
+pub record HadPair {Src Snk Dsk : Type 0} (client : ClientWord) (old new : Scene Src Snk Dsk)
+    (src src' : Src) (snk snk' : Snk) : Type 0 where
+  pub opens : All (IsOpen old.standing) (pair_calls client)
+  pub quiet : new.faults ≡ old.faults
+  pub source : IsExchanged (old.sources client.input) (new.sources client.input) src src'
+  pub sink : IsExchanged (old.sinks client.output) (new.sinks client.output) snk snk'
+
+-- the list of a client was answered over the book that was found
+pub record Answers {Src Snk Dsk L : Type 0} (source : Sources Src) (sink : Sinks Snk)
+    (disk : Disks Dsk) (kind : Rules L) (known : Names) (client : ClientWord) (workers : ℕ)
+    (rules : List (ClientRules L)) (found : Ledger Dsk) (after : Dsk)
+    (old new : Scene Src Snk Dsk) (ends : Ends) : Type 0 where
+  pub src : Src
+  pub src' : Src
+  pub snk : Snk
+  pub snk' : Snk
+  pub had : HadPair client old new src src' snk snk'
+  pub answered : IsAnswered source sink disk kind known client.client workers rules found after
+      src src' snk snk' ends
+
+-- the list of a client was refused, once its streams were opened
+pub record Declines {Src Snk Dsk : Type 0} (source : Sources Src) (known : Names)
+    (client : ClientWord) (workers : ℕ) (found : Ledger Dsk) (after : Dsk)
+    (old new : Scene Src Snk Dsk) (refusal : Refusal) : Type 0 where
+  pub src : Src
+  pub src' : Src
+  pub snk : Snk
+  pub snk' : Snk
+  pub had : HadPair client old new src src' snk snk'
+  pub refused : IsRefused source known client.client workers found after src src' snk snk' refusal
+
+-- what is said of a book over which a list is answered
+abbrev pub BookSays : {Src Snk Dsk L : Type 0} → Sources Src → Sinks Snk → Disks Dsk → Rules L
+    → Names → ClientWord → (workers : ℕ) → List (ClientRules L) → Ledger Dsk → Dsk
+    → Scene Src Snk Dsk → Scene Src Snk Dsk → Result Ends Refusal → Type 0
+BookSays source sink disk kind known client workers rules found after old new (Ok ends) =
+    Answers source sink disk kind known client workers rules found after old new ends
+BookSays source sink disk kind known client workers rules found after old new (Err refusal) =
+    IsUnserved (pair_calls client) found after old new refusal
+    ⊎ Declines source known client workers found after old new refusal

@@ -1,0 +1,126 @@
+-- A list that is read, answered and written, over the book of a journal.
+use Rattle.std.specs.Prelude.{◌≡◌, ◌⊎◌, ℕ, List, Option, None, Some, map, Result, Ok, Err}
+use Rattle.admission_rules.specs.declared.rules.Rule.{Ghosts as Rules}
+use Rattle.batch_reports.specs.Ends.{IsEnds}
+use Rattle.batch_reports.specs.Flaws.{TellsStop}
+use Rattle.batch_server.specs.Batches.{WereAnswered}
+use Rattle.batch_server.specs.declared.members.Member.{Member}
+use Rattle.batch_server.specs.declared.members.Worked.{Worked}
+use Rattle.batch_words.specs.Workers.{worker_names}
+use Rattle.client_lines.specs.Names.{Names}
+use Rattle.client_rules.specs.Clients.{rules_named}
+use Rattle.client_rules.specs.declared.clients.ClientRules.{ClientRules}
+use Rattle.command_reports.specs.declared.refusals.Refusal.{Refusal}
+use Rattle.line_sessions.specs.declared.sessions.Ended.{Ended}
+use Rattle.line_sessions.specs.declared.sessions.Why.TheVariants.{Memory}
+use Rattle.list_lines.specs.Lists.{IsWhole, Refuses}
+use Rattle.list_lines.specs.declared.lists.ListFault.{ListFault}
+use Rattle.list_replies.specs.Writing.{Writes}
+use Rattle.outside_io.specs.declared.betweens.NoBetween.{NoBetween}
+use Rattle.outside_io.specs.declared.disks.Disk.{Ghosts as Disks}
+use Rattle.outside_io.specs.declared.sinks.Sink.{Ghosts as Sinks}
+use Rattle.outside_io.specs.declared.sources.Source.{Ghosts as Sources}
+use Rattle.path_commit.specs.Footings.{footing_of}
+use Rattle.path_commit.specs.Ledgers.{Ledger}
+use Rattle.serve_reports.specs.declared.ends.Ends.{Ends}
+use Rattle.served_journals.specs.Journals.{IsClosed}
+use Rattle.worker_numbers.specs.Owners.{owners_of}
+use Rattle.batch_command.specs.Asked.{HasFlaw, IsAsked}
+
+-- the texts of the replies were written, one after another; without texts memory was wanted, and nothing was written
+abbrev pub WritesTexts : {Snk : Type 0} → Sinks Snk → Option (List (List ℕ)) → Snk → Snk → Ended
+    → Type 0
+WritesTexts sink (Some texts) before after ended = Writes sink texts before after ended
+WritesTexts sink None before after ended =
+    (after ≡ before) × (ended ≡ record { lines = 0; why = Memory })
+
+-- the workers of a batch, in order, each with the rules in the elements with its name
+pub record AreMembers {L : Type 0} (batch : List ℕ) (workers : ℕ) (rules : List (ClientRules L))
+    (members : List (Member NoBetween L)) : Type 0 where
+  pub names : map (λ member. member.name) members ≡ worker_names batch workers
+  pub given : map (λ member. member.rules.items) members
+      ≡ map (λ name. rules_named name rules) (worker_names batch workers)
+
+-- Lines without a flaw were answered by the workers over the book that was found: a line whose number stands there under the
+-- name of a worker by the first such one, before its others. The replies were written in the order of the list, and these are
+-- the ends.
+pub record AreAnswered {Snk Dsk L : Type 0} (sink : Sinks Snk) (disk : Disks Dsk) (kind : Rules L)
+    (known : Names) (batch : List ℕ) (workers : ℕ) (rules : List (ClientRules L))
+    (lines : List (List ℕ)) (found : Ledger Dsk) (after : Dsk) (snk snk' : Snk) (ends : Ends)
+    : Type 0 where
+  pub left : Ledger Dsk
+  pub numbers : List (Option ℕ)
+  pub members : List (Member NoBetween L)
+  pub worked : List (Worked L)
+  pub texts : Option (List (List ℕ))
+  pub written : Ended
+  pub asked : IsAsked known batch workers found.entries lines numbers
+  pub members_are : AreMembers batch workers rules members
+  pub answered : WereAnswered kind disk.faults known lines
+      (owners_of found.entries (worker_names batch workers) numbers) found left members worked
+      texts
+  pub writes : WritesTexts sink texts snk snk' written
+  pub footing : footing_of left ≡ footing_of found
+  pub closed : IsClosed disk left after
+  pub ends_are : IsEnds kind batch written worked ends
+
+-- the list was read as a whole, and its lines were answered and the replies written
+pub record IsAnswered {Src Snk Dsk L : Type 0} (source : Sources Src) (sink : Sinks Snk)
+    (disk : Disks Dsk) (kind : Rules L) (known : Names) (batch : List ℕ) (workers : ℕ)
+    (rules : List (ClientRules L)) (found : Ledger Dsk) (after : Dsk)
+    (src src' : Src) (snk snk' : Snk) (ends : Ends) : Type 0 where
+  pub lines : List (List ℕ)
+  pub read : IsWhole source src src' lines
+  pub outcome : AreAnswered sink disk kind known batch workers rules lines found after snk snk' ends
+
+-- the list was not read, and this is told
+pub record IsUnread {Src : Type 0} (source : Sources Src) (batch : List ℕ) (src src' : Src)
+    (refusal : Refusal) : Type 0 where
+  pub fault : ListFault
+  pub refuses : Refuses source src src' fault
+  pub told : TellsStop batch fault refusal
+
+-- the list was read as a whole and has a flaw, which is told, or memory was wanted
+pub record IsFlawed {Src Dsk : Type 0} (source : Sources Src) (known : Names) (batch : List ℕ)
+    (workers : ℕ) (found : Ledger Dsk) (src src' : Src) (refusal : Refusal) : Type 0 where
+  pub lines : List (List ℕ)
+  pub read : IsWhole source src src' lines
+  pub flaw : HasFlaw known batch workers found.entries lines refusal
+
+-- Nobody answered: the list was not read, or it has a flaw, or memory was wanted. Nothing was written.
+pub record IsRefused {Src Snk Dsk : Type 0} (source : Sources Src) (known : Names)
+    (batch : List ℕ) (workers : ℕ) (found : Ledger Dsk) (after : Dsk) (src src' : Src)
+    (snk snk' : Snk) (refusal : Refusal) : Type 0 where
+  pub disk_is : after ≡ found.disk
+  pub unwritten : snk' ≡ snk
+  pub why : IsUnread source batch src src' refusal
+      ⊎ IsFlawed source known batch workers found src src' refusal
+
+-- what is said of a list over a book
+abbrev pub ListSays : {Src Snk Dsk L : Type 0} → Sources Src → Sinks Snk → Disks Dsk → Rules L
+    → Names → (batch : List ℕ) → (workers : ℕ) → List (ClientRules L) → Ledger Dsk → Dsk
+    → Src → Src → Snk → Snk → Result Ends Refusal → Type 0
+ListSays source sink disk kind known batch workers rules found after src src' snk snk' (Ok ends) =
+    IsAnswered source sink disk kind known batch workers rules found after src src' snk snk' ends
+ListSays source sink disk kind known batch workers rules found after src src' snk snk'
+    (Err refusal) =
+    IsRefused source known batch workers found after src src' snk snk' refusal
+
+-- ---- *inside*
+
+-- these lines have a flaw, or memory was wanted
+pub record AreRefused {Snk Dsk : Type 0} (known : Names) (batch : List ℕ) (workers : ℕ)
+    (lines : List (List ℕ)) (found : Ledger Dsk) (after : Dsk) (snk snk' : Snk)
+    (refusal : Refusal) : Type 0 where
+  pub disk_is : after ≡ found.disk
+  pub unwritten : snk' ≡ snk
+  pub flaw : HasFlaw known batch workers found.entries lines refusal
+
+-- what is said of the lines of a list over a book
+abbrev pub LinesSay : {Snk Dsk L : Type 0} → Sinks Snk → Disks Dsk → Rules L → Names
+    → (batch : List ℕ) → (workers : ℕ) → List (ClientRules L) → List (List ℕ) → Ledger Dsk → Dsk
+    → Snk → Snk → Result Ends Refusal → Type 0
+LinesSay sink disk kind known batch workers rules lines found after snk snk' (Ok ends) =
+    AreAnswered sink disk kind known batch workers rules lines found after snk snk' ends
+LinesSay sink disk kind known batch workers rules lines found after snk snk' (Err refusal) =
+    AreRefused known batch workers lines found after snk snk' refusal

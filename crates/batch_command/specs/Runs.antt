@@ -1,0 +1,100 @@
+-- The run of `batch`.
+use Rattle.std.specs.Prelude.{◌≡◌, ℕ, List, Result, Ok, Err}
+use Rattle.admission_rules.specs.declared.rules.Rule.{Ghosts as Rules}
+use Rattle.batch_reports.specs.Ends.{report_text}
+use Rattle.client_rules.specs.declared.clients.ClientRules.{ClientRules}
+use Rattle.client_words.specs.declared.clients.ClientWord.{ClientWord}
+use Rattle.command_files.specs.Files.{BaseStep, NetworkStep, TrainStep}
+use Rattle.command_files.specs.declared.bases.BaseFile.{BaseFile}
+use Rattle.command_files.specs.declared.networks.NetworkFile.{NetworkFile}
+use Rattle.command_reports.specs.Reports.{TellsRefusal}
+use Rattle.command_reports.specs.Works.{KeepsTo}
+use Rattle.command_reports.specs.declared.refusals.Refusal.{Refusal}
+use Rattle.exit_status.specs.declared.Status.{Status}
+use Rattle.file_rounds.specs.Scenes.{ChangesOnlyReport, Scene}
+use Rattle.file_rounds.specs.Writing.{ReportSays}
+use Rattle.line_sessions.specs.declared.sessions.Why.TheVariants.{Input}
+use Rattle.list_lines.specs.Lists.{IsWhole}
+use Rattle.outside_io.specs.Places.{IsKeptAt}
+use Rattle.outside_io.specs.declared.disks.Disk.{Ghosts as Disks}
+use Rattle.outside_io.specs.declared.sinks.Sink.{Ghosts as Sinks}
+use Rattle.outside_io.specs.declared.sources.Source.{Ghosts as Sources}
+use Rattle.path_commit.specs.Ledgers.{Ledger}
+use Rattle.rail_types.specs.declared.trains.Train.{Train}
+use Rattle.serve_reports.specs.Ends.{EndsSay}
+use Rattle.serve_reports.specs.declared.ends.Ends.{Ends}
+use Rattle.served_journals.specs.Files.{files_of, known_by}
+use Rattle.served_journals.specs.Journals.{IsFound}
+use Rattle.served_journals.specs.declared.files.Files.{Files}
+use Rattle.batch_command.specs.Asked.{IsFlaw}
+use Rattle.batch_command.specs.Journals.{Serves}
+use Rattle.batch_command.specs.Works.{batch_calls, ReadsNetwork}
+
+-- what is reported at the end: the ends of the batch, or what refused
+abbrev pub EndsRun : {Src Snk Dsk : Type 0} → Sinks Snk → Scene Src Snk Dsk → Scene Src Snk Dsk
+    → Result Ends Refusal → Status → Type 0
+EndsRun sink old new (Ok ends) status = EndsSay sink ends old new status
+EndsRun sink old new (Err refusal) status = TellsRefusal sink refusal old new status
+
+-- The files were read, the journal was opened, the list was read and answered, and this was reported: in this order, each
+-- name opened once, and all put back.
+pub record RunsBatch {Src Snk Dsk L : Type 0} (source : Sources Src) (sink : Sinks Snk)
+    (disk : Disks Dsk) (kind : Rules L) (network trains base journal : List ℕ)
+    (client : ClientWord) (workers : ℕ) (rules : List (ClientRules L))
+    (old new : Scene Src Snk Dsk) (status : Status) : Type 0 where
+  pub between : Scene Src Snk Dsk
+  pub outcome : Result Ends Refusal
+  pub works : ReadsNetwork source sink disk kind network trains base journal client workers rules
+      old between outcome
+  pub keeps : KeepsTo (batch_calls network trains base journal client) old between outcome
+  pub ends : EndsRun sink between new outcome status
+
+-- the three files were read, each as it stood then
+pub record HasRead {Src Snk Dsk : Type 0} (source : Sources Src) (network trains base : List ℕ)
+    (old new : Scene Src Snk Dsk) (files : Files) : Type 0 where
+  pub network_file : NetworkFile
+  pub train_list : List Train
+  pub base_file : BaseFile
+  pub first : Scene Src Snk Dsk
+  pub second : Scene Src Snk Dsk
+  pub read_network : NetworkStep source network old first (Ok network_file)
+  pub read_trains : TrainStep source trains first second (Ok train_list)
+  pub read_base :
+      BaseStep source network_file.named.network.zones base second new (Ok base_file)
+  pub files_are : files ≡ files_of network_file base_file train_list
+
+-- All was done: the files were read, the journal was opened, the list was answered over it, all replies were written in its
+-- order, and the lines of the batch, of each worker and of each of its rules were reported.
+pub record IsBatchDone {Src Snk Dsk L : Type 0} (source : Sources Src) (sink : Sinks Snk)
+    (disk : Disks Dsk) (kind : Rules L) (network trains base journal : List ℕ)
+    (client : ClientWord) (workers : ℕ) (rules : List (ClientRules L))
+    (old new : Scene Src Snk Dsk) : Type 0 where
+  pub third : Scene Src Snk Dsk
+  pub fourth : Scene Src Snk Dsk
+  pub files : Files
+  pub read : HasRead source network trains base old third files
+  pub ends : Ends
+  pub serves : Serves source sink disk kind files journal client workers rules third fourth ends
+  pub whole : serves.answers.answered.outcome.written.why ≡ Input
+  pub told : ReportSays sink (report_text kind client.client serves.answers.answered.outcome.written
+      serves.answers.answered.outcome.worked) fourth new (Ok tt)
+  pub only : ChangesOnlyReport fourth new
+
+-- the files were read, the journal was opened, the list was read as a whole, and it has a flaw
+pub record IsRefusedList {Src Snk Dsk : Type 0} (source : Sources Src) (disk : Disks Dsk)
+    (network trains base journal : List ℕ) (client : ClientWord) (workers : ℕ)
+    (old : Scene Src Snk Dsk) : Type 0 where
+  pub third : Scene Src Snk Dsk
+  pub files : Files
+  pub read : HasRead source network trains base old third files
+  pub before : Dsk
+  pub found : Ledger Dsk
+  pub kept : IsKeptAt (third.disks journal) before
+  pub opened : IsFound disk files before found
+  pub src : Src
+  pub src' : Src
+  pub given : IsKeptAt (third.sources client.input) src
+  pub lines : List (List ℕ)
+  pub list : IsWhole source src src' lines
+  pub told : List ℕ
+  pub flaw : IsFlaw (known_by files) client.client workers found.entries lines told

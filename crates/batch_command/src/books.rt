@@ -1,0 +1,71 @@
+//! A list answered over an opened journal.
+
+ghost use Rattle.std.specs.Prelude.{◌≡◌, length};
+ghost use Rattle.batch_command.specs.Books.{BookSays};
+ghost use Rattle.batch_words.specs.Workers.{AreWorkers, IsBatchClient};
+ghost use Rattle.client_lines.specs.Within.{AreSound};
+ghost use Rattle.client_streams.specs.Clients.{pair_calls};
+ghost use Rattle.command_reports.specs.Works.{KeepsTo};
+ghost use Rattle.file_rounds.specs.Scenes.{scene};
+ghost use Rattle.path_commit.specs.Ledgers.{settled_of};
+ghost use Rattle.served_journals.specs.Files.{names_of};
+
+use crate::lists::serve_list;
+use admission_rules::Rule;
+use client_lines::Known;
+use client_rules::ClientRules;
+use client_streams::{open_streams, put_back_client};
+use client_words::ClientWord;
+use command_reports::Refusal;
+use named_network::Named;
+use outside_io::Outside;
+use path_commit::Book;
+use serve_reports::Ends;
+use std::alloc::AllocGlobal;
+use std::sync::Wait;
+use std::thread::Threads;
+use train_file::Trains;
+
+/// Opens the streams of the client, answers its list over a book by workers, puts the streams back, and hands back the book's
+/// disk.
+pub(crate) fn serve_book<R: AllocGlobal + Threads + Wait + Sync, O: Outside, L: Rule + Send>(
+    rt: &R,
+    book: Book<O::Dsk>,
+    named: Named,
+    trains: Trains,
+    client: &ClientWord,
+    workers: u32,
+    rules: Vec<ClientRules<L>>,
+    outside: &mut O,
+) -> (O::Dsk, Result<Ends, Refusal>)
+    requires client { IsBatchClient client.now }
+    requires workers { AreWorkers workers }
+    requires settled { settled_of book ≡ length book.entries }
+    requires sound { AreSound (names_of named trains) }
+    requires network { named.network ≡ book.timetable.net }
+    ensures says { BookSays O.Src.Source O.Snk.Sink O.Dsk.Disk L.Rule (names_of named trains)
+        client.now workers rules.items book result.0 (scene O.Outside outside.old)
+        (scene O.Outside outside.new) result.1 }
+    ensures keeps { KeepsTo (pair_calls client.now) (scene O.Outside outside.old)
+        (scene O.Outside outside.new) result.1 }
+{
+    let Ok(known) = Known::new(rt.alloc(), named, trains) else {
+        return (book.close(), Err(Refusal::Memory));
+    };
+    let (mut source, mut sink) = match open_streams(rt.alloc(), client, outside) {
+        Ok(streams) => streams,
+        Err(refusal) => return (book.close(), Err(refusal)),
+    };
+    let (disk, outcome) = serve_list(
+        rt,
+        book,
+        known,
+        &client.client,
+        workers,
+        rules,
+        &mut source,
+        &mut sink,
+    );
+    put_back_client(client, source, sink, outside);
+    (disk, outcome)
+}

@@ -1,0 +1,78 @@
+//! The journal of a run.
+
+ghost use Rattle.batch_command.specs.Journals.{BatchStep, DiskSays};
+ghost use Rattle.batch_words.specs.Workers.{AreWorkers, IsBatchClient};
+ghost use Rattle.client_streams.specs.Clients.{pair_calls};
+ghost use Rattle.command_reports.specs.Works.{KeepsTo};
+ghost use Rattle.file_rounds.specs.Scenes.{scene};
+ghost use Rattle.served_journals.specs.Files.{AreFiles};
+
+use crate::books::serve_book;
+use admission_rules::Rule;
+use client_rules::ClientRules;
+use client_words::ClientWord;
+use command_reports::Refusal;
+use outside_io::Outside;
+use serve_reports::Ends;
+use served_journals::{Files, Opened, not_opened, open_book};
+use std::alloc::AllocGlobal;
+use std::sync::Wait;
+use std::thread::Threads;
+
+/// Opens the disk of the journal, answers the list over it, and puts it back.
+pub(crate) fn serve_files<R: AllocGlobal + Threads + Wait + Sync, O: Outside, L: Rule + Send>(
+    rt: &R,
+    files: Files,
+    journal: &str,
+    client: &ClientWord,
+    workers: u32,
+    rules: Vec<ClientRules<L>>,
+    outside: &mut O,
+) -> Result<Ends, Refusal>
+    requires client { IsBatchClient client.now }
+    requires workers { AreWorkers workers }
+    requires files { AreFiles files }
+    ensures step { BatchStep O.Src.Source O.Snk.Sink O.Dsk.Disk L.Rule files journal.now
+        client.now workers rules.items (scene O.Outside outside.old)
+        (scene O.Outside outside.new) result }
+{
+    let Ok(disk) = outside.disk(journal) else {
+        return Err(not_opened(rt.alloc(), journal));
+    };
+    let (disk, outcome) = serve_disk(rt, disk, files, journal, client, workers, rules, outside);
+    outside.put_back_disk(journal, disk);
+    outcome
+}
+
+// Opens the journal on a disk, answers the list over it, and hands the disk back.
+fn serve_disk<R: AllocGlobal + Threads + Wait + Sync, O: Outside, L: Rule + Send>(
+    rt: &R,
+    disk: O::Dsk,
+    files: Files,
+    journal: &str,
+    client: &ClientWord,
+    workers: u32,
+    rules: Vec<ClientRules<L>>,
+    outside: &mut O,
+) -> (O::Dsk, Result<Ends, Refusal>)
+    requires client { IsBatchClient client.now }
+    requires workers { AreWorkers workers }
+    requires files { AreFiles files }
+    ensures says { DiskSays O.Src.Source O.Snk.Sink O.Dsk.Disk L.Rule files journal.now
+        client.now workers rules.items disk result.0 (scene O.Outside outside.old)
+        (scene O.Outside outside.new) result.1 }
+    ensures keeps { KeepsTo (pair_calls client.now) (scene O.Outside outside.old)
+        (scene O.Outside outside.new) result.1 }
+{
+    match open_book(rt.alloc(), disk, files, journal) {
+        Ok(opened) => {
+            let Opened {
+                book,
+                named,
+                trains,
+            } = opened;
+            serve_book(rt, book, named, trains, client, workers, rules, outside)
+        }
+        Err((disk, refusal)) => (disk, Err(refusal)),
+    }
+}

@@ -1,0 +1,15 @@
+//! The command `batch`: a list of asks is read as a whole, answered by 1 to 16 workers at once over one journal, and the
+//! replies are written in its order.
+#![tactic(auto)]
+
+mod books;
+mod flaws;
+mod journals;
+mod laws;
+mod lists;
+mod members;
+mod runs;
+mod works;
+
+pub use laws::lists_are_judged_once;
+pub use runs::run_batch;

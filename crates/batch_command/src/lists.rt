@@ -1,0 +1,156 @@
+//! A list that is read, answered over a book, and written.
+
+ghost use Rattle.std.specs.Prelude.{◌≡◌, ◌≤◌, All, IfOk, IfSome, length, option_map};
+ghost use Rattle.batch_command.specs.Lists.{LinesSay, ListSays, WritesTexts};
+ghost use Rattle.batch_words.specs.Workers.{AreWorkers, worker_names as names_of_workers};
+ghost use Rattle.batch_words.specs.declared.clients.TheConstants.{MAX_BATCH_NAME_BYTES};
+ghost use Rattle.client_lines.specs.Within.{AreSound};
+ghost use Rattle.client_lines.specs.declared.lines.TheConstants.{MAX_LINE_BYTES};
+ghost use Rattle.line_sessions.specs.declared.sessions.TheConstants.{MAX_LINES};
+ghost use Rattle.path_commit.specs.Ledgers.{settled_of};
+ghost use Rattle.rail_types.specs.Limits.{IsClientName};
+ghost use Rattle.worker_numbers.specs.Owners.{owners_of};
+
+use crate::flaws::numbers_asked;
+use crate::members::members_of;
+use admission_rules::Rule;
+use batch_reports::{ends_of, list_stops};
+use batch_server::{Answered, answer_list};
+use batch_words::{worker_names, worker_names_are_names, worker_names_differ};
+use client_lines::Known;
+use client_rules::ClientRules;
+use command_reports::Refusal;
+use grant_log::History;
+use line_sessions::{Ended, Why};
+use list_lines::read_list;
+use list_replies::write_texts;
+use no_memory::NoMemory;
+use outside_io::{Disk, Sink, Source};
+use path_commit::Book;
+use rail_types::{List, Name};
+use serve_reports::Ends;
+use served_journals::close_book;
+use std::alloc::{AllocGlobal, Global};
+use std::sync::Wait;
+use std::thread::Threads;
+use worker_numbers::owners_of;
+
+/// Reads a list as a whole, answers it over a book by so many workers, writes the replies in the order of the list, and hands
+/// back the book's disk. A list that is not read, or has a flaw, is refused, and nothing is answered.
+pub(crate) fn serve_list<
+    R: AllocGlobal + Threads + Wait + Sync,
+    D: Disk + Send,
+    S: Source,
+    T: Sink,
+    L: Rule + Send + Drop,
+>(
+    rt: &R,
+    book: Book<D>,
+    known: Known,
+    batch: &Name,
+    workers: u32,
+    rules: Vec<ClientRules<L>>,
+    source: &mut S,
+    sink: &mut T,
+) -> (D, Result<Ends, Refusal>)
+    requires named { IsClientName batch.now }
+    requires name { length batch.now ≤ MAX_BATCH_NAME_BYTES }
+    requires workers { AreWorkers workers }
+    requires settled { settled_of book ≡ length book.entries }
+    requires sound { AreSound known }
+    requires network { known.railway.network ≡ book.timetable.net }
+    ensures says { ListSays S.Source T.Sink D.Disk L.Rule known batch.now workers rules.items
+        book result.0 source.old source.new sink.old sink.new result.1 }
+{
+    let lines = match read_list(rt.alloc(), source) {
+        Ok(lines) => lines,
+        Err(fault) => return (book.close(), Err(list_stops(rt.alloc(), batch, fault))),
+    };
+    answer_lines(rt, book, known, batch, workers, rules, &lines, sink)
+}
+
+// Answers the lines of a list that was read.
+fn answer_lines<
+    R: AllocGlobal + Threads + Wait + Sync,
+    D: Disk + Send,
+    T: Sink,
+    L: Rule + Send + Drop,
+>(
+    rt: &R,
+    book: Book<D>,
+    known: Known,
+    batch: &Name,
+    workers: u32,
+    rules: Vec<ClientRules<L>>,
+    lines: &[Name],
+    sink: &mut T,
+) -> (D, Result<Ends, Refusal>)
+    requires named { IsClientName batch.now }
+    requires name { length batch.now ≤ MAX_BATCH_NAME_BYTES }
+    requires workers { AreWorkers workers }
+    requires settled { settled_of book ≡ length book.entries }
+    requires sound { AreSound known }
+    requires network { known.railway.network ≡ book.timetable.net }
+    requires count { length lines.now ≤ MAX_LINES }
+    requires texts { All (λ line. length line ≤ MAX_LINE_BYTES) lines.now }
+    ensures says { LinesSay T.Sink D.Disk L.Rule known batch.now workers rules.items lines.now
+        book result.0 sink.old sink.new result.1 }
+{
+    worker_names_are_names();
+    worker_names_differ();
+    let asked = numbers_asked(rt.alloc(), &known, batch, workers, book.history(), lines);
+    let numbers = match asked {
+        Ok(numbers) => numbers,
+        Err(refusal) => return (book.close(), Err(refusal)),
+    };
+    let Ok(owners) = owners_by(rt.alloc(), book.history(), batch, workers, &numbers) else {
+        return (book.close(), Err(Refusal::Memory));
+    };
+    let Ok(members) = members_of(rt.alloc(), batch, workers, rules) else {
+        return (book.close(), Err(Refusal::Memory));
+    };
+    match answer_list(rt, rt.alloc(), book, known, members, lines, &owners) {
+        Ok(answered) => {
+            let Answered {
+                book,
+                workers,
+                texts,
+            } = answered;
+            let written = write_if_told(texts, sink);
+            let ends = ends_of(rt.alloc(), batch, &written, &workers);
+            (close_book(book), Ok(ends))
+        }
+        Err((book, NoMemory)) => (book.close(), Err(Refusal::Memory)),
+    }
+}
+
+// For each line the worker whose it is already, by its number.
+fn owners_by(
+    alloc: Global,
+    history: &History,
+    batch: &Name,
+    workers: u32,
+    numbers: &[Option<u64>],
+) -> Result<Vec<Option<u32>>, NoMemory>
+    requires name { length batch.now ≤ MAX_BATCH_NAME_BYTES }
+    requires workers { AreWorkers workers }
+    ensures { IfOk result (λ owners. owners.items
+        ≡ owners_of history.now.entries (names_of_workers batch.now workers) numbers.now) }
+{
+    let names = worker_names(alloc, batch, workers)?;
+    owners_of(alloc, history, names.as_slice(), numbers)
+}
+
+// Writes the texts of all replies; where memory was wanted for them, nothing.
+fn write_if_told<T: Sink>(texts: Option<Vec<List<u8>>>, sink: &mut T) -> Ended
+    requires { IfSome texts (λ all. length all.items ≤ MAX_LINES) }
+    ensures { WritesTexts T.Sink (option_map (λ all. all.items) texts) sink.old sink.new result }
+{
+    match texts {
+        Some(texts) => write_texts(&texts, sink),
+        None => Ended {
+            lines: 0,
+            why: Why::Memory,
+        },
+    }
+}

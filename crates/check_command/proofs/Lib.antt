@@ -1,0 +1,9 @@
+pub mod Replaying
+pub mod Alike
+pub mod Within
+pub mod Once
+pub mod Counting
+pub mod Stepping
+pub mod Ending
+pub mod Naming
+pub mod Judgement

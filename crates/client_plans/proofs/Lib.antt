@@ -1,0 +1,4 @@
+pub mod Loans
+pub mod Comings
+pub mod Stops
+pub mod Rounds

@@ -1,0 +1,5 @@
+pub mod Names
+pub mod Remains
+pub mod Rounds
+pub mod Halts
+pub mod Statuses

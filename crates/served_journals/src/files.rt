@@ -1,0 +1,12 @@
+//! The files of a run.
+
+use command_files::{BaseFile, NetworkFile};
+use train_file::Trains;
+
+/// The network, the base timetable and the trains of a run.
+#[derive(Debug, Drop)]
+pub struct Files {
+    pub network: NetworkFile,
+    pub base: BaseFile,
+    pub trains: Trains,
+}
