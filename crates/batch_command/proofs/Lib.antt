@@ -5,3 +5,4 @@ pub mod Disks
 pub mod Steps
 pub mod Ended
 mod Once
+pub mod Plain

@@ -17,7 +17,6 @@ use Rattle.client_lines.specs.Names.{Names}
 use Rattle.client_rules.specs.Clients.{rules_named}
 use Rattle.client_rules.specs.declared.clients.ClientRules.{ClientRules}
 use Rattle.list_lines.specs.Numbers.{AreNumbered}
-use Rattle.outside_io.specs.declared.betweens.NoBetween.{NoBetween}
 use Rattle.path_commit.specs.Ledgers.{Ledger}
 use Rattle.rail_types.specs.Limits.{IsClientName}
 use Rattle.rail_types.specs.declared.limits.TheConstants.{MAX_OWNER_BYTES}
@@ -51,14 +50,14 @@ names_short batch workers short k d below =
 
 -- ---- members
 
-module _ {L : Type 0} (batch : List ℕ) (workers : ℕ) (rules : List (ClientRules L)) (members : List (Member NoBetween L)) (are : AreMembers batch workers rules members) where
+module _ {Btw L : Type 0} (batch : List ℕ) (workers : ℕ) (rules : List (ClientRules L)) (members : List (Member Btw L)) (are : AreMembers batch workers rules members) where
   pub members_many : length members ≡ workers
-  members_many = sym (length-map members (λ (m : Member NoBetween L). m.name)) ∙ (ap length are.names ∙ names_many batch workers)
+  members_many = sym (length-map members (λ (m : Member Btw L). m.name)) ∙ (ap length are.names ∙ names_many batch workers)
 
-  member_at : (k : ℕ) (d : Member NoBetween L) → k < length members → (get_or members k d).name ≡ worker_name batch (suc k)
+  member_at : (k : ℕ) (d : Member Btw L) → k < length members → (get_or members k d).name ≡ worker_name batch (suc k)
   member_at k d below =
       let many = members_many in
-      sym (get_or-map (λ (m : Member NoBetween L). m.name) members k d [] below) ∙ (ap (λ (l : List (List ℕ)). get_or l k []) are.names ∙ name_at batch workers k [] (omega (arith, below, many)))
+      sym (get_or-map (λ (m : Member Btw L). m.name) members k d [] below) ∙ (ap (λ (l : List (List ℕ)). get_or l k []) are.names ∙ name_at batch workers k [] (omega (arith, below, many)))
 
   -- they have names of clients
   pub members_named : ((name : List ℕ) (worker : ℕ) → IsClientName name → length name ≤ MAX_BATCH_NAME_BYTES → worker ≤ MAX_WORKERS → IsClientName (worker_name name worker)) → IsClientName batch → length batch ≤ MAX_BATCH_NAME_BYTES → workers ≤ MAX_WORKERS
@@ -77,17 +76,17 @@ module _ {L : Type 0} (batch : List ℕ) (workers : ℕ) (rules : List (ClientRu
 
 -- ---- one more member
 
-module _ {L : Type 0} (batch : List ℕ) (before : ℕ) (rules : List (ClientRules L)) (members pushed : List (Member NoBetween L)) (member : Member NoBetween L) (more : pushed ≡ members ++ member ∷ []) where
-  pub names_more : map (λ (m : Member NoBetween L). m.name) members ≡ worker_names batch before → member.name ≡ worker_name batch (before + 1) → map (λ (m : Member NoBetween L). m.name) pushed ≡ worker_names batch (before + 1)
+module _ {Btw L : Type 0} (batch : List ℕ) (before : ℕ) (rules : List (ClientRules L)) (members pushed : List (Member Btw L)) (member : Member Btw L) (more : pushed ≡ members ++ member ∷ []) where
+  pub names_more : map (λ (m : Member Btw L). m.name) members ≡ worker_names batch before → member.name ≡ worker_name batch (before + 1) → map (λ (m : Member Btw L). m.name) pushed ≡ worker_names batch (before + 1)
   names_more names name =
-      let name_of : Member NoBetween L → List ℕ = λ m. m.name in
+      let name_of : Member Btw L → List ℕ = λ m. m.name in
       let last : member.name ≡ worker_name batch (suc before) = rw add-one at name in
       rw add-one (ap (map name_of) more ∙ (map-append name_of members (member ∷ []) ∙ (ap (λ (l : List (List ℕ)). l ++ member.name ∷ []) names ∙ ap (λ (n : List ℕ). worker_names batch before ++ n ∷ []) last)))
 
-  pub given_more : map (λ (m : Member NoBetween L). m.rules.items) members ≡ map (λ name. rules_named name rules) (worker_names batch before) → member.rules.items ≡ rules_named (worker_name batch (before + 1)) rules
-      → map (λ (m : Member NoBetween L). m.rules.items) pushed ≡ map (λ name. rules_named name rules) (worker_names batch (before + 1))
+  pub given_more : map (λ (m : Member Btw L). m.rules.items) members ≡ map (λ name. rules_named name rules) (worker_names batch before) → member.rules.items ≡ rules_named (worker_name batch (before + 1)) rules
+      → map (λ (m : Member Btw L). m.rules.items) pushed ≡ map (λ name. rules_named name rules) (worker_names batch (before + 1))
   given_more given own =
-      let rules_of : Member NoBetween L → List L = λ m. m.rules.items in
+      let rules_of : Member Btw L → List L = λ m. m.rules.items in
       let named : List ℕ → List L = λ name. rules_named name rules in
       let last : member.rules.items ≡ named (worker_name batch (suc before)) = rw add-one at own in
       rw add-one (ap (map rules_of) more ∙ (map-append rules_of members (member ∷ []) ∙ (ap (λ (l : List (List L)). l ++ member.rules.items ∷ []) given ∙ (ap (λ (n : List L). map named (worker_names batch before) ++ n ∷ []) last
@@ -149,7 +148,7 @@ numbers_many known (line ∷ lines) [] are = absurd are
 numbers_many known (line ∷ lines) (number ∷ numbers) are = ap suc (numbers_many known lines numbers are.1)
 
 -- there is a text for each line, where there are texts
-pub texts_few : {D L : Type 0} (kind : Rules L) (disk_faults : D → ℕ) (known : Names) (lines : List (List ℕ)) (owners : List (Option ℕ)) (found left : Ledger D) (members : List (Member NoBetween L)) (worked : List (Worked L)) (texts : Option (Vec (List ℕ) Global)) (most : ℕ) → length lines ≤ most
+pub texts_few : {D Btw L : Type 0} (kind : Rules L) (disk_faults : D → ℕ) (known : Names) (lines : List (List ℕ)) (owners : List (Option ℕ)) (found left : Ledger D) (members : List (Member Btw L)) (worked : List (Worked L)) (texts : Option (Vec (List ℕ) Global)) (most : ℕ) → length lines ≤ most
     → WereAnswered kind disk_faults known lines owners found left members worked (option_map (λ all. all.items) texts) → IfSome texts (λ all. length all.items ≤ most)
 texts_few kind disk_faults known lines owners found left members worked None most few answered = tt
 texts_few kind disk_faults known lines owners found left members worked (Some texts) most few answered =

@@ -35,15 +35,15 @@ WritesTexts sink None before after ended =
     (after ≡ before) × (ended ≡ record { lines = 0; why = Memory })
 
 -- the workers of a batch, in order, each with the rules in the elements with its name
-pub record AreMembers {L : Type 0} (batch : List ℕ) (workers : ℕ) (rules : List (ClientRules L))
-    (members : List (Member NoBetween L)) : Type 0 where
+pub record AreMembers {Btw L : Type 0} (batch : List ℕ) (workers : ℕ)
+    (rules : List (ClientRules L)) (members : List (Member Btw L)) : Type 0 where
   pub names : map (λ member. member.name) members ≡ worker_names batch workers
   pub given : map (λ member. member.rules.items) members
       ≡ map (λ name. rules_named name rules) (worker_names batch workers)
 
 -- Lines without a flaw were answered by the workers over the book that was found: a line whose number stands there under the
 -- name of a worker by the first such one, before its others. The replies were written in the order of the list, and these are
--- the ends.
+-- the ends. The workers are told without what happens between searches, on which nothing that is told depends.
 pub record AreAnswered {Snk Dsk L : Type 0} (sink : Sinks Snk) (disk : Disks Dsk) (kind : Rules L)
     (known : Names) (batch : List ℕ) (workers : ℕ) (rules : List (ClientRules L))
     (lines : List (List ℕ)) (found : Ledger Dsk) (after : Dsk) (snk snk' : Snk) (ends : Ends)

@@ -65,6 +65,7 @@ pub(crate) fn serve_book<R: AllocGlobal + Threads + Wait + Sync, O: Outside, L: 
         rules,
         &mut source,
         &mut sink,
+        outside,
     );
     put_back_client(client, source, sink, outside);
     (disk, outcome)

@@ -5,6 +5,8 @@ ghost use Rattle.batch_command.specs.Lists.{LinesSay, ListSays, WritesTexts};
 ghost use Rattle.batch_words.specs.Workers.{AreWorkers, worker_names as names_of_workers};
 ghost use Rattle.batch_words.specs.declared.clients.TheConstants.{MAX_BATCH_NAME_BYTES};
 ghost use Rattle.client_lines.specs.Within.{AreSound};
+ghost use Rattle.client_streams.specs.Lending.{IsUnchanged};
+ghost use Rattle.file_rounds.specs.Scenes.{scene};
 ghost use Rattle.client_lines.specs.declared.lines.TheConstants.{MAX_LINE_BYTES};
 ghost use Rattle.line_sessions.specs.declared.sessions.TheConstants.{MAX_LINES};
 ghost use Rattle.path_commit.specs.Ledgers.{settled_of};
@@ -25,7 +27,7 @@ use line_sessions::{Ended, Why};
 use list_lines::read_list;
 use list_replies::write_texts;
 use no_memory::NoMemory;
-use outside_io::{Disk, Sink, Source};
+use outside_io::{Disk, Outside, Sink, Source};
 use path_commit::Book;
 use rail_types::{List, Name};
 use serve_reports::Ends;
@@ -36,12 +38,14 @@ use std::thread::Threads;
 use worker_numbers::owners_of;
 
 /// Reads a list as a whole, answers it over a book by so many workers, writes the replies in the order of the list, and hands
-/// back the book's disk. A list that is not read, or has a flaw, is refused, and nothing is answered.
+/// back the book's disk. A list that is not read, or has a flaw, is refused, and nothing is answered. The outside is asked for
+/// what it has called between the searches of the workers, and for nothing else.
 pub(crate) fn serve_list<
     R: AllocGlobal + Threads + Wait + Sync,
     D: Disk + Send,
     S: Source,
     T: Sink,
+    O: Outside,
     L: Rule + Send + Drop,
 >(
     rt: &R,
@@ -52,6 +56,7 @@ pub(crate) fn serve_list<
     rules: Vec<ClientRules<L>>,
     source: &mut S,
     sink: &mut T,
+    outside: &mut O,
 ) -> (D, Result<Ends, Refusal>)
     requires named { IsClientName batch.now }
     requires name { length batch.now ≤ MAX_BATCH_NAME_BYTES }
@@ -61,12 +66,15 @@ pub(crate) fn serve_list<
     requires network { known.railway.network ≡ book.timetable.net }
     ensures says { ListSays S.Source T.Sink D.Disk L.Rule known batch.now workers rules.items
         book result.0 source.old source.new sink.old sink.new result.1 }
+    ensures still { IsUnchanged (scene O.Outside outside.old) (scene O.Outside outside.new) }
 {
     let lines = match read_list(rt.alloc(), source) {
         Ok(lines) => lines,
         Err(fault) => return (book.close(), Err(list_stops(rt.alloc(), batch, fault))),
     };
-    answer_lines(rt, book, known, batch, workers, rules, &lines, sink)
+    answer_lines(
+        rt, book, known, batch, workers, rules, &lines, sink, outside,
+    )
 }
 
 // Answers the lines of a list that was read.
@@ -74,6 +82,7 @@ fn answer_lines<
     R: AllocGlobal + Threads + Wait + Sync,
     D: Disk + Send,
     T: Sink,
+    O: Outside,
     L: Rule + Send + Drop,
 >(
     rt: &R,
@@ -84,6 +93,7 @@ fn answer_lines<
     rules: Vec<ClientRules<L>>,
     lines: &[Name],
     sink: &mut T,
+    outside: &mut O,
 ) -> (D, Result<Ends, Refusal>)
     requires named { IsClientName batch.now }
     requires name { length batch.now ≤ MAX_BATCH_NAME_BYTES }
@@ -95,6 +105,7 @@ fn answer_lines<
     requires texts { All (λ line. length line ≤ MAX_LINE_BYTES) lines.now }
     ensures says { LinesSay T.Sink D.Disk L.Rule known batch.now workers rules.items lines.now
         book result.0 sink.old sink.new result.1 }
+    ensures still { IsUnchanged (scene O.Outside outside.old) (scene O.Outside outside.new) }
 {
     worker_names_are_names();
     worker_names_differ();
@@ -106,7 +117,7 @@ fn answer_lines<
     let Ok(owners) = owners_by(rt.alloc(), book.history(), batch, workers, &numbers) else {
         return (book.close(), Err(Refusal::Memory));
     };
-    let Ok(members) = members_of(rt.alloc(), batch, workers, rules) else {
+    let Ok(members) = members_of(rt.alloc(), batch, workers, rules, outside) else {
         return (book.close(), Err(Refusal::Memory));
     };
     match answer_list(rt, rt.alloc(), book, known, members, lines, &owners) {

@@ -13,16 +13,17 @@ use crate::proofs::proofs_to;
 use crate::returning::put_back_plans;
 use admission_rules::Rule;
 use client_rules::{ClientRules, take_rules};
-use client_streams::{ClientStreams, open_served};
+use client_streams::{ClientStreams, between_of, open_served};
 use client_words::ClientWord;
 use command_reports::Refusal;
-use outside_io::{NoBetween, Outside};
+use outside_io::Outside;
 use proof_words::{ProofWord, proof_of};
 use request_server::Plan;
 use std::alloc::Global;
 
-/// Opens the source and the sink of each client, and the file of its proofs if it has one, in the order of the clients, and
-/// takes each client's rules out of those of all: those in the elements with its name, in order. Where a name cannot be
+/// Opens the source and the sink of each client, and the file of its proofs if it has one, in the order of the clients, takes
+/// what the outside has called between its searches, and takes its rules out of those of all: those in the elements with its
+/// name, in order. Where a name cannot be
 /// opened, or memory is wanted, all that was opened is put back as it was; a name that cannot be opened refuses, as
 /// `open: NAME`.
 pub fn open_clients<O: Outside, L: Rule>(
@@ -31,7 +32,7 @@ pub fn open_clients<O: Outside, L: Rule>(
     proofs: &[ProofWord],
     rules: &mut [ClientRules<L>],
     outside: &mut O,
-) -> Result<Vec<Plan<O::Src, O::Snk, NoBetween, L>>, Refusal>
+) -> Result<Vec<Plan<O::Src, O::Snk, O::Btw, L>>, Refusal>
     requires clients { AreClients clients.now proofs.now }
     ensures out { IfOk result (λ plans.
         AreOut (client_loans clients.now proofs.now (map streams_of plans.items))
@@ -60,14 +61,14 @@ pub fn open_clients<O: Outside, L: Rule>(
     Ok(plans)
 }
 
-// Opens the streams of a client, and takes its rules.
+// Opens the streams of a client, and takes its rules and what is called between its searches.
 fn open_client<O: Outside, L: Rule>(
     alloc: Global,
     client: &ClientWord,
     proofs: &[ProofWord],
     all: &mut [ClientRules<L>],
     outside: &mut O,
-) -> Result<Plan<O::Src, O::Snk, NoBetween, L>, Refusal>
+) -> Result<Plan<O::Src, O::Snk, O::Btw, L>, Refusal>
     requires calls { AreDistinct
         (stream_calls client.now (file_of proofs.now client.now.client)) }
     ensures out { IfOk result (λ plan. AreOut
@@ -98,12 +99,13 @@ fn open_client<O: Outside, L: Rule>(
                 sink,
                 proof,
             } = streams;
+            let between = between_of(&client.client, outside);
             Ok(Plan {
                 name,
                 source,
                 sink,
                 proofs: proofs_to(proof),
-                between: NoBetween,
+                between,
                 rules,
             })
         }

@@ -11,7 +11,7 @@ use crate::proofs::sink_of;
 use admission_rules::Rule;
 use client_streams::{ClientStreams, put_back_served};
 use client_words::ClientWord;
-use outside_io::{NoBetween, Outside};
+use outside_io::Outside;
 use proof_words::{ProofWord, proof_of};
 use request_server::{Plan, Session};
 
@@ -19,7 +19,7 @@ use request_server::{Plan, Session};
 pub fn put_back_plans<O: Outside, L: Rule>(
     clients: &[ClientWord],
     proofs: &[ProofWord],
-    mut plans: Vec<Plan<O::Src, O::Snk, NoBetween, L>>,
+    mut plans: Vec<Plan<O::Src, O::Snk, O::Btw, L>>,
     outside: &mut O,
 )
     requires many { length plans.items ≤ length clients.now }
@@ -32,7 +32,7 @@ pub fn put_back_plans<O: Outside, L: Rule>(
             source,
             sink,
             proofs: proved,
-            between: NoBetween,
+            between: _between,
             rules: _rules,
         } = plan;
         let streams = ClientStreams {

@@ -1,11 +1,11 @@
 -- Sources and sinks that are handed out and put back, one within another.
-use Rattle.std.proofs.Common.{◌≡◌, ◌≢◌, ◌∙◌, ◌++◌, List, [], ◌∷◌, map, refl, sym, ap, subst}
+use Rattle.std.proofs.Common.{◌≡◌, ◌≢◌, ◌∙◌, ◌++◌, List, [], ◌∷◌, Option, map, refl, sym, ap, subst}
 use Rattle.outside_io.specs.declared.failures.Failed.{Failed}
 use Rattle.outside_io.specs.Openings.{Opening, source_at, sink_at, Opens as CallsOf}
 use Rattle.outside_io.proofs.Places.{Untouched-round}
 use Rattle.file_rounds.specs.Scenes.{Scene}
 use Rattle.command_reports.proofs.Steps.{silent}
-use Rattle.client_streams.specs.Lending.{AreIn, AreOut, call_of, IsAsBefore, IsIn, IsOut, Loan, sink_of, source_of}
+use Rattle.client_streams.specs.Lending.{AreIn, AreOut, call_of, IsAsBefore, IsIn, IsOut, IsUnchanged, Loan, sink_of, source_of}
 use Rattle.client_streams.specs.Refusing.{IsOpen}
 use Rattle.client_streams.proofs.Lists.{calls_both}
 use Rattle.client_streams.proofs.Rounds.{open_told, stands_round}
@@ -97,3 +97,68 @@ pub nested_same : {Src Snk Dsk : Type 0} (loans : List (Loan Src Snk)) (s0 s1 s2
 nested_same {Src} {Snk} {Dsk} [] s0 s1 s2 s3 outs same ins = subst (λ (s : Scene Src Snk Dsk). IsAsBefore s0 s) (sym ins) (subst (λ (s : Scene Src Snk Dsk). IsAsBefore s s2) outs same)
 nested_same (loan ∷ loans) s0 s1 s2 s3 outs same ins =
     round_same loan s0 outs.0 ins.0 s3 outs.1 (nested_same loans outs.0 s1 s2 ins.0 outs.2 same ins.1) ins.2
+
+-- ---- nothing changed
+
+pub unchanged : {Src Snk Dsk : Type 0} (s : Scene Src Snk Dsk) → IsUnchanged s s
+unchanged s = record { same = as_before s; opened = refl; quiet = refl }
+
+pub unchanged_both : {Src Snk Dsk : Type 0} (s0 s1 s2 : Scene Src Snk Dsk) → IsUnchanged s0 s1 → IsUnchanged s1 s2 → IsUnchanged s0 s2
+unchanged_both s0 s1 s2 first next = record {
+  same = record {
+    standing = λ call. next.same.standing call ∙ first.same.standing call;
+    sources = λ name. next.same.sources name ∙ first.same.sources name;
+    sinks = λ name. next.same.sinks name ∙ first.same.sinks name;
+    disks = λ name. next.same.disks name ∙ first.same.disks name;
+    report = next.same.report ∙ first.same.report;
+  };
+  opened = next.opened ∙ first.opened;
+  quiet = next.quiet ∙ first.quiet;
+}
+
+-- what is out stays out where nothing changes
+out_unchanged_one : {Src Snk Dsk : Type 0} (loan : Loan Src Snk) (s0 s1 s2 : Scene Src Snk Dsk) → IsOut loan s0 s1 → IsUnchanged s1 s2 → IsOut loan s0 s2
+out_unchanged_one (source_of name it) s0 s1 s2 out still = record {
+  object = record {
+    object = out.object.object;
+    opened = still.same.sources name ∙ out.object.opened;
+    others = λ other differs. still.same.sources other ∙ out.object.others other differs;
+    refused = out.object.refused;
+  };
+  ready = record {
+    told = out.ready.told;
+    opened = still.same.standing (source_at name) ∙ out.ready.opened;
+    others = λ call differs. still.same.standing call ∙ out.ready.others call differs;
+    refused = out.ready.refused;
+  };
+  opened = subst (λ (made : Option (List Opening)). CallsOf (source_at name ∷ []) s0.opened made) (sym still.opened) out.opened;
+  quiet = still.quiet ∙ out.quiet;
+  sinks = λ other. still.same.sinks other ∙ out.sinks other;
+  disks = λ other. still.same.disks other ∙ out.disks other;
+  report = still.same.report ∙ out.report;
+}
+out_unchanged_one (sink_of name it) s0 s1 s2 out still = record {
+  object = record {
+    object = out.object.object;
+    opened = still.same.sinks name ∙ out.object.opened;
+    others = λ other differs. still.same.sinks other ∙ out.object.others other differs;
+    refused = out.object.refused;
+  };
+  ready = record {
+    told = out.ready.told;
+    opened = still.same.standing (sink_at name) ∙ out.ready.opened;
+    others = λ call differs. still.same.standing call ∙ out.ready.others call differs;
+    refused = out.ready.refused;
+  };
+  opened = subst (λ (made : Option (List Opening)). CallsOf (sink_at name ∷ []) s0.opened made) (sym still.opened) out.opened;
+  quiet = still.quiet ∙ out.quiet;
+  sources = λ other. still.same.sources other ∙ out.sources other;
+  disks = λ other. still.same.disks other ∙ out.disks other;
+  report = still.same.report ∙ out.report;
+}
+
+pub out_unchanged : {Src Snk Dsk : Type 0} (loan : Loan Src Snk) (loans : List (Loan Src Snk)) (s0 s1 s2 : Scene Src Snk Dsk) → AreOut (loan ∷ loans) s0 s1 → IsUnchanged s1 s2 → AreOut (loan ∷ loans) s0 s2
+out_unchanged {Src} {Snk} {Dsk} loan [] s0 s1 s2 outs still =
+    let whole : IsOut loan s0 s1 = subst (λ (s : Scene Src Snk Dsk). IsOut loan s0 s) (sym outs.2) outs.1 in
+    (s2, out_unchanged_one loan s0 s1 s2 whole still, refl)
+out_unchanged loan (next ∷ loans) s0 s1 s2 outs still = (outs.0, outs.1, out_unchanged next loans outs.0 s1 s2 outs.2 still)

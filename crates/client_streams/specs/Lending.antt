@@ -24,6 +24,12 @@ pub record IsAsBefore {Src Snk Dsk : Type 0} (old new : Scene Src Snk Dsk) : Typ
   pub disks : Untouched old.disks new.disks
   pub report : new.report ≡ old.report
 
+-- nothing changed, no opening call was made, and no fault was counted
+pub record IsUnchanged {Src Snk Dsk : Type 0} (old new : Scene Src Snk Dsk) : Type 0 where
+  pub same : IsAsBefore old new
+  pub opened : new.opened ≡ old.opened
+  pub quiet : new.faults ≡ old.faults
+
 -- this source was handed out under this name
 pub record SourceIsOut {Src Snk Dsk : Type 0} (name : List ℕ) (it : Src)
     (old new : Scene Src Snk Dsk) : Type 0 where

@@ -29,14 +29,19 @@ pub struct Heard {
     pub faults: u64,
 }
 
-/// What happens behind the searches of a client. Of A each search tells that it has found a path, and waits for so many
-/// replies to B.
+/// What happens behind the searches of a client that found a path. Each search of A tells of itself, and waits for so many
+/// replies to B. Each search of a worker tells of itself, and waits until so many searches of workers have.
 #[derive(Drop)]
 pub enum Pause {
     ForReplies {
         rt: HostRuntime,
         signals: Arc<Signals, Global>,
         replies: Vec<u64>,
+    },
+    ForWorkers {
+        rt: HostRuntime,
+        signals: Arc<Signals, Global>,
+        searches: u64,
     },
     Nothing,
 }
@@ -144,8 +149,21 @@ fn wait_for_replies<R: Clock>(
         of_a: 0,
         of_b: *replies,
         searches: 0,
+        of_workers: 0,
     };
-    let _has_come = signals.wait(rt, &awaited);
+    signals.hold(rt, &awaited);
+}
+
+// Tells that a search of a worker has found a path, and waits until so many have.
+fn wait_for_workers<R: Clock>(rt: &R, signals: &Arc<Signals, Global>, searches: u64) {
+    signals.found_by_worker();
+    let awaited = Awaited {
+        of_a: 0,
+        of_b: 0,
+        searches: 0,
+        of_workers: searches,
+    };
+    signals.hold(rt, &awaited);
 }
 
 impl Between for Pause {
@@ -156,6 +174,11 @@ impl Between for Pause {
                 signals,
                 replies,
             } => wait_for_replies(rt, signals, search, replies),
+            Pause::ForWorkers {
+                rt,
+                signals,
+                searches,
+            } => wait_for_workers(rt, signals, *searches),
             Pause::Nothing => {}
         }
     }

@@ -1,4 +1,4 @@
-//! What clients have come to, told between their threads.
+//! What clients and workers have come to, told between their threads.
 
 use std::alloc::{AllocError, Global};
 use std::sync::Arc;
@@ -12,20 +12,24 @@ const LOOKS: u64 = 10_000_000;
 // After so many looks the others are let run for a while.
 const LOOKS_BEFORE_A_REST: u64 = 5_000;
 
-/// How many replies were written to A and to B, and how many searches of A found a path.
+/// How many replies were written to A and to B, how many searches of A and of workers found a path, and how many searches waited
+/// in vain.
 #[derive(Drop)]
 pub struct Signals {
     of_a: AtomicU64,
     of_b: AtomicU64,
     searches: AtomicU64,
+    of_workers: AtomicU64,
+    in_vain: AtomicU64,
 }
 
-/// What is waited for: so many replies to A, to B, and so many searches of A.
+/// What is waited for: so many replies to A, to B, and so many searches of A and of workers.
 #[derive(Clone, Copy, Debug)]
 pub struct Awaited {
     pub of_a: u64,
     pub of_b: u64,
     pub searches: u64,
+    pub of_workers: u64,
 }
 
 /// Whose replies are counted.
@@ -43,6 +47,8 @@ impl Signals {
             of_a: AtomicU64::new(0),
             of_b: AtomicU64::new(0),
             searches: AtomicU64::new(0),
+            of_workers: AtomicU64::new(0),
+            in_vain: AtomicU64::new(0),
         };
         Ok(Arc::new(alloc, signals)?)
     }
@@ -65,10 +71,26 @@ impl Signals {
         self.searches.store(search, Ordering::SeqCst);
     }
 
+    /// Tells that one more search of a worker found a path.
+    pub fn found_by_worker(&self) {
+        self.of_workers.fetch_add(1, Ordering::SeqCst);
+    }
+
+    /// How many searches of workers found a path.
+    pub fn of_workers(&self) -> u64 {
+        self.of_workers.load(Ordering::SeqCst)
+    }
+
+    /// How many searches waited in vain.
+    pub fn in_vain(&self) -> u64 {
+        self.in_vain.load(Ordering::SeqCst)
+    }
+
     fn have_come(&self, awaited: &Awaited) -> bool {
         self.of_a.load(Ordering::SeqCst) >= awaited.of_a
             && self.of_b.load(Ordering::SeqCst) >= awaited.of_b
             && self.searches.load(Ordering::SeqCst) >= awaited.searches
+            && self.of_workers.load(Ordering::SeqCst) >= awaited.of_workers
     }
 
     /// Waits until all has come that is awaited. False where one has looked for it in vain.
@@ -82,5 +104,12 @@ impl Signals {
             }
         }
         false
+    }
+
+    /// Waits behind a search until all has come that is awaited, and counts a wait that is in vain.
+    pub fn hold<R: Clock>(&self, rt: &R, awaited: &Awaited) {
+        if !self.wait(rt, awaited) {
+            self.in_vain.fetch_add(1, Ordering::SeqCst);
+        }
     }
 }

@@ -3,9 +3,8 @@
 use crate::files::{NamedFile, add_line, begin_file, not_understood};
 use crate::own::{Own, Watched};
 use crate::paced::Heard;
-use crate::served::serve_both;
-use crate::signals::{Awaited, Whose};
-use crate::together::{ASIDE, Seat, Together, sink_of};
+use crate::signals::{Awaited, Signals, Whose};
+use crate::together::{Seat, Together, sink_of};
 use client_rules::ClientRules;
 use osrd_stdcm::run;
 use rail_types::Name;
@@ -33,6 +32,8 @@ struct Table {
     // The rules for the next run, and all that were made for the case.
     rules: Vec<ClientRules<Own>>,
     handed: Vec<Handed>,
+    // Whether only the first two words of a reply are printed.
+    is_brief: bool,
 }
 
 /// Carries out a table, and prints what comes of it. The host paces the clients.
@@ -50,6 +51,7 @@ pub fn carry_out<R: AllocGlobal + Print + Threads + Wait + Sync>(
         outside,
         rules: Vec::new(rt.alloc()),
         handed: Vec::new(rt.alloc()),
+        is_brief: false,
     };
     for line in lines.lines() {
         if table.is_open {
@@ -101,6 +103,7 @@ fn carry_out_line<R: AllocGlobal + Print + Threads + Wait + Sync>(
         "case" => {
             table.outside = Together::new(table.host, &table.files)?;
             table.handed = Vec::new(rt.alloc());
+            table.is_brief = false;
             println!(rt; "{rest}")
         }
         "A" => add_paced(&mut table.outside.a, rest),
@@ -109,9 +112,18 @@ fn carry_out_line<R: AllocGlobal + Print + Threads + Wait + Sync>(
             table.outside.pauses.push(number_of(rest)?)?;
             Ok(())
         }
+        "meet" => {
+            table.outside.meet = number_of(rest)?;
+            Ok(())
+        }
+        "brief" => {
+            table.is_brief = true;
+            Ok(())
+        }
         "own" => add_rule(rt.alloc(), table, rest),
         "run" => run_words(rt, table, rest),
-        "serve" => serve(rt, table),
+        "proofs" => print_proofs(rt, &table.outside.aside),
+        "searches" => print_searches(rt, &table.outside.signals),
         _ => Err(not_understood()),
     }
 }
@@ -125,6 +137,7 @@ fn add_paced(seat: &mut Seat, rest: &str) -> io::Result<()> {
         of_a: number_of(of_a)?,
         of_b: number_of(of_b)?,
         searches: number_of(searches)?,
+        of_workers: 0,
     };
     seat.add(awaited, line)
 }
@@ -172,8 +185,9 @@ fn run_words<R: AllocGlobal + Print + Threads + Wait + Sync>(
     let rules = mem::replace(&mut table.rules, Vec::new(rt.alloc()));
     let status = run(rt, &words, &mut table.outside, rules).number();
     println!(rt; "  status {status}")?;
-    print_lines(rt, "report", &table.outside.report, "")?;
-    print_sinks(rt, table)?;
+    print_lines(rt, "report", &table.outside.report, false)?;
+    print_lines(rt, "A", &table.outside.a.sink, table.is_brief)?;
+    print_lines(rt, "B", &table.outside.b.sink, table.is_brief)?;
     print_rules(rt, table)
 }
 
@@ -191,21 +205,6 @@ fn print_rules<R: Print>(rt: &R, table: &Table) -> io::Result<()> {
     Ok(())
 }
 
-// Serves both clients, and prints what their sinks hold, and of the proofs of A's replies the first lines.
-fn serve<R: AllocGlobal + Print + Threads + Wait + Sync>(
-    rt: &R,
-    table: &mut Table,
-) -> io::Result<()> {
-    serve_both(rt, &mut table.outside)?;
-    print_sinks(rt, table)?;
-    print_lines(rt, ASIDE, &table.outside.aside, "proof ")
-}
-
-fn print_sinks<R: Print>(rt: &R, table: &Table) -> io::Result<()> {
-    print_lines(rt, "A", &table.outside.a.sink, "")?;
-    print_lines(rt, "B", &table.outside.b.sink, "")
-}
-
 // What a sink holds, as lines.
 fn text_of(sink: &Option<Heard>) -> &str {
     match sink {
@@ -214,17 +213,44 @@ fn text_of(sink: &Option<Heard>) -> &str {
     }
 }
 
-// Prints the lines of a sink that begin with a text.
+// The first two words of a line.
+fn beginning_of(line: &str) -> &str {
+    let (first, rest) = first_word(line);
+    let (second, _) = first_word(rest);
+    let length = first.len().saturating_add(1).saturating_add(second.len());
+    match line.split_at_checked(length) {
+        Some((beginning, _)) => beginning,
+        None => line,
+    }
+}
+
+// Prints the lines of a sink, or of each its first two words.
 fn print_lines<R: Print>(
     rt: &R,
     name: &str,
     sink: &Option<Heard>,
-    beginning: &str,
+    is_brief: bool,
 ) -> io::Result<()> {
     for line in text_of(sink).lines() {
-        if line.starts_with(beginning) {
-            println!(rt; "  {name}: {line}")?;
+        let told = if is_brief { beginning_of(line) } else { line };
+        println!(rt; "  {name}: {told}")?;
+    }
+    Ok(())
+}
+
+// Prints the first line of each proof that went aside.
+fn print_proofs<R: Print>(rt: &R, aside: &Option<Heard>) -> io::Result<()> {
+    for line in text_of(aside).lines() {
+        if line.starts_with("proof ") {
+            println!(rt; "  aside: {line}")?;
         }
     }
     Ok(())
+}
+
+// Prints how many searches of workers found a path, and how many searches waited in vain.
+fn print_searches<R: Print>(rt: &R, signals: &Signals) -> io::Result<()> {
+    let found = signals.of_workers();
+    let in_vain = signals.in_vain();
+    println!(rt; "  searches of workers {found}, waits in vain {in_vain}")
 }

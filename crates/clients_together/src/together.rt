@@ -1,4 +1,4 @@
-//! The outside of two clients.
+//! The outside of two clients, and of workers.
 
 ghost use Rattle.std.specs.Prelude.{◌≡◌, ◌≤◌, None};
 ghost use Rattle.outside_io.specs.Faults.{next_count};
@@ -38,6 +38,8 @@ pub struct Together {
     pub aside: Option<Heard>,
     /// How many replies to B each search of A waits for.
     pub pauses: Vec<u64>,
+    /// How many searches of workers each of them waits for.
+    pub meet: u64,
     faults: u64,
 }
 
@@ -45,7 +47,7 @@ pub struct Together {
 const ROOM: usize = 65_536;
 
 /// The name of the sink for what goes aside, and of the source of what it took.
-pub const ASIDE: &str = "aside";
+const ASIDE: &str = "aside";
 
 /// An empty sink whose replies are counted.
 pub fn sink_of(
@@ -116,6 +118,7 @@ impl Together {
             report,
             aside,
             pauses: Vec::new(alloc),
+            meet: 0,
             faults: 0,
         };
         let disk = MemDisk::new(alloc, Vec::new(alloc), ROOM, Vec::new(alloc));
@@ -160,7 +163,7 @@ impl Together {
         })
     }
 
-    // What happens behind the searches of a client.
+    // What happens behind the searches of a client. One that is neither A nor B is a worker.
     fn pause_of(&self, client: &str) -> Result<Pause, AllocError> {
         let rt = self.rt;
         if client == self.a.name {
@@ -170,7 +173,14 @@ impl Together {
                 replies: Vec::from_slice(rt.alloc(), &self.pauses)?,
             });
         }
-        Ok(Pause::Nothing)
+        if client == self.b.name {
+            return Ok(Pause::Nothing);
+        }
+        Ok(Pause::ForWorkers {
+            rt,
+            signals: Arc::try_clone(&self.signals)?,
+            searches: self.meet,
+        })
     }
 }
 

@@ -3,3 +3,4 @@ pub mod Nesting
 pub mod Disks
 pub mod Steps
 pub mod Ended
+pub mod Plain

@@ -25,7 +25,6 @@ use Rattle.path_commit.specs.Ledgers.{Ledger}
 use Rattle.proof_words.specs.Proofs.{proof_of}
 use Rattle.proof_words.specs.declared.proofs.ProofWord.{ProofWord}
 use Rattle.client_seats.specs.Runs.{AreMatched}
-use Rattle.outside_io.specs.declared.betweens.NoBetween.{NoBetween}
 use Rattle.request_server.specs.declared.plans.Plan.{Plan}
 use Rattle.request_server.specs.declared.plans.Session.{Session}
 use Rattle.serve_reports.specs.declared.ends.Ends.{Ends}
@@ -51,7 +50,7 @@ module _ {Src Snk Dsk : Type 0} (clients : List ClientWord) (proofs : List Proof
       subst (λ (calls : List Opening). All (IsOpen s0.standing) calls) same (outs_open (client_loans clients proofs streams) s0 s1 (subst Apart (sym same) apart) outs)
 
 -- memory was wanted for the clients, and their streams were put back as they were
-pub unserved_again : {Src Snk Dsk L : Type 0} (clients : List ClientWord) (proofs : List ProofWord) (found : Ledger Dsk) (after : Dsk) (plans : List (Plan Src Snk NoBetween L)) (s0 s1 s2 : Scene Src Snk Dsk) → after ≡ found.disk → AreFit clients proofs (map streams_of plans)
+pub unserved_again : {Src Snk Dsk Btw L : Type 0} (clients : List ClientWord) (proofs : List ProofWord) (found : Ledger Dsk) (after : Dsk) (plans : List (Plan Src Snk Btw L)) (s0 s1 s2 : Scene Src Snk Dsk) → after ≡ found.disk → AreFit clients proofs (map streams_of plans)
     → AreOut (client_loans clients proofs (map streams_of plans)) s0 s1 → AreIn (client_loans clients proofs (map streams_of plans)) s1 s2 → Unserved Ends (client_calls clients proofs) found after s0 s2 Memory
 unserved_again {Src} {Snk} {Dsk} clients proofs found after plans s0 s1 s2 disk fit outs ins =
     let streams : List (ClientStreams Src Snk) = map streams_of plans in
@@ -76,8 +75,8 @@ fit_again (Some file) Unwanted after same fit = absurd fit
 fit_again (Some file) (To sink) Unwanted same fit = cc
 fit_again (Some file) (To sink) (To other) same fit = tt
 
-pub all_fit_again : {Src Snk L T : Type 0} (R : Plan Src Snk NoBetween L → Session Src Snk L → T → Type 0) → ((plan : Plan Src Snk NoBetween L) (session : Session Src Snk L) (talk : T) → R plan session talk → is_wanted session.proofs ≡ is_wanted plan.proofs)
-    → (clients : List ClientWord) (proofs : List ProofWord) (plans : List (Plan Src Snk NoBetween L)) (sessions : List (Session Src Snk L)) (talks : List T) → AreMatched R plans sessions talks → AreFit clients proofs (map streams_of plans)
+pub all_fit_again : {Src Snk Btw L T : Type 0} (R : Plan Src Snk Btw L → Session Src Snk L → T → Type 0) → ((plan : Plan Src Snk Btw L) (session : Session Src Snk L) (talk : T) → R plan session talk → is_wanted session.proofs ≡ is_wanted plan.proofs)
+    → (clients : List ClientWord) (proofs : List ProofWord) (plans : List (Plan Src Snk Btw L)) (sessions : List (Session Src Snk L)) (talks : List T) → AreMatched R plans sessions talks → AreFit clients proofs (map streams_of plans)
     → AreFit clients proofs (map returned_of sessions)
 all_fit_again R stays [] proofs [] [] [] all fit = fit
 all_fit_again R stays [] proofs [] [] (t ∷ talks) all fit = absurd all
@@ -96,23 +95,23 @@ all_fit_again R stays (c ∷ clients) proofs (p ∷ plans) (q ∷ sessions) (t �
 -- ---- streams of clients that were served
 
 -- what is said of the streams of clients that were served
-pub record Rounds {Src Snk Dsk L : Type 0} (clients : List ClientWord) (proofs : List ProofWord) (plans : List (Plan Src Snk NoBetween L)) (sessions : List (Session Src Snk L)) (s0 s2 : Scene Src Snk Dsk) (ends : Ends) : Type 0 where
-  pub had : AreMatched (λ (client : ClientWord) (plan : Plan Src Snk NoBetween L) (session : Session Src Snk L). HadStreams s0 s2 client (proof_of proofs client.client) (streams_of plan) (returned_of session)) clients plans sessions
+pub record Rounds {Src Snk Dsk Btw L : Type 0} (clients : List ClientWord) (proofs : List ProofWord) (plans : List (Plan Src Snk Btw L)) (sessions : List (Session Src Snk L)) (s0 s2 : Scene Src Snk Dsk) (ends : Ends) : Type 0 where
+  pub had : AreMatched (λ (client : ClientWord) (plan : Plan Src Snk Btw L) (session : Session Src Snk L). HadStreams s0 s2 client (proof_of proofs client.client) (streams_of plan) (returned_of session)) clients plans sessions
   pub keeps : KeepsTo {A = Ends} (client_calls clients proofs) s0 s2 (Ok ends)
   pub opens : All (IsOpen s0.standing) (client_calls clients proofs)
   pub quiet : s2.faults ≡ s0.faults
 
-pub rounds_by : {Src Snk Dsk L : Type 0} (clients : List ClientWord) (proofs : List ProofWord) (plans : List (Plan Src Snk NoBetween L)) (sessions : List (Session Src Snk L)) (s0 s1 s2 : Scene Src Snk Dsk) (ends : Ends) → AreClients clients proofs
+pub rounds_by : {Src Snk Dsk Btw L : Type 0} (clients : List ClientWord) (proofs : List ProofWord) (plans : List (Plan Src Snk Btw L)) (sessions : List (Session Src Snk L)) (s0 s1 s2 : Scene Src Snk Dsk) (ends : Ends) → AreClients clients proofs
     → AreFit clients proofs (map streams_of plans) → AreFit clients proofs (map returned_of sessions) → AreOut (client_loans clients proofs (map streams_of plans)) s0 s1 → AreIn (client_loans clients proofs (map returned_of sessions)) s1 s2
     → Rounds clients proofs plans sessions s0 s2 ends
-rounds_by {Src} {Snk} {Dsk} {L} clients proofs plans sessions s0 s1 s2 ends are fit fit' outs ins =
+rounds_by {Src} {Snk} {Dsk} {Btw} {L} clients proofs plans sessions s0 s1 s2 ends are fit fit' outs ins =
     let streams : List (ClientStreams Src Snk) = map streams_of plans in
     let returned : List (ClientStreams Src Snk) = map returned_of sessions in
     let calls = client_calls clients proofs in
     let all : AllKeep clients proofs streams returned s0 s2 = all_keep clients proofs streams returned s0 s1 s1 s2 are.calls fit fit' outs (as_before s1) ins in
     let opened : CallsOf calls s0.opened s2.opened = rw (in_calls (client_loans clients proofs returned) s1 s2 ins) (calls_made clients proofs streams s0 s1 fit outs) in
     record {
-      had = matched_parts (λ (client : ClientWord) (one other : ClientStreams Src Snk). HadStreams s0 s2 client (proof_of proofs client.client) one other) (λ (plan : Plan Src Snk NoBetween L). streams_of plan) (λ (session : Session Src Snk L). returned_of session) clients plans sessions all.had;
+      had = matched_parts (λ (client : ClientWord) (one other : ClientStreams Src Snk). HadStreams s0 s2 client (proof_of proofs client.client) one other) (λ (plan : Plan Src Snk Btw L). streams_of plan) (λ (session : Session Src Snk L). returned_of session) clients plans sessions all.had;
       keeps = record { keeps = all.keeps; opens = opened };
       opens = calls_open clients proofs streams s0 s1 fit outs (apart_of calls are.calls);
       quiet = in_quiet (client_loans clients proofs returned) s1 s2 ins ∙ out_quiet (client_loans clients proofs streams) s0 s1 outs;

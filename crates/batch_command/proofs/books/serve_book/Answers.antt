@@ -1,5 +1,7 @@
-use Rattle.std.proofs.Common.{subst}
+use Rattle.std.proofs.Common.{[], ◌∷◌, subst}
 use Rattle.client_lines.specs.Names.{Names}
+use Rattle.client_streams.specs.Lending.{sink_of, source_of}
+use Rattle.client_streams.proofs.Loans.{out_unchanged}
 use Rattle.client_words.specs.declared.clients.ClientWord.{ClientWord}
 use Rattle.file_rounds.specs.Scenes.{Scene, scene}
 use Rattle.path_commit.specs.Ledgers.{Ledger}
@@ -23,14 +25,15 @@ returns g c =
     let Src = g.row.O-Src.Denot in let Snk = g.row.O-Snk.Denot in let Dsk = g.row.O-Dsk.Denot in
     let s0 : Scene Src Snk Dsk = scene g.O.Outside c.args.outside.now in
     let s1 : Scene Src Snk Dsk = scene g.O.Outside c.open_streams.new.outside in
-    let s2 : Scene Src Snk Dsk = scene g.O.Outside c.put_back_client.new.outside in
+    let s2 : Scene Src Snk Dsk = scene g.O.Outside c.serve_list-disk.new.outside in
+    let s3 : Scene Src Snk Dsk = scene g.O.Outside c.put_back_client.new.outside in
     let client : ClientWord = c.args.client.now in let found : Ledger Dsk = c.args.book in
     let before : Src × Snk = c.in-Ok-open_streams.streams in
     let after : Src × Snk = (c.serve_list-disk.new.source, c.serve_list-disk.new.sink) in
     let known = known_same c.in-Ok.known c.args.named c.args.trains c.in-Ok.ensures.railway c.in-Ok.ensures.trains in
     let says = subst (λ (k : Names). ListSays g.O.Src.Source g.O.Snk.Sink g.O.Dsk.Disk g.L.Rule k client.client c.args.workers c.args.rules.items found c.serve_list-disk.result.0 before.0 after.0 before.1 after.1 c.serve_list-disk.result.1) known c.serve_list-disk.ensures.says in
-    let outs = c.in-Ok-open_streams.ensures.out in let ins = c.put_back_client.ensures.back in
+    let outs = out_unchanged (source_of client.input before.0) (sink_of client.output before.1 ∷ []) s0 s1 s2 c.in-Ok-open_streams.ensures.out c.serve_list-disk.ensures.still in let ins = c.put_back_client.ensures.back in
     record {
-      says = book_by client before after s0 s1 s2 outs ins g.O.Src.Source g.O.Snk.Sink g.O.Dsk.Disk g.L.Rule (names_of c.args.named c.args.trains) c.args.workers c.args.rules.items found c.serve_list-disk.result.0 c.serve_list-disk.result.1 says;
-      keeps = pair_keeps client before after s0 s1 s2 outs ins c.serve_list-disk.result.1;
+      says = book_by client before after s0 s2 s3 outs ins g.O.Src.Source g.O.Snk.Sink g.O.Dsk.Disk g.L.Rule (names_of c.args.named c.args.trains) c.args.workers c.args.rules.items found c.serve_list-disk.result.0 c.serve_list-disk.result.1 says;
+      keeps = pair_keeps client before after s0 s2 s3 outs ins c.serve_list-disk.result.1;
     }

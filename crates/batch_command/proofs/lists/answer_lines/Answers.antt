@@ -1,4 +1,4 @@
-use Rattle.std.proofs.Common.{◌≡◌, ◌∙◌, ℕ, List, Option, Vec, length, refl, ap, subst, arith}
+use Rattle.std.proofs.Common.{◌≡◌, ◌∙◌, ℕ, List, Option, Vec, length, map, refl, ap, subst, arith}
 use Rattle.std.specs.Global.{Global}
 use Rattle.std.specs.Prelude.{option_map}
 use Rattle.std.proofs.lemmas.List.{length-map}
@@ -8,11 +8,13 @@ use Rattle.batch_server.specs.declared.members.Worked.{Worked}
 use Rattle.batch_reports.specs.Ends.{IsEnds}
 use Rattle.batch_words.specs.Workers.{worker_names}
 use Rattle.line_sessions.specs.declared.sessions.TheConstants.{MAX_LINES}
-use Rattle.outside_io.specs.declared.betweens.NoBetween.{NoBetween}
+use Rattle.file_rounds.specs.Scenes.{scene}
 use Rattle.path_commit.specs.Ledgers.{Ledger}
 use Rattle.rail_types.specs.declared.entries.Entry.{Entry}
 use Rattle.worker_numbers.specs.Owners.{owner_of, owners_of}
 use Rattle.batch_command.specs.Asked.{HasFlaw, IsAsked}
+use Rattle.client_streams.proofs.Loans.{unchanged}
+use Rattle.batch_command.proofs.Plain.{answered_plain, members_plain, plain}
 use Rattle.batch_command.proofs.Workers.{members_differ, members_many, members_named, numbers_many, texts_few, theirs_by}
 use Rattle.batch_command.proofs.lists.answer_lines.Goals as goal
 
@@ -27,25 +29,25 @@ returns-in-Err g c = record {
 
 pub answer_list-requires-clause-some : goal.answer_list-requires-clause-some
 answer_list-requires-clause-some g c κs within =
-    let L = g.row.L.Denot in
-    let members : List (Member NoBetween L) = c.in-Ok-members_of.members.items in
-    let many = members_many c.args.batch.now c.args.workers c.args.rules.items members c.in-Ok-members_of.ensures in
+    let Btw = g.row.O-Btw.Denot in let L = g.row.L.Denot in
+    let members : List (Member Btw L) = c.in-Ok-members_of.members.items in
+    let many = members_many c.args.batch.now c.args.workers c.args.rules.items members c.in-Ok-members_of.ensures.members in
     let some = c.requires.workers.some in omega arith
 
 pub answer_list-requires-clause-few : goal.answer_list-requires-clause-few
 answer_list-requires-clause-few g c κs within =
-    let L = g.row.L.Denot in
-    let members : List (Member NoBetween L) = c.in-Ok-members_of.members.items in
-    let many = members_many c.args.batch.now c.args.workers c.args.rules.items members c.in-Ok-members_of.ensures in
+    let Btw = g.row.O-Btw.Denot in let L = g.row.L.Denot in
+    let members : List (Member Btw L) = c.in-Ok-members_of.members.items in
+    let many = members_many c.args.batch.now c.args.workers c.args.rules.items members c.in-Ok-members_of.ensures.members in
     let few = c.requires.workers.few in omega arith
 
 pub answer_list-requires-clause-named : goal.answer_list-requires-clause-named
 answer_list-requires-clause-named g c κs within =
-    members_named c.args.batch.now c.args.workers c.args.rules.items c.in-Ok-members_of.members.items c.in-Ok-members_of.ensures c.worker_names_are_names.ensures c.requires.named c.requires.name c.requires.workers.few
+    members_named c.args.batch.now c.args.workers c.args.rules.items c.in-Ok-members_of.members.items c.in-Ok-members_of.ensures.members c.worker_names_are_names.ensures c.requires.named c.requires.name c.requires.workers.few
 
 pub answer_list-requires-clause-names : goal.answer_list-requires-clause-names
 answer_list-requires-clause-names g c κs within =
-    members_differ c.args.batch.now c.args.workers c.args.rules.items c.in-Ok-members_of.members.items c.in-Ok-members_of.ensures c.worker_names_differ.ensures c.requires.workers.few
+    members_differ c.args.batch.now c.args.workers c.args.rules.items c.in-Ok-members_of.members.items c.in-Ok-members_of.ensures.members c.worker_names_differ.ensures c.requires.workers.few
 
 pub answer_list-requires-clause-owners : goal.answer_list-requires-clause-owners
 answer_list-requires-clause-owners g c κs within =
@@ -55,20 +57,20 @@ answer_list-requires-clause-owners g c κs within =
 
 pub answer_list-requires-clause-theirs : goal.answer_list-requires-clause-theirs
 answer_list-requires-clause-theirs g c κs within =
-    let L = g.row.L.Denot in
-    let members : List (Member NoBetween L) = c.in-Ok-members_of.members.items in
-    let many = members_many c.args.batch.now c.args.workers c.args.rules.items members c.in-Ok-members_of.ensures in
+    let Btw = g.row.O-Btw.Denot in let L = g.row.L.Denot in
+    let members : List (Member Btw L) = c.in-Ok-members_of.members.items in
+    let many = members_many c.args.batch.now c.args.workers c.args.rules.items members c.in-Ok-members_of.ensures.members in
     theirs_by c.history-2.result.now.entries c.args.batch.now c.args.workers c.deref.result.now c.deref-2.result.now (length members) (c.deref-2.ensures.value ∙ c.in-Ok-owners_by.ensures) many
 
 pub write_if_told-written-requires : goal.write_if_told-written-requires
 write_if_told-written-requires g c =
     let D = g.row.D.Denot in let L = g.row.L.Denot in
     let answered = c.in-Ok-answer_list.answered in
-    texts_few {D = D} {L = L} g.L.Rule g.D.Disk.faults c.args.known c.args.lines.now c.deref-2.result.now c.args.book answered.book c.in-Ok-members_of.members.items answered.workers.items answered.texts MAX_LINES c.requires.count c.in-Ok-answer_list.ensures.answered
+    texts_few {D = D} {Btw = g.row.O-Btw.Denot} {L = L} g.L.Rule g.D.Disk.faults c.args.known c.args.lines.now c.deref-2.result.now c.args.book answered.book c.in-Ok-members_of.members.items answered.workers.items answered.texts MAX_LINES c.requires.count c.in-Ok-answer_list.ensures.answered
 
 pub returns-in-Ok-answer_list : goal.returns-in-Ok-answer_list
 returns-in-Ok-answer_list g c =
-    let D = g.row.D.Denot in let L = g.row.L.Denot in
+    let D = g.row.D.Denot in let Btw = g.row.O-Btw.Denot in let L = g.row.L.Denot in
     let batch : List ℕ = c.args.batch.now in let workers : ℕ = c.args.workers in
     let lines : List (List ℕ) = c.args.lines.now in
     let numbers : List (Option ℕ) = c.in-Ok.numbers.items in
@@ -76,7 +78,7 @@ returns-in-Ok-answer_list g c =
     let answered = c.in-Ok-answer_list.answered in
     let left : Ledger D = answered.book in
     let worked : List (Worked L) = answered.workers.items in
-    let members : List (Member NoBetween L) = c.in-Ok-members_of.members.items in
+    let members : List (Member Btw L) = c.in-Ok-members_of.members.items in
     let texts : Option (List (List ℕ)) = option_map (λ (all : Vec (List ℕ) Global). all.items) answered.texts in
     let names = worker_names batch workers in
     let owners : c.deref-2.result.now ≡ owners_of found.entries names numbers =
@@ -85,13 +87,14 @@ returns-in-Ok-answer_list g c =
       says = record {
         left = left;
         numbers = numbers;
-        members = members;
+        members = map plain members;
         worked = worked;
         texts = texts;
         written = c.write_if_told-written.result;
         asked = subst (λ (entries : List Entry). IsAsked c.args.known batch workers entries lines numbers) c.history.ensures.entries c.in-Ok.ensures.asked;
-        members_are = c.in-Ok-members_of.ensures;
-        answered = subst (λ (whose : List (Option ℕ)). WereAnswered g.L.Rule g.D.Disk.faults c.args.known lines whose found left members worked texts) owners c.in-Ok-answer_list.ensures.answered;
+        members_are = members_plain batch workers c.args.rules.items members c.in-Ok-members_of.ensures.members;
+        answered = subst (λ (whose : List (Option ℕ)). WereAnswered g.L.Rule g.D.Disk.faults c.args.known lines whose found left (map plain members) worked texts) owners
+            (answered_plain g.L.Rule g.D.Disk.faults c.args.known lines c.deref-2.result.now found left members worked texts c.in-Ok-answer_list.ensures.answered);
         writes = c.write_if_told-written.ensures;
         footing = c.in-Ok-answer_list.ensures.footing;
         closed = c.close_book.ensures.closed;

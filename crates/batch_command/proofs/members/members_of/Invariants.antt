@@ -2,10 +2,13 @@ use Rattle.std.proofs.Common.{◌≡◌, ℕ, ◌<◌, ◌≤◌, map}
 use Rattle.batch_words.specs.Workers.{worker_name, worker_names}
 use Rattle.batch_words.specs.declared.clients.TheConstants.{MAX_WORKERS}
 use Rattle.client_rules.specs.Clients.{rules_named}
+use Rattle.client_streams.specs.Lending.{IsUnchanged}
+use Rattle.file_rounds.specs.Scenes.{scene}
 use Rattle.batch_command.proofs.members.members_of.Given as goal
 
 abbrev pub invariant-loop-before : goal.invariant-loop-before
 invariant-loop-before g l = record {
+  still : IsUnchanged (scene g.O.Outside l.fn.outside) (scene g.O.Outside l.outside);
   names : map (λ member. member.name) l.members.items ≡ worker_names l.batch l.before;
   given : map (λ member. member.rules.items) l.members.items ≡ map (λ name. rules_named name l.fn.rules.items) (worker_names l.batch l.before);
   others : (other : ℕ) → l.before < other → other ≤ MAX_WORKERS → rules_named (worker_name l.batch other) l.rules.items ≡ rules_named (worker_name l.batch other) l.fn.rules.items;

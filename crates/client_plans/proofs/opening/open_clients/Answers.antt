@@ -5,7 +5,6 @@ use Rattle.client_rules.specs.Clients.{rules_named}
 use Rattle.client_rules.specs.declared.clients.ClientRules.{ClientRules}
 use Rattle.std.proofs.Math.Seq.{split_at}
 use Rattle.file_rounds.specs.Scenes.{Scene, scene}
-use Rattle.outside_io.specs.declared.betweens.NoBetween.{NoBetween}
 use Rattle.request_server.specs.declared.plans.Plan.{Plan}
 use Rattle.client_plans.specs.Clients.{AreFit, client_calls, client_loans, streams_of}
 use Rattle.client_streams.specs.Clients.{AreDistinct, stream_loans}
@@ -33,7 +32,7 @@ open_client-requires-clause-calls g c κs within =
 
 pub returns-in-Err-clause-stopped : goal.returns-in-Err-clause-stopped
 returns-in-Err-clause-stopped g c =
-    let Src = g.row.O-Src.Denot in let Snk = g.row.O-Snk.Denot in let L = g.row.L.Denot in let Dsk = g.row.O-Dsk.Denot in
+    let Src = g.row.O-Src.Denot in let Snk = g.row.O-Snk.Denot in let Btw = g.row.O-Btw.Denot in let L = g.row.L.Denot in let Dsk = g.row.O-Dsk.Denot in
     let s0 : Scene Src Snk Dsk = scene g.O.Outside c.args.outside.now in
     let s1 : Scene Src Snk Dsk = scene g.O.Outside c.loop-client.outside in
     let s2 : Scene Src Snk Dsk = scene g.O.Outside c.open_client.new.outside in
@@ -42,8 +41,8 @@ returns-in-Err-clause-stopped g c =
     let proofs : List ProofWord = c.args.proofs.now in
     let i : ℕ = c.loop-client.client-index in
     let front : List ClientWord = take i clients in let behind : List ClientWord = drop (suc i) clients in
-    let plans : List (Plan Src Snk NoBetween L) = c.loop-client.plans.items in
-    let f : Plan Src Snk NoBetween L → ClientStreams Src Snk = λ one. streams_of one in
+    let plans : List (Plan Src Snk Btw L) = c.loop-client.plans.items in
+    let f : Plan Src Snk Btw L → ClientStreams Src Snk = λ one. streams_of one in
     let streams : List (ClientStreams Src Snk) = map f plans in
     let cut : clients ≡ front ++ client ∷ behind =
     split_at clients i client c.loop-client-test.true ∙ ap (λ (x : ClientWord). front ++ x ∷ behind) (sym c.client-item.is) in
@@ -57,19 +56,19 @@ returns-in-Err-clause-stopped g c =
 
 pub loop-client-preserved : goal.loop-client-preserved
 loop-client-preserved g c =
-    let Src = g.row.O-Src.Denot in let Snk = g.row.O-Snk.Denot in let L = g.row.L.Denot in let Dsk = g.row.O-Dsk.Denot in
+    let Src = g.row.O-Src.Denot in let Snk = g.row.O-Snk.Denot in let Btw = g.row.O-Btw.Denot in let L = g.row.L.Denot in let Dsk = g.row.O-Dsk.Denot in
     let s0 : Scene Src Snk Dsk = scene g.O.Outside c.args.outside.now in
     let s1 : Scene Src Snk Dsk = scene g.O.Outside c.loop-client.outside in
     let s2 : Scene Src Snk Dsk = scene g.O.Outside c.open_client.new.outside in
     let clients : List ClientWord = c.args.clients.now in let client : ClientWord = c.client-item.result in
     let i : ℕ = c.loop-client.client-index in
-    let plans : List (Plan Src Snk NoBetween L) = c.loop-client.plans.items in let plan : Plan Src Snk NoBetween L = c.in-Ok-open_client.plan in
+    let plans : List (Plan Src Snk Btw L) = c.loop-client.plans.items in let plan : Plan Src Snk Btw L = c.in-Ok-open_client.plan in
     let now = c.loop-client.invariant in
-    let f : Plan Src Snk NoBetween L → ClientStreams Src Snk = λ one. streams_of one in
+    let f : Plan Src Snk Btw L → ClientStreams Src Snk = λ one. streams_of one in
     let proofs : List ProofWord = c.args.proofs.now in
-    let n : Plan Src Snk NoBetween L → List ℕ = λ one. one.name in let m : ClientWord → List ℕ = λ one. one.client in
+    let n : Plan Src Snk Btw L → List ℕ = λ one. one.name in let m : ClientWord → List ℕ = λ one. one.client in
     let old : List (ClientRules L) = c.args.rules.now in let before : List (ClientRules L) = c.loop-client.rules in let after : List (ClientRules L) = c.open_client.new.all in
-    let r : Plan Src Snk NoBetween L → List L = λ one. one.rules.items in let w : ClientWord → List L = λ one. rules_named one.client old in
+    let r : Plan Src Snk Btw L → List L = λ one. one.rules.items in let w : ClientWord → List L = λ one. rules_named one.client old in
     let Left : List (ClientRules L) → ClientWord → Type 0 = λ all one. rules_named one.client all ≡ rules_named one.client old in
     let behind : drop i clients ≡ client ∷ drop (suc i) clients =
     drop-cons clients i client c.loop-client-test.true ∙ ap (λ (x : ClientWord). x ∷ drop (suc i) clients) (sym c.client-item.is) in

@@ -1,7 +1,6 @@
 use Rattle.std.proofs.Common.{◌≡◌, ◌∷◌, [], List, get_or, length, map, ap, arith, sym, ◌∙◌}
 use Rattle.std.proofs.lemmas.List.{length-map, map-append}
 use Rattle.file_rounds.specs.Scenes.{Scene, scene}
-use Rattle.outside_io.specs.declared.betweens.NoBetween.{NoBetween}
 use Rattle.request_server.specs.declared.plans.Plan.{Plan}
 use Rattle.proof_words.specs.Proofs.{proof_of}
 use Rattle.client_plans.specs.Clients.{sink_in, streams_of}
@@ -15,10 +14,10 @@ loop-plan-init g c = returning_none c.args.clients.now c.args.proofs.now (map st
 
 pub loop-plan-preserved : goal.loop-plan-preserved
 loop-plan-preserved g c =
-    let Src = g.row.O-Src.Denot in let Snk = g.row.O-Snk.Denot in let L = g.row.L.Denot in let Dsk = g.row.O-Dsk.Denot in
-    let f : Plan Src Snk NoBetween L → ClientStreams Src Snk = λ one. streams_of one in
-    let all : List (Plan Src Snk NoBetween L) = c.args.plans.items in let rest : List (Plan Src Snk NoBetween L) = c.pop.new.self.items in
-    let one : Plan Src Snk NoBetween L = c.in-Some.plan in
+    let Src = g.row.O-Src.Denot in let Snk = g.row.O-Snk.Denot in let Btw = g.row.O-Btw.Denot in let L = g.row.L.Denot in let Dsk = g.row.O-Dsk.Denot in
+    let f : Plan Src Snk Btw L → ClientStreams Src Snk = λ one. streams_of one in
+    let all : List (Plan Src Snk Btw L) = c.args.plans.items in let rest : List (Plan Src Snk Btw L) = c.pop.new.self.items in
+    let one : Plan Src Snk Btw L = c.in-Some.plan in
     let clients : List ClientWord = c.args.clients.now in let client : ClientWord = c.index-clients-len.result in
     let s1 : Scene Src Snk Dsk = scene g.O.Outside c.loop-plan.outside in
     let s2 : Scene Src Snk Dsk = scene g.O.Outside c.put_back_streams.new.outside in

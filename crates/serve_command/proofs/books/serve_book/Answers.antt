@@ -1,4 +1,4 @@
-use Rattle.std.proofs.Common.{◌≡◌, ◌∙◌, List, length, map, arith, ap, subst}
+use Rattle.std.proofs.Common.{◌≡◌, ◌∙◌, List, length, map, refl, arith, ap, subst}
 use Rattle.client_lines.specs.Names.{Names}
 use Rattle.client_rules.specs.Clients.{rules_named}
 use Rattle.file_rounds.specs.Scenes.{Scene, scene}
@@ -18,39 +18,40 @@ use Rattle.served_journals.proofs.Names.{known_same}
 use Rattle.served_journals.proofs.Halts.{Unserved}
 use Rattle.proof_words.specs.declared.proofs.ProofWord.{ProofWord}
 use Rattle.serve_command.proofs.Nesting.{all_fit_again, rounds_by, Rounds, served_stopped, unserved_again}
+use Rattle.serve_command.proofs.Plain.{had_plain, parts_plain, plain, served_plain}
 use Rattle.serve_command.proofs.Lists.{all_alike, long_alike, matched_long, pairs_alike}
 use Rattle.serve_command.proofs.books.serve_book.Goals as goal
 
 pub serve_clients-requires-clause-some : goal.serve_clients-requires-clause-some
 serve_clients-requires-clause-some g c κs within =
-    let Src = g.row.O-Src.Denot in let Snk = g.row.O-Snk.Denot in let L = g.row.L.Denot in
-    let plans : List (Plan Src Snk NoBetween L) = c.in-Ok-open_clients.plans.items in let clients : List ClientWord = c.args.clients.now in
-    let long = long_alike (λ (p : Plan Src Snk NoBetween L). p.name) (λ (w : ClientWord). w.client) plans clients c.in-Ok-open_clients.ensures.names in
+    let Src = g.row.O-Src.Denot in let Snk = g.row.O-Snk.Denot in let Btw = g.row.O-Btw.Denot in let L = g.row.L.Denot in
+    let plans : List (Plan Src Snk Btw L) = c.in-Ok-open_clients.plans.items in let clients : List ClientWord = c.args.clients.now in
+    let long = long_alike (λ (p : Plan Src Snk Btw L). p.name) (λ (w : ClientWord). w.client) plans clients c.in-Ok-open_clients.ensures.names in
     let some = c.requires.clients.some in omega arith
 
 pub serve_clients-requires-clause-few : goal.serve_clients-requires-clause-few
 serve_clients-requires-clause-few g c κs within =
-    let Src = g.row.O-Src.Denot in let Snk = g.row.O-Snk.Denot in let L = g.row.L.Denot in
-    let plans : List (Plan Src Snk NoBetween L) = c.in-Ok-open_clients.plans.items in let clients : List ClientWord = c.args.clients.now in
-    let long = long_alike (λ (p : Plan Src Snk NoBetween L). p.name) (λ (w : ClientWord). w.client) plans clients c.in-Ok-open_clients.ensures.names in
+    let Src = g.row.O-Src.Denot in let Snk = g.row.O-Snk.Denot in let Btw = g.row.O-Btw.Denot in let L = g.row.L.Denot in
+    let plans : List (Plan Src Snk Btw L) = c.in-Ok-open_clients.plans.items in let clients : List ClientWord = c.args.clients.now in
+    let long = long_alike (λ (p : Plan Src Snk Btw L). p.name) (λ (w : ClientWord). w.client) plans clients c.in-Ok-open_clients.ensures.names in
     let few = c.requires.clients.few in omega arith
 
 pub serve_clients-requires-clause-named : goal.serve_clients-requires-clause-named
 serve_clients-requires-clause-named g c κs within =
-    let Src = g.row.O-Src.Denot in let Snk = g.row.O-Snk.Denot in let L = g.row.L.Denot in
-    all_alike (λ (p : Plan Src Snk NoBetween L). p.name) (λ (w : ClientWord). w.client) IsClientName c.in-Ok-open_clients.plans.items c.args.clients.now c.in-Ok-open_clients.ensures.names c.requires.clients.named
+    let Src = g.row.O-Src.Denot in let Snk = g.row.O-Snk.Denot in let Btw = g.row.O-Btw.Denot in let L = g.row.L.Denot in
+    all_alike (λ (p : Plan Src Snk Btw L). p.name) (λ (w : ClientWord). w.client) IsClientName c.in-Ok-open_clients.plans.items c.args.clients.now c.in-Ok-open_clients.ensures.names c.requires.clients.named
 
 pub serve_clients-requires-clause-names : goal.serve_clients-requires-clause-names
 serve_clients-requires-clause-names g c κs within =
-    let Src = g.row.O-Src.Denot in let Snk = g.row.O-Snk.Denot in let L = g.row.L.Denot in
-    pairs_alike (λ (p : Plan Src Snk NoBetween L). p.name) (λ (w : ClientWord). w.client) c.in-Ok-open_clients.plans.items c.args.clients.now c.in-Ok-open_clients.ensures.names c.requires.clients.names
+    let Src = g.row.O-Src.Denot in let Snk = g.row.O-Snk.Denot in let Btw = g.row.O-Btw.Denot in let L = g.row.L.Denot in
+    pairs_alike (λ (p : Plan Src Snk Btw L). p.name) (λ (w : ClientWord). w.client) c.in-Ok-open_clients.plans.items c.args.clients.now c.in-Ok-open_clients.ensures.names c.requires.clients.names
 
 pub put_back_sessions-requires-clause-many : goal.put_back_sessions-requires-clause-many
 put_back_sessions-requires-clause-many g c κs within =
-    let Dsk = g.row.O-Dsk.Denot in let Src = g.row.O-Src.Denot in let Snk = g.row.O-Snk.Denot in let L = g.row.L.Denot in
-    let plans : List (Plan Src Snk NoBetween L) = c.in-Ok-open_clients.plans.items in let clients : List ClientWord = c.args.clients.now in
+    let Dsk = g.row.O-Dsk.Denot in let Src = g.row.O-Src.Denot in let Snk = g.row.O-Snk.Denot in let Btw = g.row.O-Btw.Denot in let L = g.row.L.Denot in
+    let plans : List (Plan Src Snk Btw L) = c.in-Ok-open_clients.plans.items in let clients : List ClientWord = c.args.clients.now in
     let sessions : List (Session Src Snk L) = c.in-Ok-serve_clients.sessions.items in
-    let long = long_alike (λ (p : Plan Src Snk NoBetween L). p.name) (λ (w : ClientWord). w.client) plans clients c.in-Ok-open_clients.ensures.names in
+    let long = long_alike (λ (p : Plan Src Snk Btw L). p.name) (λ (w : ClientWord). w.client) plans clients c.in-Ok-open_clients.ensures.names in
     let served = c.in-Ok-serve_clients.ensures.served in
     let left : Ledger Dsk = c.in-Ok-serve_clients.book in
     let as_long = matched_long (IsServed g.L.Rule (streams_by g.O.Src.Source g.O.Snk.Sink) c.args.book.entries left.entries) plans sessions served.talks served.served in
@@ -58,10 +59,10 @@ put_back_sessions-requires-clause-many g c κs within =
 
 pub put_back_plans-requires-clause-many : goal.put_back_plans-requires-clause-many
 put_back_plans-requires-clause-many g c κs within =
-    let Src = g.row.O-Src.Denot in let Snk = g.row.O-Snk.Denot in let L = g.row.L.Denot in
-    let plans : List (Plan Src Snk NoBetween L) = c.in-Ok-open_clients.plans.items in let clients : List ClientWord = c.args.clients.now in
-    let again : List (Plan Src Snk NoBetween L) = c.in-Err-serve_clients.plans.items in
-    let long = long_alike (λ (p : Plan Src Snk NoBetween L). p.name) (λ (w : ClientWord). w.client) plans clients c.in-Ok-open_clients.ensures.names in
+    let Src = g.row.O-Src.Denot in let Snk = g.row.O-Snk.Denot in let Btw = g.row.O-Btw.Denot in let L = g.row.L.Denot in
+    let plans : List (Plan Src Snk Btw L) = c.in-Ok-open_clients.plans.items in let clients : List ClientWord = c.args.clients.now in
+    let again : List (Plan Src Snk Btw L) = c.in-Err-serve_clients.plans.items in
+    let long = long_alike (λ (p : Plan Src Snk Btw L). p.name) (λ (w : ClientWord). w.client) plans clients c.in-Ok-open_clients.ensures.names in
     let same : again ≡ plans = c.in-Err-serve_clients.ensures.refused.1 in
     let as_long = ap length same in omega arith
 
@@ -77,16 +78,16 @@ returns-in-Err g c =
 
 pub returns-in-Ok-serve_clients : goal.returns-in-Ok-serve_clients
 returns-in-Ok-serve_clients g c =
-    let Src = g.row.O-Src.Denot in let Snk = g.row.O-Snk.Denot in let L = g.row.L.Denot in let Dsk = g.row.O-Dsk.Denot in
+    let Src = g.row.O-Src.Denot in let Snk = g.row.O-Snk.Denot in let Btw = g.row.O-Btw.Denot in let L = g.row.L.Denot in let Dsk = g.row.O-Dsk.Denot in
     let s0 : Scene Src Snk Dsk = scene g.O.Outside c.args.outside.now in
     let s1 : Scene Src Snk Dsk = scene g.O.Outside c.open_clients.new.outside in
     let s2 : Scene Src Snk Dsk = scene g.O.Outside c.put_back_sessions.new.outside in
-    let plans : List (Plan Src Snk NoBetween L) = c.in-Ok-open_clients.plans.items in let clients : List ClientWord = c.args.clients.now in
+    let plans : List (Plan Src Snk Btw L) = c.in-Ok-open_clients.plans.items in let clients : List ClientWord = c.args.clients.now in
     let sessions : List (Session Src Snk L) = c.in-Ok-serve_clients.sessions.items in
     let served = c.in-Ok-serve_clients.ensures.served in
     let left : Ledger Dsk = c.in-Ok-serve_clients.book in
     let proofs : List ProofWord = c.args.proofs.now in
-    let R : Plan Src Snk NoBetween L → Session Src Snk L → Talk → Type 0 = IsServed g.L.Rule (streams_by g.O.Src.Source g.O.Snk.Sink) c.args.book.entries left.entries in
+    let R : Plan Src Snk Btw L → Session Src Snk L → Talk → Type 0 = IsServed g.L.Rule (streams_by g.O.Src.Source g.O.Snk.Sink) c.args.book.entries left.entries in
     let fit = c.in-Ok-open_clients.ensures.fit in
     let again : AreFit clients proofs (map returned_of sessions) = all_fit_again R (λ plan session talk is. is.passes.wanted) clients proofs plans sessions served.talks served.served fit in
     let rounds : Rounds clients proofs plans sessions s0 s2 c.ends_of-ends.result = rounds_by clients proofs plans sessions s0 s1 s2 c.ends_of-ends.result c.requires.clients fit again c.in-Ok-open_clients.ensures.out c.put_back_sessions.ensures.back in
@@ -96,12 +97,13 @@ returns-in-Ok-serve_clients g c =
         opens = rounds.opens;
         quiet = rounds.quiet;
         left = left;
-        plans = plans;
+        plans = map plain plans;
         sessions = sessions;
-        names = c.in-Ok-open_clients.ensures.names;
-        given = c.in-Ok-open_clients.ensures.rules ∙ ap (λ all. map (λ (w : ClientWord). rules_named w.client all) clients) c.as_mut_slice.ensures.value;
-        had = rounds.had;
-        served = subst (λ (k : Names). WereServed g.L.Rule g.O.Dsk.Disk.faults (streams_by g.O.Src.Source g.O.Snk.Sink) k c.args.book left plans sessions) known served;
+        names = parts_plain (λ (p : Plan Src Snk Btw L). p.name) (λ (p : Plan Src Snk NoBetween L). p.name) (λ p. refl) plans ∙ c.in-Ok-open_clients.ensures.names;
+        given = parts_plain (λ (p : Plan Src Snk Btw L). p.rules.items) (λ (p : Plan Src Snk NoBetween L). p.rules.items) (λ p. refl) plans ∙ c.in-Ok-open_clients.ensures.rules ∙ ap (λ all. map (λ (w : ClientWord). rules_named w.client all) clients) c.as_mut_slice.ensures.value;
+        had = had_plain proofs s0 s2 clients plans sessions rounds.had;
+        served = subst (λ (k : Names). WereServed g.L.Rule g.O.Dsk.Disk.faults (streams_by g.O.Src.Source g.O.Snk.Sink) k c.args.book left (map plain plans) sessions) known
+            (served_plain g.L.Rule g.O.Dsk.Disk.faults (streams_by g.O.Src.Source g.O.Snk.Sink) c.in-Ok.known c.args.book left plans sessions served);
         footing = c.in-Ok-serve_clients.ensures.footing;
         closed = c.close_book.ensures.closed;
         ends_are = rw c.deref.ensures.value at c.ends_of-ends.ensures.ends;
@@ -111,15 +113,15 @@ returns-in-Ok-serve_clients g c =
 
 pub returns : goal.returns
 returns g c =
-    let Src = g.row.O-Src.Denot in let Snk = g.row.O-Snk.Denot in let L = g.row.L.Denot in let Dsk = g.row.O-Dsk.Denot in
+    let Src = g.row.O-Src.Denot in let Snk = g.row.O-Snk.Denot in let Btw = g.row.O-Btw.Denot in let L = g.row.L.Denot in let Dsk = g.row.O-Dsk.Denot in
     let s0 : Scene Src Snk Dsk = scene g.O.Outside c.args.outside.now in
     let s1 : Scene Src Snk Dsk = scene g.O.Outside c.open_clients.new.outside in
     let s2 : Scene Src Snk Dsk = scene g.O.Outside c.put_back_plans.new.outside in
-    let plans : List (Plan Src Snk NoBetween L) = c.in-Ok-open_clients.plans.items in let clients : List ClientWord = c.args.clients.now in
-    let again : List (Plan Src Snk NoBetween L) = c.in-Err-serve_clients.plans.items in
+    let plans : List (Plan Src Snk Btw L) = c.in-Ok-open_clients.plans.items in let clients : List ClientWord = c.args.clients.now in
+    let again : List (Plan Src Snk Btw L) = c.in-Err-serve_clients.plans.items in
     let same : again ≡ plans = c.in-Err-serve_clients.ensures.refused.1 in
     let proofs : List ProofWord = c.args.proofs.now in
-    let ins = subst (λ (l : List (Plan Src Snk NoBetween L)). AreIn (client_loans clients proofs (map streams_of l)) s1 s2) same c.put_back_plans.ensures.back in
+    let ins = subst (λ (l : List (Plan Src Snk Btw L)). AreIn (client_loans clients proofs (map streams_of l)) s1 s2) same c.put_back_plans.ensures.back in
     let after : Dsk = c.close-in-Err-serve_clients.result in let found : Ledger Dsk = c.args.book in
     let disk : after ≡ found.disk = c.close-in-Err-serve_clients.ensures.disk ∙ ap (λ (b : Ledger Dsk). b.disk) c.in-Err-serve_clients.ensures.refused.0 in
     let unserved : Unserved Ends (client_calls clients proofs) found after s0 s2 _ = unserved_again clients proofs found after plans s0 s1 s2 disk c.in-Ok-open_clients.ensures.fit c.in-Ok-open_clients.ensures.out ins in
