@@ -32,8 +32,8 @@ struct Table {
     // The rules for the next run, and all that were made for the case.
     rules: Vec<ClientRules<Own>>,
     handed: Vec<Handed>,
-    // Whether only the first two words of a reply are printed.
-    is_brief: bool,
+    // The first words of the replies of which only two words are printed.
+    brief: String,
 }
 
 /// Carries out a table, and prints what comes of it. The host paces the clients.
@@ -51,7 +51,7 @@ pub fn carry_out<R: AllocGlobal + Print + Threads + Wait + Sync>(
         outside,
         rules: Vec::new(rt.alloc()),
         handed: Vec::new(rt.alloc()),
-        is_brief: false,
+        brief: String::new(rt.alloc()),
     };
     for line in lines.lines() {
         if table.is_open {
@@ -103,7 +103,7 @@ fn carry_out_line<R: AllocGlobal + Print + Threads + Wait + Sync>(
         "case" => {
             table.outside = Together::new(table.host, &table.files)?;
             table.handed = Vec::new(rt.alloc());
-            table.is_brief = false;
+            table.brief = String::new(rt.alloc());
             println!(rt; "{rest}")
         }
         "A" => add_paced(&mut table.outside.a, rest),
@@ -117,7 +117,7 @@ fn carry_out_line<R: AllocGlobal + Print + Threads + Wait + Sync>(
             Ok(())
         }
         "brief" => {
-            table.is_brief = true;
+            table.brief = String::from_str(rt.alloc(), rest)?;
             Ok(())
         }
         "own" => add_rule(rt.alloc(), table, rest),
@@ -185,9 +185,10 @@ fn run_words<R: AllocGlobal + Print + Threads + Wait + Sync>(
     let rules = mem::replace(&mut table.rules, Vec::new(rt.alloc()));
     let status = run(rt, &words, &mut table.outside, rules).number();
     println!(rt; "  status {status}")?;
-    print_lines(rt, "report", &table.outside.report, false)?;
-    print_lines(rt, "A", &table.outside.a.sink, table.is_brief)?;
-    print_lines(rt, "B", &table.outside.b.sink, table.is_brief)?;
+    let brief = table.brief.as_str();
+    print_lines(rt, "report", &table.outside.report, "")?;
+    print_lines(rt, "A", &table.outside.a.sink, brief)?;
+    print_lines(rt, "B", &table.outside.b.sink, brief)?;
     print_rules(rt, table)
 }
 
@@ -224,15 +225,30 @@ fn beginning_of(line: &str) -> &str {
     }
 }
 
-// Prints the lines of a sink, or of each its first two words.
+// Whether one of these words, each behind one space, is the first of a line.
+fn is_brief(line: &str, words: &str) -> bool {
+    let (first, _) = first_word(line);
+    for word in words.split(' ') {
+        if word == first {
+            return true;
+        }
+    }
+    false
+}
+
+// Prints the lines of a sink, and two words of those that begin with one of the brief words.
 fn print_lines<R: Print>(
     rt: &R,
     name: &str,
     sink: &Option<Heard>,
-    is_brief: bool,
+    brief: &str,
 ) -> io::Result<()> {
     for line in text_of(sink).lines() {
-        let told = if is_brief { beginning_of(line) } else { line };
+        let told = if is_brief(line, brief) {
+            beginning_of(line)
+        } else {
+            line
+        };
         println!(rt; "  {name}: {told}")?;
     }
     Ok(())

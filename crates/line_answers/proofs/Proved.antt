@@ -33,7 +33,7 @@ use Rattle.ask_turns.specs.declared.asks.Outcome.{Outcome}
 use Rattle.ask_turns.specs.declared.asks.Outcome.TheVariants as outcome
 use Rattle.ask_turns.specs.Shown.{IsShownAt, Shows}
 use Rattle.ask_turns.specs.Tries.{HasSearched, HaveMissed, IsTheFront}
-use Rattle.line_answers.specs.Answers.{Caller, GivesLine, IsSearched, IsSought, MayBeDenied}
+use Rattle.line_answers.specs.Answers.{Caller, GivesLine, IsReached, IsSearched, IsSought, MayBeDenied}
 use Rattle.line_answers.specs.Asked.{TellsAsk}
 use Rattle.line_answers.specs.Callers.{AnswersLine, caller_of}
 use Rattle.line_answers.specs.Proved.{FitsIf, FoundBeforeLast, IsProofFor, IsProved, IsProvedBetween, ProvedOr, ShowsLine, kept_text}
@@ -276,6 +276,17 @@ looked_all timetable owner ask v u so zero at front w is = subst (HasLooked v) (
 looked_all timetable owner ask v u so (suc count) at front w is =
     looked_more v is.0 w (looked_all timetable owner ask v u so count is.1 is.2 is.0 is.3) is.5.looks
 
+-- searches that missed go on from what had been seen
+missed_on : (timetable : Timetable) (owner : List ℕ) (ask : Ask) (u : Sight) (count at front : ℕ) (w : Sight)
+    → HaveMissed timetable owner ask count at front u w → StartsWith w.seen u.seen
+missed_on timetable owner ask u zero at front w is =
+    subst (λ (s : Sight). StartsWith s.seen u.seen) (sym is) (starts_refl u.seen)
+missed_on timetable owner ask u (suc count) at front w is =
+    let looks = is.5.looks in
+    starts_trans w.seen is.0.seen u.seen
+    (starts_trans w.seen w.found.list is.0.seen looks.takes.keeps looks.takes.goes_on)
+    (missed_on timetable owner ask u count is.1 is.2 is.0 is.3)
+
 found_before_last : (v u w : Sight) (settled : ℕ) → HasLooked v u → TakesTurn u w settled
     → FoundBeforeLast (length u.seen) v w
 found_before_last v u w settled so takes =
@@ -294,14 +305,15 @@ found_before_last v u w settled so takes =
 module _ (law : AsksCanBeTold) (known : Names) (timetable : Timetable) (owner : List ℕ) (ask : Ask) (bytes : List ℕ)
     (line : Line) (spelled : Spells (a_line known) (fields_of bytes) line)
     (sought : line.ask ≡ asks.Path ask.number ask.request) where
-  proof_for : (path : Option Path) (text : List ℕ) (searched : List Entry)
+  proof_for : (path : Option Path) (text : List ℕ) (searched : List Entry) → IsReached line searched
       → FitsIf timetable ask.request searched path → IsShownAt known timetable ask path text searched
       → IsProofFor known timetable bytes ask.number path text searched
-  proof_for path text searched fits is = record {
+  proof_for path text searched reached fits is = record {
     line = line;
     request = ask.request;
     spelled = spelled;
     sought = sought;
+    reached = reached;
     fits = fits;
     proof = is.proof;
     numbered = is.number;
@@ -315,7 +327,15 @@ module _ (law : AsksCanBeTold) (known : Names) (timetable : Timetable) (owner : 
     text_is = is.text_is;
   }
 
-  module _ (v u w : Sight) (looks : Looks v u) (text : List ℕ) where
+  -- what was found after searches that missed is not before the front that the line names
+  reached_behind : (v u w : Sight) → Looks v u → IsReached line u.found.list → (count at front : ℕ)
+      → HaveMissed timetable owner ask count at front u w → IsReached line w.seen
+  reached_behind v u w looks reached count at front missed named is =
+      let below = reached named is in let same = ap length looks.same in
+      let longer = no_longer w.seen u.seen (missed_on timetable owner ask u count at front w missed) in
+      omega arith
+
+  module _ (v u w : Sight) (looks : Looks v u) (reached : IsReached line u.found.list) (text : List ℕ) where
     path_shows : (told : Became) (runs : List Run) (front : ℕ) (said : Reply)
         → Shows known timetable owner ask (outcome.Entered told runs) text u w
         → TellsAsk ask.number front (outcome.Entered told runs) said
@@ -335,7 +355,7 @@ module _ (law : AsksCanBeTold) (known : Names) (timetable : Timetable) (owner : 
           },
           here,
           found_before_last v m w (length w.seen) looked entered.0,
-          proof_for (Some shows.1) text m.seen shows.5 shows.6,
+          proof_for (Some shows.1) text m.seen (reached_behind v u m looks reached so.count so.at so.front so.missed) shows.5 shows.6,
         )
     path_shows (became.Unsettled at behind) runs front said shows tells =
         subst (λ r. ProvedOr (Unit {0}) known timetable bytes r text v w) (sym tells) tt
@@ -357,7 +377,7 @@ module _ (law : AsksCanBeTold) (known : Names) (timetable : Timetable) (owner : 
           w.seen,
           record { since = looked.goes_on; within = starts_refl w.seen },
           sym here,
-          proof_for None text w.seen tt shows,
+          proof_for None text w.seen (reached_behind v u w looks reached so.count so.at so.front so.missed) tt shows,
         )
     ask_shows (outcome.Again at stood) front said here is shows tells =
         subst (λ r. ProvedOr (Unit {0}) known timetable bytes r text v w) (sym tells) tt

@@ -19,8 +19,9 @@ use Rattle.rail_types.specs.Timetables.{Timetable}
 use Rattle.reply_texts.specs.declared.replies.Reply.{Reply}
 use Rattle.reply_texts.specs.declared.replies.Reply.TheVariants as reply
 use Rattle.tail_states.specs.Listed.{Listed}
-use Rattle.client_turns.specs.Turns.{Looks, Sight, timetable_at}
+use Rattle.client_turns.specs.Turns.{IsReached as IsReachedBy, Looks, Sight, timetable_at}
 use Rattle.ask_turns.specs.Searched.{FitsAt, live_in}
+use Rattle.line_answers.specs.Answers.{IsReached}
 use Rattle.line_answers.specs.Asked.{asking}
 use Rattle.line_answers.specs.Rules.{IsReadAs}
 use Rattle.line_answers.specs.declared.shared.Shared.{Shared}
@@ -40,8 +41,8 @@ abbrev pub FitsIf : Timetable → Request → List Entry → Option Path → Typ
 FitsIf timetable request entries None = Unit {0}
 FitsIf timetable request entries (Some path) = FitsAt timetable request entries path
 
--- The bytes of a line seek a path by this number, and the text is that of a proof beside these entries: of the request
--- where no path is told, and beside a path of the request whose window of arrival ends one tick before the path's last
+-- The bytes of a line seek a path by this number behind a front that is not beyond these entries, if it names one, and the
+-- text is that of a proof beside these entries: of the request where no path is told, and beside a path of the request whose window of arrival ends one tick before the path's last
 -- leave. That path itself could be granted beside these entries, and so leaves last as early as any there.
 pub record IsProofFor (known : Names) (timetable : Timetable) (bytes : List ℕ) (number : ℕ)
     (path : Option Path) (text : List ℕ) (searched : List Entry) : Type 0 where
@@ -49,6 +50,7 @@ pub record IsProofFor (known : Names) (timetable : Timetable) (bytes : List ℕ)
   pub request : Request
   pub spelled : Spells (a_line known) (fields_of bytes) line
   pub sought : line.ask ≡ asks.Path number request
+  pub reached : IsReached line searched
   pub fits : FitsIf timetable request searched path
   pub proof : Proof
   pub numbered : proof.number ≡ number
@@ -125,9 +127,10 @@ ShowsLine shared proves line told text v w =
     (bytes : List ℕ) → IsReadAs shared.known bytes line
     → ShowsBytes shared proves bytes told text v w
 
--- the same of a call whose turns so far took the pass from v to u: one turn, which added nothing
+-- the same of a call whose turns so far took the pass from v to u: one turn, which added nothing to what it found, and that
+-- is not before the front that the line names
 abbrev pub ShowsBehind : {D : Type 0} → Shared D → Bool → ℕ → Request → Reply → List ℕ → Sight → Sight
     → Type 0
 ShowsBehind shared proves number request told text u w =
-    (v : Sight) (after : Option ℕ) → Looks v u
+    (v : Sight) (after : Option ℕ) → Looks v u → IsReachedBy after u.found.list
     → ShowsLine shared proves (asking after number request) told text v w

@@ -66,7 +66,7 @@ returns-in_default-clause-shown g c bytes read wanted = tt
 
 pub returns-in-Ok-None-clause-shown : goal.returns-in-Ok-None-clause-shown
 returns-in-Ok-None-clause-shown g c =
-    c.seek_path.ensures.shown (view c.args.pass.now) c.args.after c.in-Ok-None.ensures.looks
+    c.seek_path.ensures.shown (view c.args.pass.now) c.args.after c.in-Ok-None.ensures.looks c.in-Ok-None.ensures.reached
 
 pub returns-in-Ok-Some-clause-shown : goal.returns-in-Ok-Some-clause-shown
 returns-in-Ok-Some-clause-shown g c bytes read wanted =

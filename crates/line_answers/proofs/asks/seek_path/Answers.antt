@@ -63,24 +63,24 @@ returns-clause-room g c =
     (let was = c.requires.spare in let more = c.in-Err.ensures.spare in omega arith))
 
 pub returns-in-Err-Wide-clause-shown : goal.returns-in-Err-Wide-clause-shown
-returns-in-Err-Wide-clause-shown g c v after looks bytes read wanted = tt
+returns-in-Err-Wide-clause-shown g c v after looks reached bytes read wanted = tt
 
 pub returns-in-Err-Memory-clause-shown : goal.returns-in-Err-Memory-clause-shown
-returns-in-Err-Memory-clause-shown g c v after looks bytes read wanted = tt
+returns-in-Err-Memory-clause-shown g c v after looks reached bytes read wanted = tt
 
 pub returns-in-Ok-try_searches-clause-shown : goal.returns-in-Ok-try_searches-clause-shown
-returns-in-Ok-try_searches-clause-shown g c v after looks bytes read wanted =
+returns-in-Ok-try_searches-clause-shown g c v after looks reached bytes read wanted =
     let u : Sight = view c.args.pass.now in let w : Sight = view c.try_searches.new.pass in
     let told = c.in-Ok-try_searches.outcome in
     ask_shows c.asks_can_be_told.ensures c.args.shared.now.known (timetable_at c.args.shared.now.gate) c.args.client.now.name
     (record { number = c.args.number; line = c.args.line_number; request = c.args.request; places = c.in-Ok.places })
-    bytes (asking after c.args.number c.args.request) read.spells refl v u w looks c.try_searches.new.proof.held
+    bytes (asking after c.args.number c.args.request) read.spells refl v u w looks reached c.try_searches.new.proof.held
     told c.front-in-Ok-try_searches.result c.ask_told.result
     (subst (λ n. IsTheFront told n w) (sym c.front-in-Ok-try_searches.ensures) c.in-Ok-try_searches.ensures.front)
     c.in-Ok-try_searches.ensures.searched (c.in-Ok-try_searches.ensures.shown wanted) c.ask_told.ensures.tells
 
 pub returns-clause-shown : goal.returns-clause-shown
-returns-clause-shown g c v after looks bytes read wanted =
+returns-clause-shown g c v after looks reached bytes read wanted =
     let w : Sight = view c.try_searches.new.pass in
     let timetable : Timetable = timetable_at c.args.shared.now.gate in
     let text : List ℕ = c.try_searches.new.proof.held in
