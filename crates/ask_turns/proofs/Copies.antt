@@ -8,7 +8,7 @@ use Rattle.blocking_time.specs.Stairway.{claims_of_path}
 use Rattle.grant_log.specs.Live.{live_claims}
 use Rattle.occupation_book.specs.Held.{held}
 use Rattle.occupation_book.specs.Zones.{Zone}
-use Rattle.path_labels.specs.Answers.{claims_held}
+use Rattle.path_labels.specs.Answers.{IsEarliest, claims_held}
 use Rattle.rail_types.specs.declared.entries.Entry.{Entry}
 use Rattle.rail_types.specs.declared.entries.Owner.TheVariants.{Base}
 use Rattle.rail_types.specs.declared.paths.Claim.{Claim}
@@ -20,7 +20,7 @@ use Rattle.rail_types.specs.Timetables.{Timetable}
 use Rattle.client_turns.specs.declared.clients.Client.{Client}
 use Rattle.client_turns.specs.Clients.{IsCopyOf}
 use Rattle.ask_turns.specs.Laws.{HaveTicks}
-use Rattle.ask_turns.specs.Searched.{FitsAt, IsPossibleAt}
+use Rattle.ask_turns.specs.Searched.{FitsAt, IsEarliestAt, IsPossibleAt}
 
 abbrev pub claims_in : List HeldClaim → List Claim
 claims_in list = map (λ one. one.0) list
@@ -80,6 +80,14 @@ module _ (timetable : Timetable) (client : Client) (entries : List Entry)
     fits = fits_alike (claims_of_path timetable.net timetable.settings path)
         (live_claims timetable entries) (held client.copy)
         (other_way (held client.copy) (live_claims timetable entries) copy.live) can.fits;
+  }
+
+  pub earliest_at : (request : Request) (path : Path)
+      → IsEarliest timetable.net timetable.settings (claims_held client.copy) request path
+      → IsEarliestAt timetable request entries path
+  earliest_at request path is = record {
+    granted = fits_at request path is.granted;
+    least = λ other can. is.least other (fits_beside request other can);
   }
 
   pub none_at : (request : Request)

@@ -3,7 +3,7 @@ use Rattle.std.proofs.Common.{◌≡◌, ℕ, List, Option, None, Some, length, 
 use Rattle.blocking_time.specs.Possible.{CanBeGranted, IsPossible}
 use Rattle.book_gate.specs.Views.{StartsWith}
 use Rattle.grant_log.specs.Legal.{IsInRange}
-use Rattle.path_labels.specs.Answers.{claims_held}
+use Rattle.path_labels.specs.Answers.{IsEarliest, claims_held}
 use Rattle.rail_types.specs.declared.entries.Entry.{Entry}
 use Rattle.rail_types.specs.declared.entries.Settings.{Settings}
 use Rattle.rail_types.specs.declared.paths.Claim.{Claim}
@@ -23,9 +23,9 @@ use Rattle.ask_turns.specs.declared.asks.Ask.{Ask}
 use Rattle.ask_turns.specs.declared.asks.Found.{Found}
 use Rattle.ask_turns.specs.Finds.{IsFoundBeside, MayBeSearched, Takes, entry_for}
 use Rattle.ask_turns.specs.Laws.{AreJudged, AreShort, HaveTicks, IsLater}
-use Rattle.ask_turns.specs.Searched.{FitsAt, IsPossibleAt}
+use Rattle.ask_turns.specs.Searched.{IsEarliestAt, IsPossibleAt}
 use Rattle.ask_turns.specs.Tries.{IsJudged, IsRefusedByNumber, Misses}
-use Rattle.ask_turns.proofs.Copies.{fits_at, none_at}
+use Rattle.ask_turns.proofs.Copies.{earliest_at, none_at}
 
 -- ---- what a search tells of the history
 
@@ -35,11 +35,11 @@ module _ (timetable : Timetable) (net : Network) (settings : Settings) (net_is :
   moved P told = subst (P timetable.net) settings_is (subst (λ n. P n settings) net_is told)
 
   module _ (client : Client) (entries : List Entry) (copy : IsCopyOf timetable client entries) (ask : Ask) where
-    pub found_fits : (path : Path) → CanBeGranted net settings (claims_held client.copy) ask.request path
-        → FitsAt timetable ask.request entries path
-    found_fits path can =
-        fits_at timetable client entries copy ask.request path
-        (moved (λ n s. CanBeGranted n s (claims_held client.copy) ask.request path) can)
+    pub found_earliest : (path : Path) → IsEarliest net settings (claims_held client.copy) ask.request path
+        → IsEarliestAt timetable ask.request entries path
+    found_earliest path is =
+        earliest_at timetable client entries copy ask.request path
+        (moved (λ n s. IsEarliest n s (claims_held client.copy) ask.request path) is)
 
     pub none_fits : (¬ IsPossible net settings (claims_held client.copy) ask.request)
         → ¬ IsPossibleAt timetable ask.request entries
@@ -58,8 +58,8 @@ module _ (timetable : Timetable) (net : Network) (settings : Settings) (net_is :
       → IsClientName owner → (live : List Claim) (found : Found) (path : Path)
       → Takes net settings live owner ask found path → IsInRange timetable found.entry
   in_range short ask may owner named live found path takes =
-      let answered = short.answered net settings live ask path may takes.can in
-      let can = moved (λ n s. CanBeGranted n s live ask.request path) takes.can in
+      let answered = short.answered net settings live ask path may takes.earliest.granted in
+      let can = moved (λ n s. CanBeGranted n s live ask.request path) takes.earliest.granted in
       let searched = moved (λ n s. MayBeSearched n s ask) may in
       subst (IsInRange timetable) (sym takes.entry_is) (record {
         within = record { owner = named; number = may.number; deed = answered };
@@ -78,10 +78,10 @@ entered_of timetable entry searched u w became.Full done = done
 
 module _ (law : AreJudged) (timetable : Timetable) (owner : List ℕ) (ask : Ask) (client : Client)
     (u w : Sight) (path : Path) (named : client.name ≡ owner) (copy : IsCopyOf timetable client u.seen)
-    (ticks : HaveTicks timetable u.seen) (fitted : FitsAt timetable ask.request u.seen path)
+    (ticks : HaveTicks timetable u.seen) (earliest : IsEarliestAt timetable ask.request u.seen path)
     (entry : Entry) (entry_is : entry ≡ entry_for client.name ask path) where
   was : StartsWith w.found.list u.seen → IsLater timetable owner ask path u.seen w.found.list
-  was later = record { later = later; ticks = ticks; fitted = fitted }
+  was later = record { later = later; ticks = ticks; fitted = earliest.granted }
 
   tried_as : (told : Tried) → HasTried timetable entry client.front told u w
       → HasTried timetable (entry_for owner ask path) (length u.seen) told u w
@@ -106,6 +106,7 @@ module _ (law : AreJudged) (timetable : Timetable) (owner : List ℕ) (ask : Ask
     made told done later by = record {
       path = path;
       runs_are = sym runs_are;
+      earliest = earliest;
       entered = done;
       is_new = law.fresh timetable owner ask path w.found.list;
       fits = law.fits timetable owner ask path u.seen w.found.list (was later) now;

@@ -1,10 +1,10 @@
 -- What a search finds beside a client's copy.
 use Rattle.std.specs.Prelude.{◌≡◌, ◌≤◌, ℕ, List, All, length, Option, None, Some}
-use Rattle.blocking_time.specs.Possible.{CanBeGranted, IsPossible}
+use Rattle.blocking_time.specs.Possible.{IsPossible}
 use Rattle.byte_fields.specs.Buffered.{Buffered}
 use Rattle.grant_log.specs.Legal.{IsWantedOn}
 use Rattle.grant_log.specs.Meanings.{IsNumbered}
-use Rattle.path_labels.specs.Answers.{claims_held}
+use Rattle.path_labels.specs.Answers.{IsEarliest, claims_held}
 use Rattle.rail_types.specs.declared.entries.Deed.TheVariants.{Grant}
 use Rattle.rail_types.specs.declared.entries.Entry.{Entry}
 use Rattle.rail_types.specs.declared.entries.Settings.{Settings}
@@ -61,12 +61,13 @@ HasRoomFor text (Again at searched) = Unit {0}
 
 -- ---- inside
 
--- an entry that takes a path which can be granted beside these claims, with its runs
+-- an entry that takes a path which can be granted beside these claims, and leaves last as early as any that can, with its
+-- runs
 pub record Takes (net : Network) (settings : Settings) (live : List Claim) (owner : List ℕ)
     (ask : Ask) (found : Found) (path : Path) : Type 0 where
   pub entry_is : found.entry ≡ entry_for owner ask path
   pub runs_are : found.runs ≡ path.runs
-  pub can : CanBeGranted net settings live ask.request path
+  pub earliest : IsEarliest net settings live ask.request path
 
 -- such an entry, or that no path can be granted there
 abbrev pub IsFoundBeside : Network → Settings → Client → Ask → Option Found → Type 0

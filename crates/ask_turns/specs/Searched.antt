@@ -4,6 +4,7 @@ use Rattle.book_gate.specs.Views.{StartsWith}
 use Rattle.blocking_time.specs.Possible.{CanBeGranted, IsPossible}
 use Rattle.grant_log.specs.Live.{claims_of, live_claims}
 use Rattle.path_commit.specs.Clashes.{IsLastClash}
+use Rattle.path_labels.specs.Answers.{IsEarliest}
 use Rattle.rail_types.specs.declared.entries.Deed.TheVariants.{Grant}
 use Rattle.rail_types.specs.declared.entries.Entry.{Entry}
 use Rattle.rail_types.specs.declared.entries.Wanted.TheVariants.{Asked}
@@ -20,6 +21,11 @@ live_in timetable entries = map (λ held. held.0) (live_claims timetable entries
 abbrev pub FitsAt : Timetable → Request → List Entry → Path → Type 0
 FitsAt timetable request entries path =
     CanBeGranted timetable.net timetable.settings (live_in timetable entries) request path
+
+-- the same, and no path that keeps the request and fits there leaves last earlier
+abbrev pub IsEarliestAt : Timetable → Request → List Entry → Path → Type 0
+IsEarliestAt timetable request entries path =
+    IsEarliest timetable.net timetable.settings (live_in timetable entries) request path
 
 -- a path keeps the request and fits at these entries
 abbrev pub IsPossibleAt : Timetable → Request → List Entry → Type 0

@@ -16,7 +16,7 @@ use Rattle.ask_turns.specs.declared.asks.Ask.{Ask}
 use Rattle.ask_turns.specs.declared.asks.Outcome.{Outcome}
 use Rattle.ask_turns.specs.declared.asks.Outcome.TheVariants.{Entered, NoPath, Again}
 use Rattle.ask_turns.specs.Finds.{IsNewNumber, entry_for}
-use Rattle.ask_turns.specs.Searched.{FitsAt, IsMissed, IsPossibleAt}
+use Rattle.ask_turns.specs.Searched.{FitsAt, IsEarliestAt, IsMissed, IsPossibleAt}
 
 -- A search that stood where the pass had seen u found a path that fitted there, and the turn from u to w found it missed,
 -- the last time by the entry at this position; the number was still new.
@@ -45,12 +45,13 @@ abbrev pub IsRefusedByNumber : Became → Type 0
 IsRefusedByNumber (became.Refused told) = IsOfNumber told
 IsRefusedByNumber other = Unit {0}
 
--- A path with these runs was found where the pass had seen u, and the turn from u to w judged it. Where it joins what the
--- turn found its number is new there, and it fits; it is refused only where the number stands.
+-- A path with these runs was found where the pass had seen u, the earliest there, and the turn from u to w judged it. Where it
+-- joins what the turn found its number is new there, and it fits; it is refused only where the number stands.
 pub record IsJudged (timetable : Timetable) (owner : List ℕ) (ask : Ask) (told : Became)
     (runs : List Run) (u w : Sight) : Type 0 where
   pub path : Path
   pub runs_are : path.runs ≡ runs
+  pub earliest : IsEarliestAt timetable ask.request u.seen path
   pub entered : HasEntered timetable (entry_for owner ask path) told u w
   pub is_new : Joins timetable w.found.list (entry_for owner ask path)
       → IsNewNumber owner ask.number w.found.list

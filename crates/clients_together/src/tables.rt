@@ -237,12 +237,7 @@ fn is_brief(line: &str, words: &str) -> bool {
 }
 
 // Prints the lines of a sink, and two words of those that begin with one of the brief words.
-fn print_lines<R: Print>(
-    rt: &R,
-    name: &str,
-    sink: &Option<Heard>,
-    brief: &str,
-) -> io::Result<()> {
+fn print_lines<R: Print>(rt: &R, name: &str, sink: &Option<Heard>, brief: &str) -> io::Result<()> {
     for line in text_of(sink).lines() {
         let told = if is_brief(line, brief) {
             beginning_of(line)

@@ -1,5 +1,5 @@
 -- A call of several turns: all but the last looked.
-use Rattle.std.proofs.Common.{◌≡◌, ◌≢◌, ℕ, ◌+◌, ◌-◌, ◌≤◌, All, List, [], ◌∷◌, ◌++◌, length, take, ap, sym, ◌∙◌, subst, refl, arith, append_assoc, length-append}
+use Rattle.std.proofs.Common.{◌≡◌, ◌≢◌, ℕ, zero, suc, ◌+◌, ◌-◌, ◌≤◌, All, List, [], ◌∷◌, ◌++◌, length, take, ap, sym, ◌∙◌, subst, refl, arith, append_assoc, length-append}
 use Rattle.std.proofs.lemmas.List.{length_push, take-append-le}
 use Rattle.std.proofs.lemmas.List.Elements.{All-nil, All-push, All-weaker}
 use mathlib.Core.Logic.{inl, inr}
@@ -8,9 +8,12 @@ use Rattle.book_gate.specs.Views.{StartsWith, positions, own}
 use Rattle.book_gate.proofs.Turns.{own_push}
 use Rattle.outside_io.specs.Faults.{Rose}
 use Rattle.rail_types.specs.declared.entries.Entry.{Entry}
+use Rattle.rail_types.specs.Timetables.{Timetable}
 use Rattle.reply_texts.specs.declared.replies.Reply.{Reply}
 use Rattle.reply_texts.specs.declared.replies.Reply.TheVariants as reply
 use Rattle.client_turns.specs.Turns.{CannotBegin, CannotSettle, IsAdded, Looks, Sight, TakesTurn}
+use Rattle.ask_turns.specs.declared.asks.Ask.{Ask}
+use Rattle.ask_turns.specs.Tries.{HaveMissed}
 use Rattle.line_answers.specs.Answers.{Caller, GivesLine}
 use Rattle.line_answers.specs.Calls.{AnswersBetween, EndInFault, HasTurns, IsOf, IsSettled, IsToldIn, IsTurnOf, LastFound, Settle, TakesEvents, pair}
 use Rattle.line_answers.specs.Points.{added, unsettled_by}
@@ -18,6 +21,17 @@ use Rattle.line_answers.proofs.Calls.{enters_event, fails_event, is_turn, its_tu
 
 pub starts_trans : {X : Type 0} (a b c : List X) → StartsWith a b → StartsWith b c → StartsWith a c
 starts_trans a b c p q = (q.0 ++ p.0, p.1 ∙ ap (λ l. l ++ p.0) q.1 ∙ append_assoc c q.0 p.0)
+
+-- searches that missed go on from what had been seen
+pub missed_on : (timetable : Timetable) (owner : List ℕ) (ask : Ask) (u : Sight) (count at front : ℕ) (w : Sight)
+    → HaveMissed timetable owner ask count at front u w → StartsWith w.seen u.seen
+missed_on timetable owner ask u zero at front w is =
+    subst (λ (s : Sight). StartsWith s.seen u.seen) (sym is) (starts_refl u.seen)
+missed_on timetable owner ask u (suc count) at front w is =
+    let looks = is.5.looks in
+    starts_trans w.seen is.0.seen u.seen
+    (starts_trans w.seen w.found.list is.0.seen looks.takes.keeps looks.takes.goes_on)
+    (missed_on timetable owner ask u count is.1 is.2 is.0 is.3)
 
 -- what is a turn over a history is one over any that goes on from it
 pub turn_longer : (caller : Caller) (long short : List Entry) → StartsWith long short → (t : Turn)

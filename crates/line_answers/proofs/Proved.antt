@@ -41,7 +41,7 @@ use Rattle.line_answers.specs.Rules.{IsReadAs, denial}
 use Rattle.line_answers.specs.Tells.{TellsAgain, fault_reply, halt_reply}
 use Rattle.line_answers.specs.declared.shared.Shared.{Shared}
 use Rattle.line_answers.proofs.Calls.{starts_refl}
-use Rattle.line_answers.proofs.Many.{starts_trans}
+use Rattle.line_answers.proofs.Many.{missed_on, starts_trans}
 use Rattle.line_answers.proofs.Told.{its_line, no_name}
 
 -- a beginning is no longer
@@ -275,17 +275,6 @@ looked_all : (timetable : Timetable) (owner : List ℕ) (ask : Ask) (v u : Sight
 looked_all timetable owner ask v u so zero at front w is = subst (HasLooked v) (sym is) so
 looked_all timetable owner ask v u so (suc count) at front w is =
     looked_more v is.0 w (looked_all timetable owner ask v u so count is.1 is.2 is.0 is.3) is.5.looks
-
--- searches that missed go on from what had been seen
-missed_on : (timetable : Timetable) (owner : List ℕ) (ask : Ask) (u : Sight) (count at front : ℕ) (w : Sight)
-    → HaveMissed timetable owner ask count at front u w → StartsWith w.seen u.seen
-missed_on timetable owner ask u zero at front w is =
-    subst (λ (s : Sight). StartsWith s.seen u.seen) (sym is) (starts_refl u.seen)
-missed_on timetable owner ask u (suc count) at front w is =
-    let looks = is.5.looks in
-    starts_trans w.seen is.0.seen u.seen
-    (starts_trans w.seen w.found.list is.0.seen looks.takes.keeps looks.takes.goes_on)
-    (missed_on timetable owner ask u count is.1 is.2 is.0 is.3)
 
 found_before_last : (v u w : Sight) (settled : ℕ) → HasLooked v u → TakesTurn u w settled
     → FoundBeforeLast (length u.seen) v w

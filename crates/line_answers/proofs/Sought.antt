@@ -41,7 +41,8 @@ use Rattle.line_answers.specs.Calls.{AnswersBetween, HasTurns, IsOf, IsSettled, 
 use Rattle.line_answers.specs.Points.{added}
 use Rattle.line_answers.specs.Tells.{TellsAgain, halt_reply}
 use Rattle.line_answers.proofs.Calls.{looked}
-use Rattle.line_answers.proofs.Many.{SoFar, answered_now, begun_last, entered_last, first_look, looked_last, next_look, not_begun_last, not_settled_last}
+use Rattle.book_gate.specs.Views.{StartsWith}
+use Rattle.line_answers.proofs.Many.{SoFar, answered_now, begun_last, entered_last, first_look, looked_last, missed_on, next_look, not_begun_last, not_settled_last}
 
 leaves : (v w : Sight) → Looks v w → (front : ℕ) → front ≡ length w.found.list
     → Leaves w.found.list w.seen front
@@ -285,6 +286,12 @@ module _ (caller : Caller) (number : ℕ) (request : Request) (after : Option �
               j.runs_are,
               j.fits joins,
               adds w j.path at behind j.entered.1,
+              record {
+                searched = m.seen;
+                since = subst (StartsWith m.seen) looks.same (missed_on caller.timetable caller.name its_ask u s.count s.at s.front m s.missed);
+                within = j.entered.0.goes_on;
+                earliest = j.earliest;
+              },
             ),
           )
           refl (λ ts all. all) (λ ts some. some))

@@ -27,7 +27,8 @@ use Rattle.reply_texts.specs.declared.replies.Reply.{Reply}
 use Rattle.reply_texts.specs.declared.replies.Reply.TheVariants as reply
 use Rattle.rule_names.specs.declared.RuleName.{RuleName}
 use Rattle.tail_states.specs.Listed.{HasMoreThan}
-use Rattle.ask_turns.specs.Searched.{AreMissed, FitsAt, IsPossibleAt}
+use Rattle.ask_turns.specs.Searched.{AreMissed, FitsAt, IsEarliestAt, IsPossibleAt}
+use Rattle.book_gate.specs.Views.{StartsWith}
 
 -- Who sends a line: what the line may name, the timetable by which it is judged, the client's name, the number of the
 -- line in its session, and the first of the client's rules that says no to the line at a history.
@@ -160,6 +161,15 @@ pub record IsSearched (caller : Caller) (line : Line) (number : ℕ) (request : 
   pub allowed : IsAllowed caller line h
   pub narrow : IsNarrow caller request
 
+-- The path is one that a search found: it could be granted at some entries, a beginning of g that has all of h, and no path
+-- that could be there leaves last earlier.
+pub record IsEarliestBetween (timetable : Timetable) (request : Request) (path : Path)
+    (h g : List Entry) : Type 0 where
+  pub searched : List Entry
+  pub since : StartsWith searched h
+  pub within : StartsWith g searched
+  pub earliest : IsEarliestAt timetable request searched path
+
 -- an entry for which the line asks joins the history, and its record has no room; for a path that is sought the entry of
 -- one that keeps the request and fits
 abbrev pub IsFull : Caller → Ask → List Entry → Type 0
@@ -181,6 +191,7 @@ Gives caller line (reply.Granted number at front runs) h g left =
     × (path.runs ≡ runs) × FitsAt caller.timetable request g path
     × Adds caller line.ask g left (entry_of caller number (Grant (Asked request) path))
     number at front
+    × IsEarliestBetween caller.timetable request path h g
 Gives caller line (reply.Freed number at freed front) h g left =
     (line.ask ≡ asks.Free number freed) × IsReached line h
     × ((entry : Entry) × Adds caller line.ask g left entry number at front)

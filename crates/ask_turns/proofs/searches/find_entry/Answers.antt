@@ -32,7 +32,7 @@ returns-clause-shown c proved =
     let front : ℕ = c.args.client.now.front in let text : List ℕ = c.seek_path.new.proof.held in
     let found = subst (IsFinding net settings live ask.request) c.in-Some.is c.in_ok-sought.ensures.found in (
       c.in-Some.path,
-      record { entry_is = c.in_ok-entry.ensures; runs_are = c.in_ok-runs.ensures; can = found.granted },
+      record { entry_is = c.in_ok-entry.ensures; runs_are = c.in_ok-runs.ensures; earliest = found },
       subst (λ (path : Option Path). IsShown known net settings live front ask path text) c.in-Some.is
           (c.in_ok-sought.ensures.shown proved),
     )

@@ -13,7 +13,7 @@ use Rattle.ask_turns.specs.declared.asks.Found.{Found}
 use Rattle.ask_turns.specs.Finds.{IsFoundBeside, entry_for}
 use Rattle.ask_turns.specs.Shown.{ShowsBeside}
 use Rattle.ask_turns.specs.Tries.{HaveMissed}
-use Rattle.ask_turns.proofs.Searching.{beside_none, entered_of, found_fits, in_range, judged, misses, none_fits}
+use Rattle.ask_turns.proofs.Searching.{beside_none, entered_of, found_earliest, in_range, judged, misses, none_fits}
 use Rattle.ask_turns.proofs.Showing.{shown_at, shown_none}
 use Rattle.ask_turns.proofs.tries.try_searches.Goals as goal
 
@@ -63,7 +63,7 @@ returns-in-Entered-clause-searched g c =
       },
       judged c.found_paths_are_judged.ensures timetable c.args.client.now.name ask client u w found.0 now.name now.copy
           (c.copies_have_ticks.ensures timetable u.seen now.copy)
-          (found_fits timetable net settings c.requires.net c.requires.settings client u.seen now.copy ask found.0 found.1.can)
+          (found_earliest timetable net settings c.requires.net c.requires.settings client u.seen now.copy ask found.0 found.1.earliest)
           it.entry found.1.entry_is
           (c.copies_have_ticks-in-loop-search.ensures timetable w.found.list c.in_ok-tried.ensures.copy)
           it.runs found.1.runs_are c.in-Entered.entered told,
@@ -81,7 +81,7 @@ loop-search-preserved g c =
     let told = subst (λ (t : Tried). HasTried timetable it.entry client.front t u w) c.in-Missed.is c.in_ok-tried.ensures.tried in
     let missed = misses c.found_paths_are_judged.ensures timetable owner ask client u w found.0 now.name now.copy
     (c.copies_have_ticks.ensures timetable u.seen now.copy)
-    (found_fits timetable net settings c.requires.net c.requires.settings client u.seen now.copy ask found.0 found.1.can)
+    (found_earliest timetable net settings c.requires.net c.requires.settings client u.seen now.copy ask found.0 found.1.earliest)
     it.entry found.1.entry_is at told in
     let next : suc c.loop-search.search ≡ c.loop-search.search + 1 = omega arith in record {
       ready = c.in_ok-tried.ensures.ready;
@@ -135,6 +135,6 @@ returns-in-Entered-clause-shown g c proved =
       subst (λ (e : Entry). HasEntered timetable e entered u w)
           (shown.1.entry_is ∙ ap (λ o. entry_for o ask shown.0) now.name)
           (entered_of timetable it.entry client.front u w entered told),
-      found_fits timetable net settings c.requires.net c.requires.settings client u.seen now.copy ask shown.0 shown.1.can,
+      (found_earliest timetable net settings c.requires.net c.requires.settings client u.seen now.copy ask shown.0 shown.1.earliest).granted,
       shown_at known timetable settings c.requires.net c.requires.settings client u.seen now.copy ask (Some shown.0) text shown.2,
     )
