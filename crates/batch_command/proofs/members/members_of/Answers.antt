@@ -3,7 +3,7 @@ use Rattle.batch_server.specs.declared.members.Member.{Member}
 use Rattle.batch_words.specs.Workers.{worker_name}
 use Rattle.client_rules.specs.declared.clients.ClientRules.{ClientRules}
 use Rattle.file_rounds.specs.Scenes.{Scene, scene}
-use Rattle.client_streams.proofs.Loans.{unchanged, unchanged_both}
+use Rattle.client_streams.proofs.Loans.{unchanged_both}
 use Rattle.batch_command.proofs.Workers.{given_more, names_more, rules_left, rules_own}
 use Rattle.batch_command.proofs.members.members_of.Goals as goal
 
@@ -28,7 +28,7 @@ loop-before-preserved g c =
     let s1 : Scene Src Snk Dsk = scene g.O.Outside c.loop-before.outside in
     let s2 : Scene Src Snk Dsk = scene g.O.Outside c.between_of-between.new.outside in
     record {
-      still = unchanged_both s0 s1 s2 c.loop-before.invariant.still c.between_of-between.ensures;
+      still = unchanged_both s0 s1 s2 c.loop-before.invariant.still c.between_of-between.ensures.same;
       names = names_more batch before all members pushed member c.in_ok-push.ensures.items c.loop-before.invariant.names named;
       given = given_more batch before all members pushed member c.in_ok-push.ensures.items c.loop-before.invariant.given own;
       others = λ other behind most.
@@ -36,3 +36,11 @@ loop-before-preserved g c =
           let differs : name ≢ c.in_ok-name.name = λ same. let one : other ≡ before + 1 = c.worker_names_differ.ensures batch other (before + 1) most (omega arith) (same ∙ named) in absurd (omega (arith, one, behind)) in
           rules_left rest slice all handed left c.loop-before.rules.len name c.take_rules.auto.all c.loop-before.rules.ok.0 (c.in_ok-own.ensures.others name differs) (c.loop-before.invariant.others other (omega (arith, behind)) most);
     }
+
+pub returns-in_err-push-clause-still : goal.returns-in_err-push-clause-still
+returns-in_err-push-clause-still g c =
+    let Src = g.row.O-Src.Denot in let Snk = g.row.O-Snk.Denot in let Dsk = g.row.O-Dsk.Denot in
+    let s0 : Scene Src Snk Dsk = scene g.O.Outside c.args.outside.now in
+    let s1 : Scene Src Snk Dsk = scene g.O.Outside c.loop-before.outside in
+    let s2 : Scene Src Snk Dsk = scene g.O.Outside c.between_of-between.new.outside in
+    unchanged_both s0 s1 s2 c.loop-before.invariant.still c.between_of-between.ensures.same
