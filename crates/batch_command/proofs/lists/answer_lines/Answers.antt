@@ -25,6 +25,7 @@ returns-in-Err g c = record {
     unwritten = refl;
     flaw = subst (λ (entries : List Entry). HasFlaw c.args.known c.args.batch.now c.args.workers entries c.args.lines.now c.in-Err.refusal) c.history.ensures.entries c.in-Err.ensures.flaw;
   };
+  still = unchanged (scene g.O.Outside c.args.outside.now);
 }
 
 pub answer_list-requires-clause-some : goal.answer_list-requires-clause-some
@@ -100,4 +101,5 @@ returns-in-Ok-answer_list g c =
         closed = c.close_book.ensures.closed;
         ends_are = subst (λ (all : List (Worked L)). IsEnds g.L.Rule batch c.write_if_told-written.result all c.ends_of-ends.result) c.deref-in-Ok-answer_list.ensures.value c.ends_of-ends.ensures.ends;
       };
+      still = c.in-Ok-members_of.ensures.still;
     }

@@ -9,4 +9,4 @@ returns g c =
     let known = c.args.known in let batch = c.args.batch.now in let workers = c.args.workers in let rules = c.args.rules.items in
     let found = c.args.book in let after = c.answer_lines.result.0 in
     let says = subst (λ (lines : List (List ℕ)). LinesSay sink disk kind known batch workers rules lines found after c.args.sink.now c.answer_lines.new.sink c.answer_lines.result.1) c.deref.ensures.value c.answer_lines.ensures.says in
-    record { says = list_by source sink disk kind known batch workers rules c.in-Ok.lines.items found after c.args.source.now c.read_list.new.source c.args.sink.now c.answer_lines.new.sink c.answer_lines.result.1 c.in-Ok.ensures.read says }
+    record { says = list_by source sink disk kind known batch workers rules c.in-Ok.lines.items found after c.args.source.now c.read_list.new.source c.args.sink.now c.answer_lines.new.sink c.answer_lines.result.1 c.in-Ok.ensures.read says; still = c.answer_lines.ensures.still }
