@@ -86,7 +86,7 @@ fault_within (reply.NotYours number at owner front) turns s below = omega arith
 fault_within (reply.AlreadyFreed number at freer front) turns s below = omega arith
 fault_within (reply.Wide number front) turns s below = omega arith
 fault_within (reply.Full number front) turns s below = omega arith
-fault_within (reply.Unsettled number at front) turns s below = in_fault turns s below
+fault_within (reply.Unsettled number at front) turns s below = in_fault turns s.fault below
 fault_within reply.DiskFault turns s below = in_fault turns s below
 fault_within reply.NoMemory turns s below = omega arith
 

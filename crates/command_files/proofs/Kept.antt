@@ -1,6 +1,6 @@
 -- Steps over files keep to their opening calls.
-use Rattle.std.proofs.Common.{◌≡◌, ◌≢◌, ℕ, List, [], ◌∷◌, Result, Ok, Err, inl, inr, sym, ap}
-use Rattle.outside_io.specs.Openings.{Opening, source_at, sink_at}
+use Rattle.std.proofs.Common.{◌≡◌, ℕ, List, [], ◌∷◌, Result, Ok, Err, inl, inr, sym, ap}
+use Rattle.outside_io.specs.Openings.{source_at, sink_at}
 use Rattle.outside_io.specs.Places.{Untouched}
 use Rattle.outside_io.proofs.Names.{name_cases}
 use Rattle.outside_io.specs.declared.sinks.Sink.{Ghosts as Sinks}

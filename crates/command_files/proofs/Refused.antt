@@ -1,5 +1,5 @@
 -- Which statuses a refusal cannot have.
-use Rattle.std.proofs.Common.{◌≡◌, ◌≢◌, ◌∙◌, ◌⊎◌, ℕ, List, Result, Ok, Err, inl, inr, sym, ap}
+use Rattle.std.proofs.Common.{◌≡◌, ◌≢◌, ◌∙◌, ℕ, List, Err, inl, inr, sym, ap}
 use Rattle.exit_status.specs.declared.Status.{Status}
 use Rattle.exit_status.specs.declared.Status.TheVariants.{Opening, Memory as wants_memory}
 use Rattle.outside_io.specs.declared.sinks.Sink.{Ghosts as Sinks}

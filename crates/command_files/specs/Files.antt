@@ -2,6 +2,7 @@
 use Rattle.std.specs.Prelude.{◌≡◌, ◌≢◌, ◌⊎◌, ℕ, List, Result, Ok, Err}
 use Rattle.sha2.specs.Sha256.{sha256}
 use Rattle.base_file.specs.Base.{base_at, ReadsAsOverlap}
+use Rattle.base_file.specs.Sound.{IsBaseOn}
 use Rattle.base_file.specs.Texts.{fault_text as base_text}
 use Rattle.base_file.specs.declared.faults.BaseFault.{BaseFault}
 use Rattle.base_file.specs.declared.faults.BaseFault.TheVariants as of_base
@@ -83,9 +84,10 @@ abbrev pub TellsBaseOf : ℕ → List ℕ → Base → Type 0
 TellsBaseOf zones bytes base =
     (quoted : List ℕ) → IsQuoted bytes quoted → base_at zones bytes quoted ≡ Ok base
 
--- the bytes are a base file with this base timetable and this digest
+-- the bytes are a base file with this base timetable, in which no two trains want one zone at once, and this digest
 pub record IsBaseFile (zones : ℕ) (bytes : List ℕ) (file : BaseFile) : Type 0 where
   pub tells : TellsBaseOf zones bytes file.base
+  pub sound : IsBaseOn zones file.base
   pub digest : file.digest ≡ sha256 bytes
 
 -- the bytes have this first fault: of reading, or the first overlap of two trains

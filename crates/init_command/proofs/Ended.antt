@@ -1,7 +1,6 @@
 -- What a run of `init` comes to.
-use Rattle.std.proofs.Common.{◌≡◌, ◌≢◌, ◌∙◌, ◌⊎◌, ℕ, List, [], ◌∷◌, Option, None, Some, Result, Ok, Err, inl, inr, refl, sym, subst, ap}
-use Rattle.outside_io.specs.Openings.{Opening, Undisturbed, source_at, disk_at}
-use Rattle.outside_io.specs.Places.{Untouched}
+use Rattle.std.proofs.Common.{◌≡◌, ◌≢◌, ◌∙◌, ℕ, List, [], ◌∷◌, Option, None, Some, Result, Ok, Err, inl, inr, sym, subst}
+use Rattle.outside_io.specs.Openings.{Opening, source_at, disk_at}
 use Rattle.outside_io.specs.declared.disks.Disk.{Ghosts as Disks}
 use Rattle.outside_io.specs.declared.sinks.Sink.{Ghosts as Sinks}
 use Rattle.outside_io.specs.declared.sources.Source.{Ghosts as Sources}
@@ -26,8 +25,8 @@ use Rattle.command_files.specs.declared.networks.NetworkFile.{NetworkFile}
 use Rattle.command_files.proofs.Kept.{file_keeps}
 use Rattle.command_files.proofs.Refused.{file_other, memory_other, told_other}
 use Rattle.path_recover.specs.Texts.{fault_text}
-use Rattle.init_command.specs.Begins.{BeginSays, BeginStep, TellsInit}
-use Rattle.init_command.specs.Moves.{MoveSays, MoveStep, TellsFrom, TellsMove, TellsText}
+use Rattle.init_command.specs.Begins.{BeginSays, TellsInit}
+use Rattle.init_command.specs.Moves.{MoveSays, TellsFrom, TellsMove, TellsText}
 use Rattle.init_command.specs.Works.{BeginOver, init_calls, IsDone, move_calls, MoveOver, ReadsBase, ReadsBoth, StepOver}
 use Rattle.init_command.proofs.Rounds.{one_disk}
 

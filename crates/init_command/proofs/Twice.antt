@@ -1,5 +1,5 @@
 -- Two disks that are open at once.
-use Rattle.std.proofs.Common.{◌≡◌, ◌≢◌, ◌∙◌, ◌++◌, ℕ, List, [], ◌∷◌, Option, None, Some, Result, Ok, Err, inl, inr, refl, sym, ap, subst}
+use Rattle.std.proofs.Common.{◌≡◌, ◌∙◌, ◌++◌, ℕ, List, [], ◌∷◌, Option, None, Some, Result, Ok, Err, inl, inr, sym, ap, subst}
 use Rattle.std.proofs.lemmas.List.{append_assoc}
 use Rattle.outside_io.specs.Faults.{Rose}
 use Rattle.outside_io.specs.declared.failures.Failed.{Failed}
@@ -7,7 +7,6 @@ use Rattle.outside_io.specs.Openings.{Opening, Opens as CallsOf, disk_at, Answer
 use Rattle.outside_io.specs.Places.{HandsOut, TakesBack, Untouched}
 use Rattle.outside_io.specs.declared.disks.Disk.{Ghosts as Disks}
 use Rattle.outside_io.proofs.Places.{Untouched-round}
-use Rattle.exit_status.specs.declared.Status.{Status}
 use Rattle.exit_status.specs.declared.Status.TheVariants.{Opening as not_opened}
 use Rattle.file_rounds.specs.Scenes.{Opens, Scene}
 use Rattle.history_reading.specs.declared.moves.MoveFault.{MoveFault}
@@ -18,7 +17,7 @@ use Rattle.command_reports.specs.Works.{Keeps}
 use Rattle.command_reports.specs.declared.refusals.Refusal.{Refusal}
 use Rattle.std.proofs.Common.{codes}
 use Rattle.init_command.specs.Disks.{ChangesOnlyDisk}
-use Rattle.init_command.specs.Moves.{calls_at, DisksKeep, DisksSay, FromSays, IsMovedTo, IsNotMoved, MoveStep, OpensBoth, TellsMove}
+use Rattle.init_command.specs.Moves.{DisksKeep, DisksSay, FromSays, IsMovedTo, IsNotMoved, MoveStep, OpensBoth, TellsMove}
 use Rattle.init_command.specs.declared.moving.NotMoved.{NotMoved}
 use Rattle.init_command.specs.declared.moving.NotMoved.TheVariants.{NotOpened, FromNotOpened, Refused}
 use Rattle.init_command.proofs.Rounds.{both_replaced, open_told, second_open, second_unready, stands_back}

@@ -1,5 +1,5 @@
 -- How a journal is begun on a disk.
-use Rattle.std.specs.Prelude.{◌≡◌, ◌⊎◌, ℕ, List, [], length, IfSome, Result, Ok, Err, codes}
+use Rattle.std.specs.Prelude.{◌≡◌, ◌⊎◌, ◌++◌, ◌∷◌, ℕ, List, [], length, IfSome, Result, Ok, Err, codes}
 use Rattle.outside_io.specs.Faults.{Rose}
 use Rattle.outside_io.specs.Openings.{disk_at}
 use Rattle.outside_io.specs.Places.{Replaces, Untouched}
@@ -19,7 +19,8 @@ use Rattle.init_command.specs.Disks.{ChangesOnlyDisk, IsNotOpened}
 use Rattle.init_command.specs.declared.beginnings.NotBegun.{NotBegun}
 use Rattle.init_command.specs.declared.beginnings.NotBegun.TheVariants.{NotOpened, Refused}
 
--- the disk was empty, and now whatever a crash leaves of it is a journal of these files without entries
+-- the disk was empty, and now whatever a crash leaves of it is a journal of these files without entries: the header and a
+-- closed gate, and nothing else
 pub record IsBegun {D : Type 0} (disk : Ghosts D) (network base : List ℕ)
     (before after : D) : Type 0 where
   pub empty : WasEmpty disk before
@@ -27,6 +28,10 @@ pub record IsBegun {D : Type 0} (disk : Ghosts D) (network base : List ℕ)
       → ReadsAs (header_of network base) [] image
   pub contents : IfSome (disk.contents after)
       (λ file. ReadsAs (header_of network base) [] file)
+  pub exact : (image : List ℕ) → disk.images after image
+      → image ≡ header_of network base ++ 0 ∷ []
+  pub exact_now : IfSome (disk.contents after)
+      (λ file. file ≡ header_of network base ++ 0 ∷ [])
   pub size : IfSome (disk.contents after) (λ file. length file ≡ 77)
   pub quiet : disk.faults after ≡ disk.faults before
 

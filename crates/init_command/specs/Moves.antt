@@ -22,7 +22,7 @@ use Rattle.command_reports.specs.Refusals.{IsTold, line_with}
 use Rattle.command_reports.specs.Works.{Keeps, KeepsTo}
 use Rattle.command_reports.specs.declared.refusals.Refusal.{Refusal}
 use Rattle.command_reports.specs.declared.refusals.Refusal.TheVariants.{Memory as wants_memory}
-use Rattle.init_command.specs.Disks.{BothReplaced, ChangesOnlyDisk, IsNotOpened}
+use Rattle.init_command.specs.Disks.{BothReplaced, IsNotOpened}
 use Rattle.init_command.specs.declared.moving.NotMoved.{NotMoved}
 use Rattle.init_command.specs.declared.moving.NotMoved.TheVariants.{NotOpened, FromNotOpened, Refused}
 

@@ -15,7 +15,7 @@ use Rattle.reply_texts.specs.declared.replies.Reply.TheVariants as reply
 use Rattle.client_turns.specs.Turns.{Looks, Sight}
 use Rattle.line_answers.specs.Answers.{Caller, Gives, GivesLine, IsReached}
 use Rattle.line_answers.specs.Callers.{AnswersLine}
-use Rattle.line_answers.specs.Calls.{AnswersBetween, EndInFault, HasTurns, IsSettled, IsToldIn, IsTurnOf, LastFound, Settle}
+use Rattle.line_answers.specs.Calls.{AnswersBetween, EndInFault, EndPending, HasTurns, IsSettled, IsToldIn, IsTurnOf, LastFound, Settle}
 use Rattle.line_answers.specs.Points.{unsettled_by}
 use Rattle.line_answers.specs.Rules.{IsReadAs}
 use Rattle.line_answers.proofs.Calls.{its_turn, positions_none}
@@ -81,7 +81,7 @@ module _ (caller : Caller) (after : Option ℕ) (number freed : ℕ) where
     all_settled : All IsSettled turns → All IsSettled (t ∷ turns)
     all_settled all = All-cons IsSettled t turns settled all
 
-    in_fault : EndInFault turns → EndInFault (t ∷ turns)
+    abbrev in_fault : EndInFault turns → EndInFault (t ∷ turns)
     in_fault ends = record {
       before = t ∷ ends.before;
       last = ends.last;
@@ -89,6 +89,9 @@ module _ (caller : Caller) (after : Option ℕ) (number freed : ℕ) where
       settled = All-cons IsSettled t ends.before settled ends.settled;
       rose = ends.rose;
     }
+
+    in_pending : EndPending turns → EndPending (t ∷ turns)
+    in_pending ends = record { fault = in_fault ends.fault; pending = ends.pending }
 
     abbrev Its : Reply → Type 0
     Its told = Behind bytes told t turns h g left
@@ -143,7 +146,7 @@ module _ (caller : Caller) (after : Option ℕ) (number freed : ℕ) where
     behind (reply.Full number front) gives settle has =
         record { gives = given (reply.Full number front) gives; same = λ none. absurd (has none); settle = all_settled settle; has_turns = some_turn }
     behind (reply.Unsettled number at front) gives settle has =
-        record { gives = given (reply.Unsettled number at front) gives; same = λ none. absurd (has none); settle = in_fault settle; has_turns = some_turn }
+        record { gives = given (reply.Unsettled number at front) gives; same = λ none. absurd (has none); settle = in_pending settle; has_turns = some_turn }
     behind reply.DiskFault gives settle has =
         record { gives = given reply.DiskFault gives; same = λ none. absurd (has none); settle = in_fault settle; has_turns = some_turn }
     behind reply.NoMemory gives settle has =

@@ -184,7 +184,7 @@ module _ (caller : Caller) (bytes : List ℕ) (v w : Sight) where
   one_settled : (settled : ℕ) → settled ≡ length w.seen → All IsSettled (its_turn settled ∷ [])
   one_settled settled is = All-push IsSettled [] (its_turn settled) (All-nil IsSettled) is
 
-  in_fault : (settled : ℕ) → Rose w.found.count w.count → EndInFault (its_turn settled ∷ [])
+  abbrev in_fault : (settled : ℕ) → Rose w.found.count w.count → EndInFault (its_turn settled ∷ [])
   in_fault settled rose =
       record { before = []; last = its_turn settled; turns_are = refl; settled = All-nil IsSettled; rose = rose }
 
@@ -239,4 +239,4 @@ module _ (caller : Caller) (bytes : List ℕ) (v w : Sight) where
         (positions_one w.found.list w.seen entry adds.left ∙ ap (λ n. n ∷ []) (sym adds.here))
         (λ client. pends_event caller entry is_of w.found.list w.seen w.found.settled taken.within adds.may.joins client adds.left)
         (inr (inr (refl, ap length adds.left ∙ length_push w.found.list entry, (0, omega arith, adds.here))))
-        (in_fault (length w.found.list) rose) (some_turn (length w.found.list))
+        (record { fault = in_fault (length w.found.list) rose; pending = refl }) (some_turn (length w.found.list))

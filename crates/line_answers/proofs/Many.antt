@@ -203,7 +203,7 @@ module _ (caller : Caller) (bytes : List ℕ) (v u w : Sight) (h : List Entry) (
   all_settled : (settled : ℕ) → settled ≡ length w.seen → All IsSettled (before ++ last settled ∷ [])
   all_settled settled is = All-push IsSettled before (last settled) so.settled is
 
-  in_fault : (settled : ℕ) → Rose w.found.count w.count → EndInFault (before ++ last settled ∷ [])
+  abbrev in_fault : (settled : ℕ) → Rose w.found.count w.count → EndInFault (before ++ last settled ∷ [])
   in_fault settled rose =
       record { before = before; last = last settled; turns_are = refl; settled = so.settled; rose = rose }
 
@@ -258,4 +258,4 @@ module _ (caller : Caller) (bytes : List ℕ) (v u w : Sight) (h : List Entry) (
         (positions_one w.found.list w.seen entry adds.left ∙ ap (λ n. n ∷ []) (sym adds.here))
         (λ client. pends_event caller entry is_of w.found.list w.seen w.found.settled takes.within adds.may.joins client adds.left)
         (inr (inr (refl, ap length adds.left ∙ length_push w.found.list entry, (0, omega arith, adds.here))))
-        (in_fault (length w.found.list) rose) (some_behind before (last (length w.found.list)))
+        (record { fault = in_fault (length w.found.list) rose; pending = refl }) (some_behind before (last (length w.found.list)))

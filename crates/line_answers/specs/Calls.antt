@@ -67,10 +67,16 @@ pub record EndInFault (turns : List Turn) : Type 0 where
   pub settled : All IsSettled before
   pub rose : Rose last.found.count last.left.count
 
--- every turn first settles what is not settled; where that fails, or the own entry's writes do, the reply tells it
+-- the same, and what the last turn found is settled, and nothing behind it
+pub record EndPending (turns : List Turn) : Type 0 where
+  pub fault : EndInFault turns
+  pub pending : fault.last.left.settled ≡ fault.last.found.entries
+
+-- every turn first settles what is not settled; where that fails, or the own entry's writes do, the reply tells it, and an
+-- entry that it calls unsettled is so
 abbrev pub Settle : Reply → List Turn → Type 0
 Settle reply.DiskFault turns = EndInFault turns
-Settle (reply.Unsettled number at front) turns = EndInFault turns
+Settle (reply.Unsettled number at front) turns = EndPending turns
 Settle other turns = All IsSettled turns
 
 -- a line that cannot be read takes no turn; want of memory may come without one; every other reply has one

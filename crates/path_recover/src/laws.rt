@@ -3,7 +3,7 @@
 ghost use Rattle.std.specs.Prelude.{◌≡◌, IfErr, IfOk};
 ghost use Rattle.rail_types.specs.Timetables.{IsTimetable, timetable_of};
 ghost use Rattle.history_reading.specs.Failing.{HasFaultCause, IsUnread};
-ghost use Rattle.path_commit.specs.Runs.{AreInRange, Grows};
+ghost use Rattle.path_commit.specs.Runs.{AreInRange, AreTurns, Grows};
 ghost use Rattle.path_recover.specs.Crashes.{IsOfFiles, IsReopened, KeepsDone, WasLeft};
 ghost use Rattle.path_recover.specs.Opening.{IsJustMade};
 
@@ -47,9 +47,9 @@ pub fn reopen<D: Disk, E: Disk>(
     }
 }
 
-/// Many turns on a book, whatever its disk does in them, and then a disk that is opened. If its bytes are what a crash of
-/// the book's disk left, a prefix of the book's history is opened, which has each entry that was told done before that
-/// crash.
+/// Many turns on a book, each answered as it came, whatever its disk does in them, and then a disk that is opened. If its
+/// bytes are what a crash of the book's disk left, a prefix of the book's history is opened, which has each entry that was
+/// told done before that crash.
 pub fn run_and_reopen<D: Disk, E: Disk>(
     alloc: Global,
     book: &mut Book<D>,
@@ -64,6 +64,8 @@ pub fn run_and_reopen<D: Disk, E: Disk>(
     requires files { IsOfFiles (timetable_of net.now base) network.now base_digest.now book.old }
     requires range { AreInRange book.old.timetable sent.now }
     ensures grows { Grows book.old book.new }
+    ensures turns { IfOk result (λ ended.
+        AreTurns D.Disk book.old sent.now ended.0.items book.new) }
     ensures opened { IfOk result (λ ended. IfOk ended.1 (λ opened.
         IsReopened D.Disk book.new (E.contents left) opened.entries)) }
     ensures made { IfOk result (λ ended. IfOk ended.1 (λ opened. IsJustMade E.Disk

@@ -45,7 +45,7 @@ pub unopened_step : {Src Snk Dsk L : Type 0} (source : Sources Src) (sink : Sink
     → IsTold not_opened (line_with (codes "open: ") name) refusal → ServeStep source sink disk rule_kind files name clients proofs rules old new (Err refusal)
 unopened_step source sink disk rule_kind files name clients proofs rules failed old new refusal refused told = record {
   says = record {
-    why = inl (record { unready = unopened_unready name failed old new refused; same = refused.object.refused; rose = refused.rose; told = told });
+    why = inl (record { unready = unopened_unready name failed old new refused; opened = refused.opened; same = refused.object.refused; rose = refused.rose; told = told });
     sources = refused.sources;
     sinks = refused.sinks;
   };

@@ -3,6 +3,7 @@ use Rattle.std.proofs.Common.{◌≡◌, ◌≢◌, ◌∙◌, ℕ, suc, List, [
 use Rattle.outside_io.specs.Faults.{Rose}
 use Rattle.outside_io.specs.declared.failures.Failed.{Failed}
 use Rattle.outside_io.specs.Openings.{Answers, disk_at, Opening, Opens as CallsOf, StandsAgain}
+use Rattle.command_reports.proofs.Steps.{silent}
 use Rattle.outside_io.specs.Places.{HandsOut, place_once_returned, Replaces, TakesBack, Untouched}
 use Rattle.outside_io.specs.declared.disks.Disk.{Ghosts as Disks}
 use Rattle.outside_io.proofs.Places.{Replaces-round}
@@ -127,6 +128,7 @@ module _ {Src Snk Dsk : Type 0} (name : List ℕ) (before after : Dsk) (s0 s1 s2
       record {
         fault = refuses.none.fault;
         opens = record { shut = disk_open; quiet = round.quiet_still ∙ (faults ∙ round.quiet) };
+        opened = opened_all [] (subst (λ (s : Scene Src Snk Dsk). CallsOf [] s1.opened s.opened) (sym refuses.same) (silent s1.opened));
         left = replaced (IsNoJournal disk files refuses.none.fault) place refuses.none.left;
         told = refuses.none.told;
       }

@@ -15,19 +15,21 @@ use Rattle.path_commit.specs.Ledgers.{Ledger}
 use Rattle.served_journals.specs.Journals.{HasNoBook, IsFound, IsFoundOnly, IsNoJournal, TellsOpen}
 use Rattle.served_journals.specs.declared.files.Files.{Files}
 
--- the name of the journal could not be opened
+-- the name of the journal could not be opened, and nothing behind it was
 pub record IsNotOpened {Src Snk Dsk : Type 0} (name : List ℕ) (old new : Scene Src Snk Dsk)
     (refusal : Refusal) : Type 0 where
   pub unready : IsReady (old.standing (disk_at name)) → ⊥
+  pub opened : AreMade old new (disk_at name ∷ [])
   pub same : Untouched old.disks new.disks
   pub rose : Rose old.faults new.faults
   pub told : IsTold not_opened (line_with (codes "open: ") name) refusal
 
--- the journal was refused
+-- the journal was opened and refused, and nothing behind it was opened
 pub record IsJournalRefused {Src Snk Dsk : Type 0} (disk : Disks Dsk) (files : Files)
     (name : List ℕ) (old new : Scene Src Snk Dsk) (refusal : Refusal) : Type 0 where
   pub fault : OpenFault
   pub opens : Opens (disk_at name) old new
+  pub opened : AreMade old new (disk_at name ∷ [])
   pub left : Replaces (IsNoJournal disk files fault) (old.disks name) (new.disks name)
   pub told : TellsOpen name fault refusal
 

@@ -1,4 +1,4 @@
-use Rattle.std.proofs.Common.{◌≡◌, List, ℕ, codes, ap, subst}
+use Rattle.std.proofs.Common.{List, ℕ, codes, subst}
 use Rattle.exit_status.specs.declared.Status.TheVariants.{Opening}
 use Rattle.file_rounds.specs.Scenes.{scene}
 use Rattle.command_reports.specs.Refusals.{IsTold, line_with}

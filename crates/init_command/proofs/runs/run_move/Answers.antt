@@ -1,4 +1,3 @@
-use Rattle.std.proofs.Common.{◌≡◌}
 use Rattle.file_rounds.specs.Scenes.{scene}
 use Rattle.command_reports.specs.Works.{Runs}
 use Rattle.command_reports.proofs.Ends.{runs_back, runs_disks, runs_sinks}
