@@ -1,5 +1,5 @@
 -- The disk of a journal, opened under its name and put back.
-use Rattle.std.specs.Prelude.{◌≡◌, ℕ, List, ◌∷◌, codes}
+use Rattle.std.specs.Prelude.{◌≡◌, ℕ, List, [], ◌∷◌, codes}
 use Rattle.client_streams.specs.Lending.{IsAsBefore}
 use Rattle.client_streams.specs.Refusing.{AreMade, IsOpen, WhyStopped}
 use Rattle.command_reports.specs.Refusals.{IsTold, line_with}
