@@ -3,16 +3,21 @@ from __future__ import annotations
 
 import random
 import subprocess
+import sys
 import time
 from dataclasses import dataclass, field
 from pathlib import Path
 
-from rules import HORIZON, Ask, Railway, Run, Train, read_blocks
 from served import TRAINS, World, make_world, peak_of, without_syncs
+
+sys.path.insert(0, str(Path(__file__).resolve().parent.parent / "tools"))
+
+from blocking_times import HORIZON, Ask, Railway, Run, blocks_of, train_of  # noqa: E402
+from table_file import read_table_text  # noqa: E402
 
 NAMES = "ABCD"
 BLOCKS_OF_SECTION = 8
-F1 = Train(*(TRAINS[0][key] for key in ("length_m", "speed", "accel", "brake", "allowance")))
+F1 = train_of(TRAINS[0])
 
 
 @dataclass(frozen=True)
@@ -56,7 +61,7 @@ def world_of(folder: Path, sections: int, trains: int, source: random.Random) ->
     folder.mkdir()
     world = make_world(folder, sections, BLOCKS_OF_SECTION)
     table = subprocess.run(world.words("list", ["network"], "--out", "stdout"), check=True, stdout=subprocess.PIPE, text=True).stdout
-    railway = Railway(read_blocks(table, world.made.infra))
+    railway = Railway(blocks_of(read_table_text(table), world.made.infra))
     planned = plan(railway, trains, source)
     world.path("base").unlink()
     return make_world(folder, sections, BLOCKS_OF_SECTION, planned), railway

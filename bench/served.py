@@ -41,7 +41,7 @@ class World:
 def make_world(folder: Path, sections: int = 8, blocks: int = 4, trains: list[dict] | None = None) -> World:
     """A corridor of so many sections of so many blocks, with these planned trains, and a journal without entries."""
     if not PROGRAM.is_file():
-        raise SystemExit(f"no program at {PROGRAM}: ./demo builds it")
+        raise SystemExit(f"no program at {PROGRAM}: tools/build makes it")
     made = corridor(sections, blocks)
     base = {"tick_s": 10, "setting": 1, "release": 1, "horizon": 17280, "journal_bytes": 268435456, "trains": trains or []}
     (folder / "network").write_text(json.dumps(made.infra))

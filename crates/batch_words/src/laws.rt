@@ -1,4 +1,4 @@
-//! Laws of the workers' names, each on a function that does nothing.
+//! Laws of the workers' names and of the limits, each on a function that does nothing.
 
 ghost use Rattle.std.specs.Prelude.{◌≡◌, ◌≤◌, ℕ, List, length};
 ghost use Rattle.rail_types.specs.Limits.{IsClientName};
@@ -17,4 +17,10 @@ pub fn worker_names_are_names()
 pub fn worker_names_differ()
     ensures { (name : List ℕ) (one other : ℕ) → one ≤ MAX_WORKERS → other ≤ MAX_WORKERS
         → worker_name name one ≡ worker_name name other → one ≡ other }
+{}
+
+/// The limits of a batch.
+pub fn limits_are_these()
+    ensures workers { MAX_WORKERS ≡ 16 }
+    ensures name_bytes { MAX_BATCH_NAME_BYTES ≡ 29 }
 {}

@@ -5,7 +5,7 @@
 mod books;
 
 use books::{commits, entries, writes};
-use outside_io::{FileOutside, Outside};
+use outside_io::{FileOutside, Locking, Outside};
 use std::{env, io};
 
 fn main(rt: HostRuntime) -> io::Result<()> {
@@ -26,7 +26,7 @@ fn measured(rt: HostRuntime, command: &str, file: &str, number: &str) -> Option<
     let Ok(count) = number.parse::<u32>() else {
         return None;
     };
-    let mut outside = FileOutside::new(rt);
+    let mut outside = FileOutside::new(rt, Locking::Exclusive);
     let Ok(disk) = outside.disk(file) else {
         return None;
     };

@@ -15,7 +15,8 @@ mod trains;
 pub use compressions::compress;
 pub use firsts::first_claim;
 pub use laws::{
-    capacities_are_told, compressions_compare, selected_trains_stand_beside_each_other,
+    capacities_are_told, compressions_compare, limits_are_these,
+    selected_trains_stand_beside_each_other,
 };
 pub use reports::capacity_of;
 pub use trains::{CapacityFault, Compressed, Link, Occupied, Stretch};

@@ -33,19 +33,19 @@ entered few (t ∷ ts) settled at e told within = ⊎_elim
     (positions_first t.found.entries (t.left.entries - t.found.entries) at (own ts) e)
 
 -- a call whose turns all settled, and the last of which found so many entries, left as many settled
-looked : (caller : Caller) (history : List Entry) (turns : List Turn) (n settled : ℕ) → turns ≢ [] → LastFound turns n → All IsSettled turns
-    → All (IsTurnOf caller history) turns → AreSettledWithin turns settled → n ≤ settled
-looked caller history [] n settled some last all events within = absurd (some refl)
-looked caller history (t ∷ []) n settled some last all events within =
+looked : (caller : Caller) (bytes : List ℕ) (history : List Entry) (turns : List Turn) (n settled : ℕ) → turns ≢ [] → LastFound turns n → All IsSettled turns
+    → All (IsTurnOf caller bytes history) turns → AreSettledWithin turns settled → n ≤ settled
+looked caller bytes history [] n settled some last all events within = absurd (some refl)
+looked caller bytes history (t ∷ []) n settled some last all events within =
     let found : t.found.entries ≡ n = last in
     let here : t.left.settled ≡ t.left.entries = All-head IsSettled t [] all in
-    let event : IsTurnOf caller history t = All-head (IsTurnOf caller history) t [] events in
+    let event : IsTurnOf caller bytes history t = All-head (IsTurnOf caller bytes history) t [] events in
     let grows = event.grows in
     let below : t.left.settled ≤ settled = All-head (λ (u : Turn). u.left.settled ≤ settled) t [] within in
     omega arith
-looked caller history (t ∷ u ∷ us) n settled some last all events within =
-    looked caller history (u ∷ us) n settled (λ none. let long = ap length none in omega arith) last (All-tail IsSettled t (u ∷ us) all)
-    (All-tail (IsTurnOf caller history) t (u ∷ us) events) (All-tail (λ (v : Turn). v.left.settled ≤ settled) t (u ∷ us) within)
+looked caller bytes history (t ∷ u ∷ us) n settled some last all events within =
+    looked caller bytes history (u ∷ us) n settled (λ none. let long = ap length none in omega arith) last (All-tail IsSettled t (u ∷ us) all)
+    (All-tail (IsTurnOf caller bytes history) t (u ∷ us) events) (All-tail (λ (v : Turn). v.left.settled ≤ settled) t (u ∷ us) within)
 
 module _ (caller : Caller) (bytes : List ℕ) (turns : List Turn) (h g left : List Entry) (settled : ℕ) (within : AreSettledWithin turns settled) where
   leaves : (r : Reply) (front k : ℕ) → Answers caller bytes r turns h g left → Leaves g left front → turns ≢ [] → All IsSettled turns
@@ -53,7 +53,7 @@ module _ (caller : Caller) (bytes : List ℕ) (turns : List Turn) (h g left : Li
   leaves r front k a told some all e =
       let same : front ≡ k = cc in
       let here = told.front_is in
-      let below = looked caller left turns (length g) settled some a.last all a.events within in
+      let below = looked caller bytes left turns (length g) settled some a.last all a.events within in
       omega arith
 
   adds : (r : Reply) (at front k : ℕ) → Answers caller bytes r turns h g left → added r ≡ at ∷ [] → unsettled_by r ≡ [] → front ≡ at + 1

@@ -5,6 +5,7 @@ use Rattle.client_lines.specs.Names.{Names}
 use Rattle.client_rules.specs.Ruled.{Ruled}
 use Rattle.client_rules.specs.Told.{told_at}
 use Rattle.grant_log.specs.Legal.{IsLegal}
+use Rattle.line_answers.specs.Callers.{are_some}
 use Rattle.line_answers.specs.Rules.{denial}
 use Rattle.path_commit.specs.Ledgers.{Ledger, settled_of}
 use Rattle.rail_types.specs.declared.entries.Entry.{Entry}
@@ -19,6 +20,7 @@ callers_of known timetable name = λ line_number rules. record {
   name = name;
   line_number = line_number;
   denied = λ history line. denial rules line;
+  ruled = are_some rules;
 }
 
 -- ---- positions and owners

@@ -12,13 +12,14 @@ const LOOKS: u64 = 10_000_000;
 // After so many looks the others are let run for a while.
 const LOOKS_BEFORE_A_REST: u64 = 5_000;
 
-/// How many replies were written to A and to B, how many searches of A and of workers found a path, and how many searches waited
-/// in vain.
+/// How many replies were written to A and to B, the number of A's last search that found a path, the numbers of all of these in
+/// turn, a decimal digit each, how many searches of workers found one, and how many searches waited in vain.
 #[derive(Drop)]
 pub struct Signals {
     of_a: AtomicU64,
     of_b: AtomicU64,
     searches: AtomicU64,
+    numbers: AtomicU64,
     of_workers: AtomicU64,
     in_vain: AtomicU64,
 }
@@ -47,6 +48,7 @@ impl Signals {
             of_a: AtomicU64::new(0),
             of_b: AtomicU64::new(0),
             searches: AtomicU64::new(0),
+            numbers: AtomicU64::new(0),
             of_workers: AtomicU64::new(0),
             in_vain: AtomicU64::new(0),
         };
@@ -68,7 +70,15 @@ impl Signals {
 
     /// Tells that A's search of this number found a path.
     pub fn found(&self, search: u64) {
+        let before = self.numbers.load(Ordering::SeqCst);
+        let numbers = before.saturating_mul(10).saturating_add(search);
+        self.numbers.store(numbers, Ordering::SeqCst);
         self.searches.store(search, Ordering::SeqCst);
+    }
+
+    /// The numbers of A's searches that found a path, in turn, a decimal digit each.
+    pub fn numbers(&self) -> u64 {
+        self.numbers.load(Ordering::SeqCst)
     }
 
     /// Tells that one more search of a worker found a path.

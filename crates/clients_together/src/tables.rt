@@ -259,9 +259,10 @@ fn print_proofs<R: Print>(rt: &R, aside: &Option<Heard>) -> io::Result<()> {
     Ok(())
 }
 
-// Prints how many searches of workers found a path, and how many searches waited in vain.
+// Prints the numbers of A's searches that found a path, how many searches of workers did, and how many searches waited in vain.
 fn print_searches<R: Print>(rt: &R, signals: &Signals) -> io::Result<()> {
+    let numbers = signals.numbers();
     let found = signals.of_workers();
     let in_vain = signals.in_vain();
-    println!(rt; "  searches of workers {found}, waits in vain {in_vain}")
+    println!(rt; "  searches of A {numbers}, of workers {found}, waits in vain {in_vain}")
 }

@@ -143,6 +143,27 @@ pub fn fill(alloc: Global, file: &mut NamedFile, count: u64, text: &str) -> io::
     Ok(())
 }
 
+/// Puts a text so many times behind the bytes of a file, each time with the next number, from 1 on, in the place of each `#`.
+pub fn count(alloc: Global, file: &mut NamedFile, times: u64, text: &str) -> io::Result<()> {
+    for before in 0..times {
+        let number = before.saturating_add(1);
+        add_numbered(file, &format!(in alloc; "{number}")?, text)?;
+    }
+    Ok(())
+}
+
+// Puts a text behind the bytes of a file, with a number in the place of each `#`.
+fn add_numbered(file: &mut NamedFile, number: &str, text: &str) -> io::Result<()> {
+    for byte in text.as_bytes() {
+        if *byte == b'#' {
+            file.bytes.extend_from_slice(number.as_bytes())?;
+        } else {
+            file.bytes.push(*byte)?;
+        }
+    }
+    Ok(())
+}
+
 // The bytes that a text tells in hexadecimal.
 fn bytes_in(alloc: Global, text: &str) -> io::Result<Vec<u8>> {
     match hex::decode(alloc, text) {

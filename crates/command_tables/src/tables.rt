@@ -1,7 +1,7 @@
 //! A table's lines, one after another.
 
 use crate::files::{
-    NamedFile, add_line, begin_file, behind, bytes_of, copy_file, cut, fill, first_word,
+    NamedFile, add_line, begin_file, behind, bytes_of, copy_file, count, cut, fill, first_word,
     not_understood, number_of, numbers_of, put, replace,
 };
 use crate::fused::Fused;
@@ -218,8 +218,12 @@ fn edit(alloc: Global, table: &mut Table, word: &str, rest: &str) -> io::Result<
             put(alloc, last_file(&mut table.files)?, number_of(at)?, text)
         }
         "fill" => {
-            let (count, text) = first_word(rest);
-            fill(alloc, last_file(&mut table.files)?, number_of(count)?, text)
+            let (times, text) = first_word(rest);
+            fill(alloc, last_file(&mut table.files)?, number_of(times)?, text)
+        }
+        "count" => {
+            let (times, text) = first_word(rest);
+            count(alloc, last_file(&mut table.files)?, number_of(times)?, text)
         }
         _ => Err(not_understood()),
     }

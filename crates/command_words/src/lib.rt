@@ -7,12 +7,14 @@ mod checks;
 mod demos;
 mod file_names;
 mod grants;
+mod laws;
 mod orders;
 mod reading;
 mod serves;
 
 pub use batch_words::{MAX_BATCH_NAME_BYTES, MAX_WORKERS};
 pub use client_words::ClientWord;
+pub use laws::limits_are_these;
 pub use option_words::{Text, WordsFault};
 pub use orders::{MAX_DEMO_NUMBER, Order};
 pub use proof_words::ProofWord;

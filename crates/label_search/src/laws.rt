@@ -11,6 +11,8 @@ ghost use Rattle.label_search.specs.declared.limits.Limits.{Limits as limits_typ
 ghost use Rattle.label_search.specs.Limits.{IsConsistent, IsUnlimited};
 ghost use Rattle.label_search.specs.Closed.{IsClosed, IsClosedBelow, IsHeld, before};
 
+use crate::plans::LATEST;
+
 /// Where members are closed no path is possible, and where they are closed for a window of arrival that ends before
 /// a tick, each path that fits arrives at that tick or later.
 pub fn closed_members_exclude_paths()
@@ -38,4 +40,9 @@ pub fn closed_below_all_is_closed()
     ensures same { (plan : plan_type) (trip : trip_type) (book : Book) (limits : limits_type)
         (members : List member_type) → IsUnlimited plan limits
         → (IsClosed plan trip book members ↔ IsClosedBelow plan limits trip book (IsHeld members)) }
+{}
+
+/// The limit of the ticks of a plan.
+pub fn limits_are_these()
+    ensures { LATEST ≡ pos 1000000000 }
 {}

@@ -18,6 +18,7 @@ pub use finds::{Finding, find, find_below};
 pub use labels::{Label, Origin};
 pub use laws::{
     closed_below_all_is_closed, closed_below_excludes_earlier_paths, closed_members_exclude_paths,
+    limits_are_these,
 };
 pub use limits::{Ahead, Limits};
 pub use plans::{LATEST, Member, Move, Place, Plan, Step, Target, Trip};

@@ -1,7 +1,8 @@
 -- A line that frees an entry, answered behind a turn that looked.
-use Rattle.std.proofs.Common.{◌≡◌, ◌≢◌, ℕ, ◌+◌, ◌<◌, All, List, [], ◌∷◌, ◌++◌, Option, length, ap, sym, ◌∙◌, refl, arith, append_assoc, length-append}
+use Rattle.std.proofs.Common.{◌≡◌, ◌≢◌, ℕ, ◌+◌, ◌<◌, true, false, All, List, [], ◌∷◌, ◌++◌, Option, length, ap, sym, ◌∙◌, refl, arith, append_assoc, length-append, subst}
 use Rattle.std.proofs.lemmas.List.Elements.{All-cons}
 use mathlib.Core.Logic.{inl, ⊎_elim}
+use Rattle.admission_rules.specs.declared.rules.Rule.{Ghosts as Rules}
 use Rattle.book_gate.specs.declared.views.Turn.{Turn}
 use Rattle.book_gate.specs.Views.{StartsWith, own}
 use Rattle.client_lines.specs.Cuts.{fields_of}
@@ -9,13 +10,14 @@ use Rattle.client_lines.specs.Forms.{Spells}
 use Rattle.client_lines.specs.Lines.{a_line}
 use Rattle.client_lines.specs.declared.asks.Ask.TheVariants as asks
 use Rattle.client_lines.specs.declared.asks.Line.{Line}
+use Rattle.client_rules.specs.Ruled.{stand}
 use Rattle.rail_types.specs.declared.entries.Entry.{Entry}
 use Rattle.reply_texts.specs.declared.replies.Reply.{Reply}
 use Rattle.reply_texts.specs.declared.replies.Reply.TheVariants as reply
 use Rattle.client_turns.specs.Turns.{Looks, Sight}
 use Rattle.line_answers.specs.Answers.{Caller, Gives, GivesLine, IsReached}
-use Rattle.line_answers.specs.Callers.{AnswersLine}
-use Rattle.line_answers.specs.Calls.{AnswersBetween, EndInFault, EndPending, HasTurns, IsSettled, IsToldIn, IsTurnOf, LastFound, Settle}
+use Rattle.line_answers.specs.Callers.{AnswersLine, are_some}
+use Rattle.line_answers.specs.Calls.{AnswersBetween, AreSearches, EndInFault, EndPending, HasTurns, IsSettled, IsToldIn, IsTurnOf, LastFound, Settle, TakesOneTurn}
 use Rattle.line_answers.specs.Points.{unsettled_by}
 use Rattle.line_answers.specs.Rules.{IsReadAs}
 use Rattle.line_answers.proofs.Calls.{its_turn, positions_none}
@@ -26,6 +28,15 @@ last_behind : (t : Turn) (turns : List Turn) (n : ℕ) → LastFound turns n
     → (turns ≡ [] → t.found.entries ≡ n) → LastFound (t ∷ turns) n
 last_behind t [] n last none = none refl
 last_behind t (u ∷ us) n last none = last
+
+-- where there are rules, there are some as they stand
+pub some_stand : {L : Type 0} (kind : Rules L) (rules : List L) → 0 < length rules
+    → are_some (stand kind rules) ≡ true
+some_stand kind [] some = absurd (omega arith)
+some_stand kind (rule ∷ rules) some = refl
+
+true_false : true ≡ false → ⊥
+true_false wrong = cc
 
 module _ (caller : Caller) (after : Option ℕ) (number freed : ℕ) where
   abbrev line : Line
@@ -71,6 +82,7 @@ module _ (caller : Caller) (after : Option ℕ) (number freed : ℕ) where
     same : turns ≡ [] → left ≡ g
     settle : Settle told (t ∷ turns)
     has_turns : HasTurns told (t ∷ turns)
+    searches : AreSearches caller bytes told (t ∷ turns) h g
 
   module _ (bytes : List ℕ) (read : IsReadAs caller.known bytes (record { after = after; ask = asks.Free number freed }))
       (h h' g left : List Entry) (reached : IsReached (record { after = after; ask = asks.Free number freed }) h)
@@ -105,59 +117,65 @@ module _ (caller : Caller) (after : Option ℕ) (number freed : ℕ) where
     behind : (told : Reply) → GivesLine caller bytes told h' g left → Settle told turns → HasTurns told turns
         → Behind bytes told t turns h g left
     behind (reply.Held number at front) gives settle has =
-        record { gives = given (reply.Held number at front) gives; same = λ none. absurd (has none); settle = all_settled settle; has_turns = some_turn }
+        record { gives = given (reply.Held number at front) gives; same = λ none. absurd (has none); settle = all_settled settle; has_turns = some_turn; searches = tt }
     behind (reply.Pinned number at front) gives settle has =
-        record { gives = given (reply.Pinned number at front) gives; same = λ none. absurd (has none); settle = all_settled settle; has_turns = some_turn }
+        record { gives = given (reply.Pinned number at front) gives; same = λ none. absurd (has none); settle = all_settled settle; has_turns = some_turn; searches = tt }
     behind (reply.Granted number at front runs) gives settle has =
-        record { gives = given (reply.Granted number at front runs) gives; same = λ none. absurd (has none); settle = all_settled settle; has_turns = some_turn }
+        record { gives = given (reply.Granted number at front runs) gives; same = λ none. absurd (has none); settle = all_settled settle; has_turns = some_turn; searches = tt }
     behind (reply.Freed number at freed front) gives settle has =
-        record { gives = given (reply.Freed number at freed front) gives; same = λ none. absurd (has none); settle = all_settled settle; has_turns = some_turn }
+        record { gives = given (reply.Freed number at freed front) gives; same = λ none. absurd (has none); settle = all_settled settle; has_turns = some_turn; searches = tt }
     behind (reply.Kept number at front deed) gives settle has =
-        record { gives = given (reply.Kept number at front deed) gives; same = λ none. absurd (has none); settle = all_settled settle; has_turns = some_turn }
+        record { gives = given (reply.Kept number at front deed) gives; same = λ none. absurd (has none); settle = all_settled settle; has_turns = some_turn; searches = tt }
     behind (reply.Shown at front entry freer) gives settle has =
-        record { gives = given (reply.Shown at front entry freer) gives; same = λ none. absurd (has none); settle = all_settled settle; has_turns = some_turn }
+        record { gives = given (reply.Shown at front entry freer) gives; same = λ none. absurd (has none); settle = all_settled settle; has_turns = some_turn; searches = tt }
     behind (reply.Front front) gives settle has =
-        record { gives = given (reply.Front front) gives; same = λ none. absurd (has none); settle = all_settled settle; has_turns = some_turn }
+        record { gives = given (reply.Front front) gives; same = λ none. absurd (has none); settle = all_settled settle; has_turns = some_turn; searches = tt }
     behind (reply.Bad field) gives settle has = absurd (read.right field gives.0)
     behind (reply.Denied number rule front) gives settle has =
-        record { gives = given (reply.Denied number rule front) gives; same = λ none. absurd (has none); settle = all_settled settle; has_turns = some_turn }
+        record { gives = given (reply.Denied number rule front) gives; same = λ none. absurd (has none); settle = all_settled settle; has_turns = some_turn; searches = tt }
     behind (reply.Ahead named front) gives settle has =
-        record { gives = given (reply.Ahead named front) gives; same = λ none. absurd (has none); settle = all_settled settle; has_turns = some_turn }
+        record { gives = given (reply.Ahead named front) gives; same = λ none. absurd (has none); settle = all_settled settle; has_turns = some_turn; searches = tt }
     behind (reply.Other number at front) gives settle has =
-        record { gives = given (reply.Other number at front) gives; same = λ none. absurd (has none); settle = all_settled settle; has_turns = some_turn }
+        record { gives = given (reply.Other number at front) gives; same = λ none. absurd (has none); settle = all_settled settle; has_turns = some_turn; searches = tt }
     behind (reply.Gone number at freer front) gives settle has =
-        record { gives = given (reply.Gone number at freer front) gives; same = λ none. absurd (has none); settle = all_settled settle; has_turns = some_turn }
+        record { gives = given (reply.Gone number at freer front) gives; same = λ none. absurd (has none); settle = all_settled settle; has_turns = some_turn; searches = tt }
     behind (reply.Taken number zone owner front) gives settle has =
-        record { gives = given (reply.Taken number zone owner front) gives; same = λ none. absurd (has none); settle = all_settled settle; has_turns = some_turn }
+        record { gives = given (reply.Taken number zone owner front) gives; same = λ none. absurd (has none); settle = all_settled settle; has_turns = some_turn; searches = tt }
     behind (reply.Breaks number run rule front) gives settle has =
-        record { gives = given (reply.Breaks number run rule front) gives; same = λ none. absurd (has none); settle = all_settled settle; has_turns = some_turn }
+        record { gives = given (reply.Breaks number run rule front) gives; same = λ none. absurd (has none); settle = all_settled settle; has_turns = some_turn; searches = tt }
     behind (reply.NoPath number front) gives settle has =
-        record { gives = given (reply.NoPath number front) gives; same = λ none. absurd (has none); settle = all_settled settle; has_turns = some_turn }
+        record { gives = given (reply.NoPath number front) gives; same = λ none. absurd (has none); settle = all_settled settle; has_turns = some_turn; searches = tt }
     behind (reply.Again number at searched front) gives settle has =
-        record { gives = given (reply.Again number at searched front) gives; same = λ none. absurd (has none); settle = all_settled settle; has_turns = some_turn }
+        absurd (its_line caller line h' g left bytes read (reply.Again number at searched front) gives).1.sought
     behind (reply.Unknown at front) gives settle has =
-        record { gives = given (reply.Unknown at front) gives; same = λ none. absurd (has none); settle = all_settled settle; has_turns = some_turn }
+        record { gives = given (reply.Unknown at front) gives; same = λ none. absurd (has none); settle = all_settled settle; has_turns = some_turn; searches = tt }
     behind (reply.NotYours number at owner front) gives settle has =
-        record { gives = given (reply.NotYours number at owner front) gives; same = λ none. absurd (has none); settle = all_settled settle; has_turns = some_turn }
+        record { gives = given (reply.NotYours number at owner front) gives; same = λ none. absurd (has none); settle = all_settled settle; has_turns = some_turn; searches = tt }
     behind (reply.AlreadyFreed number at freer front) gives settle has =
-        record { gives = given (reply.AlreadyFreed number at freer front) gives; same = λ none. absurd (has none); settle = all_settled settle; has_turns = some_turn }
+        record { gives = given (reply.AlreadyFreed number at freer front) gives; same = λ none. absurd (has none); settle = all_settled settle; has_turns = some_turn; searches = tt }
     behind (reply.Wide number front) gives settle has =
-        record { gives = given (reply.Wide number front) gives; same = λ none. absurd (has none); settle = all_settled settle; has_turns = some_turn }
+        record { gives = given (reply.Wide number front) gives; same = λ none. absurd (has none); settle = all_settled settle; has_turns = some_turn; searches = tt }
     behind (reply.Full number front) gives settle has =
-        record { gives = given (reply.Full number front) gives; same = λ none. absurd (has none); settle = all_settled settle; has_turns = some_turn }
+        record { gives = given (reply.Full number front) gives; same = λ none. absurd (has none); settle = all_settled settle; has_turns = some_turn; searches = tt }
     behind (reply.Unsettled number at front) gives settle has =
-        record { gives = given (reply.Unsettled number at front) gives; same = λ none. absurd (has none); settle = in_pending settle; has_turns = some_turn }
+        record { gives = given (reply.Unsettled number at front) gives; same = λ none. absurd (has none); settle = in_pending settle; has_turns = some_turn; searches = tt }
     behind reply.DiskFault gives settle has =
-        record { gives = given reply.DiskFault gives; same = λ none. absurd (has none); settle = in_fault settle; has_turns = some_turn }
+        record { gives = given reply.DiskFault gives; same = λ none. absurd (has none); settle = in_fault settle; has_turns = some_turn; searches = tt }
     behind reply.NoMemory gives settle has =
-        record { gives = gives; same = λ none. gives; settle = all_settled settle; has_turns = tt }
+        record { gives = gives; same = λ none. gives; settle = all_settled settle; has_turns = tt; searches = tt }
 
-  -- a line answered behind a turn that looked is answered by both together
-  pub look_first : (v u w : Sight) → Looks v u
+  several : caller.ruled ≡ true → (said : Line) → said ≡ record { after = after; ask = asks.Free number freed }
+      → TakesOneTurn caller.ruled said.ask → ⊥
+  several ruled said is one =
+      let none : caller.ruled ≡ false = subst (λ (l : Line). TakesOneTurn caller.ruled l.ask) is one in
+      absurd (true_false (sym ruled ∙ none))
+
+  -- a line answered behind a turn that looked is answered by both together, where the client has rules
+  pub look_first : caller.ruled ≡ true → (v u w : Sight) → Looks v u
       → IsReached (record { after = after; ask = asks.Free number freed }) u.found.list → (told : Reply)
       → AnswersLine caller (record { after = after; ask = asks.Free number freed }) told u w
       → AnswersLine caller (record { after = after; ask = asks.Free number freed }) told v w
-  look_first v u w looks reached told answers bytes read =
+  look_first ruled v u w looks reached told answers bytes read =
       let b : AnswersBetween caller bytes told u w = answers bytes read in
       let so = b.answers in
       let t : Turn = its_turn caller bytes v u (length u.seen) in
@@ -182,10 +200,12 @@ module _ (caller : Caller) (after : Option ℕ) (number freed : ℕ) where
               (λ none. ap length (sym looks.same ∙ sym (b.still none) ∙ is.same none));
           later = starts_trans b.g b.h h so.later later;
           own_entries = ap (λ l. l ++ own b.turns) (positions_none h u.seen looks.same) ∙ so.own_entries;
-          events = All-cons (IsTurnOf caller w.seen) t b.turns
-              (turn_longer caller w.seen u.seen all t (looked_turn caller bytes v u looks)) so.events;
+          events = All-cons (IsTurnOf caller bytes w.seen) t b.turns
+              (turn_longer caller bytes w.seen u.seen all t (looked_turn caller bytes v u looks)) so.events;
           in_step = All-cons (IsToldIn (unsettled_by told)) t b.turns (inl refl) so.in_step;
           settle = is.settle;
           turns_are = is.has_turns;
+          at_once = λ said spelled one. absurd (several ruled said (read.only said spelled) one);
+          searches = is.searches;
         };
       }

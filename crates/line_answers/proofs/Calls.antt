@@ -17,18 +17,50 @@ use Rattle.reply_texts.specs.declared.replies.Reply.{Reply}
 use Rattle.reply_texts.specs.declared.replies.Reply.TheVariants as reply
 use Rattle.client_turns.specs.Turns.{CannotBegin, CannotSettle, IsAdded, Looks, Sight, TakesTurn}
 use Rattle.line_answers.specs.Answers.{Caller, GivesLine}
-use Rattle.line_answers.specs.Calls.{AnswersBetween, EndInFault, HasTurns, IsOf, IsSettled, IsToldIn, IsTurnOf, Settle, TakesEvent, TakesEvents, pair}
+use Rattle.line_answers.specs.Calls.{AnswersBetween, AreSearches, EndInFault, HasTurns, IsOf, IsSettled, IsToldIn, IsTurnOf, Settle, TakesEvent, TakesEvents, pair}
 use Rattle.line_answers.specs.Points.{added, unsettled_by}
 
 pub starts_refl : {X : Type 0} (a : List X) → StartsWith a a
 starts_refl a = ([], sym (append-nil a))
 
+-- a reply but that three searches were missed
+abbrev pub IsNotAgain : Reply → Type 0
+IsNotAgain (reply.Again number at searched front) = ⊥
+IsNotAgain other = Unit {0}
+
+pub not_searched : (caller : Caller) (bytes : List ℕ) (told : Reply) (turns : List Turn) (h g : List Entry)
+    → IsNotAgain told → AreSearches caller bytes told turns h g
+not_searched caller bytes (reply.Held number at front) turns h g other = tt
+not_searched caller bytes (reply.Pinned number at front) turns h g other = tt
+not_searched caller bytes (reply.Granted number at front runs) turns h g other = tt
+not_searched caller bytes (reply.Freed number at freed front) turns h g other = tt
+not_searched caller bytes (reply.Kept number at front deed) turns h g other = tt
+not_searched caller bytes (reply.Shown at front entry freer) turns h g other = tt
+not_searched caller bytes (reply.Front front) turns h g other = tt
+not_searched caller bytes (reply.Bad field) turns h g other = tt
+not_searched caller bytes (reply.Denied number rule front) turns h g other = tt
+not_searched caller bytes (reply.Ahead named front) turns h g other = tt
+not_searched caller bytes (reply.Other number at front) turns h g other = tt
+not_searched caller bytes (reply.Gone number at freer front) turns h g other = tt
+not_searched caller bytes (reply.Taken number zone owner front) turns h g other = tt
+not_searched caller bytes (reply.Breaks number run rule front) turns h g other = tt
+not_searched caller bytes (reply.NoPath number front) turns h g other = tt
+not_searched caller bytes (reply.Again number at searched front) turns h g other = absurd other
+not_searched caller bytes (reply.Unknown at front) turns h g other = tt
+not_searched caller bytes (reply.NotYours number at owner front) turns h g other = tt
+not_searched caller bytes (reply.AlreadyFreed number at freer front) turns h g other = tt
+not_searched caller bytes (reply.Wide number front) turns h g other = tt
+not_searched caller bytes (reply.Full number front) turns h g other = tt
+not_searched caller bytes (reply.Unsettled number at front) turns h g other = tt
+not_searched caller bytes reply.DiskFault turns h g other = tt
+not_searched caller bytes reply.NoMemory turns h g other = tt
+
 -- ---- a call without a turn
 
 pub untaken : (caller : Caller) (bytes : List ℕ) (told : Reply) (v : Sight)
-    → GivesLine caller bytes told v.seen v.seen v.seen → added told ≡ [] → Settle told []
+    → GivesLine caller bytes told v.seen v.seen v.seen → added told ≡ [] → IsNotAgain told → Settle told []
     → HasTurns told [] → AnswersBetween caller bytes told v v
-untaken caller bytes told v gives none settle turns = record {
+untaken caller bytes told v gives none other settle turns = record {
   turns = [];
   h = v.seen;
   g = v.seen;
@@ -43,56 +75,58 @@ untaken caller bytes told v gives none settle turns = record {
     last = tt;
     later = starts_refl v.seen;
     own_entries = sym none;
-    events = All-nil (IsTurnOf caller v.seen);
+    events = All-nil (IsTurnOf caller bytes v.seen);
     in_step = All-nil (IsToldIn (unsettled_by told));
     settle = settle;
     turns_are = turns;
+    at_once = λ line spelled one. record { few = omega arith; same = refl };
+    searches = not_searched caller bytes told [] v.seen v.seen other;
   };
 }
 
 -- ---- events
 
 -- an event behind a settling, if there was something to settle
-settled_first : (caller : Caller) (client : ℕ) (entries : List Entry) (settled : ℕ) (new : Pair)
-    → settled ≤ length entries → TakesEvent caller client (pair entries (length entries)) new
-    → TakesEvents caller client (pair entries settled) new
-settled_first caller client entries settled new within one =
+settled_first : (caller : Caller) (bytes : List ℕ) (client : ℕ) (entries : List Entry) (settled : ℕ) (new : Pair)
+    → settled ≤ length entries → TakesEvent caller bytes client (pair entries (length entries)) new
+    → TakesEvents caller bytes client (pair entries settled) new
+settled_first caller bytes client entries settled new within one =
     ⊎_elim
     (λ less. inr (inl (pair entries (length entries), (less, refl), one)))
     (λ not_less. let same : length entries ≡ settled = omega arith in
-    inl (subst (λ n. TakesEvent caller client (pair entries n) new) same one))
+    inl (subst (λ n. TakesEvent caller bytes client (pair entries n) new) same one))
     (cases_lt settled (length entries))
 
-pub looks_event : (caller : Caller) (client : ℕ) (found left : List Entry) (settled : ℕ)
+pub looks_event : (caller : Caller) (bytes : List ℕ) (client : ℕ) (found left : List Entry) (settled : ℕ)
     → settled ≤ length found → left ≡ found
-    → TakesEvents caller client (pair found settled) (pair left (length left))
-looks_event caller client found left settled within same =
-    settled_first caller client found settled (pair left (length left)) within
+    → TakesEvents caller bytes client (pair found settled) (pair left (length left))
+looks_event caller bytes client found left settled within same =
+    settled_first caller bytes client found settled (pair left (length left)) within
     (event.Turn client, refl, (refl, ap (λ l. pair l (length l)) same))
 
-module _ (caller : Caller) (entry : Entry) (is_of : IsOf caller entry) (found left : List Entry)
+module _ (caller : Caller) (bytes : List ℕ) (entry : Entry) (is_of : IsOf caller bytes entry) (found left : List Entry)
     (settled : ℕ) (within : settled ≤ length found) (joins : Joins caller.timetable found entry) where
   pub enters_event : (client : ℕ) → left ≡ found ++ entry ∷ []
-      → TakesEvents caller client (pair found settled) (pair left (length left))
+      → TakesEvents caller bytes client (pair found settled) (pair left (length left))
   enters_event client more =
       let long : length left ≡ length found + 1 = ap length more ∙ length_push found entry in
       let new : pair left (length left) ≡ pair (found ++ entry ∷ []) (length found + 1) =
       ap (λ l. pair l (length left)) more ∙ ap (pair (found ++ entry ∷ [])) long in
-      settled_first caller client found settled (pair left (length left)) within
+      settled_first caller bytes client found settled (pair left (length left)) within
       (by_deed client new (takes entry.deed) refl)
     where
       by_deed : (client : ℕ) → pair left (length left) ≡ pair (found ++ entry ∷ []) (length found + 1)
           → (kind : Bool) → takes entry.deed ≡ kind
-          → TakesEvent caller client (pair found (length found)) (pair left (length left))
+          → TakesEvent caller bytes client (pair found (length found)) (pair left (length left))
       by_deed client new true is =
           (event.Commit client entry, (refl, is_of), (record { settled = refl; joins = joins }, is, new))
       by_deed client new false is =
           (event.Free client entry, (refl, is_of), (record { settled = refl; joins = joins }, is, new))
 
   pub pends_event : (client : ℕ) → left ≡ found ++ entry ∷ []
-      → TakesEvents caller client (pair found settled) (pair left (length found))
+      → TakesEvents caller bytes client (pair found settled) (pair left (length found))
   pends_event client more =
-      settled_first caller client found settled (pair left (length found)) within (
+      settled_first caller bytes client found settled (pair left (length found)) within (
         event.Fault client entry Gate,
         (refl, is_of),
         (
@@ -102,9 +136,9 @@ module _ (caller : Caller) (entry : Entry) (is_of : IsOf caller entry) (found le
       )
 
   pub fails_event : (client : ℕ) → left ≡ found
-      → TakesEvents caller client (pair found settled) (pair left (length left))
+      → TakesEvents caller bytes client (pair found settled) (pair left (length left))
   fails_event client same =
-      settled_first caller client found settled (pair left (length left)) within (
+      settled_first caller bytes client found settled (pair left (length left)) within (
         event.Fault client entry Record,
         (refl, is_of),
         (
@@ -132,8 +166,8 @@ module _ (caller : Caller) (bytes : List ℕ) (v w : Sight) where
       turn w.ticket w.found (record { list = w.seen; settled = settled; count = w.count })
 
   pub is_turn : (settled : ℕ) → TakesTurn v w settled
-      → ((client : ℕ) → TakesEvents caller client (pair w.found.list w.found.settled) (pair w.seen settled))
-      → IsTurnOf caller w.seen (its_turn settled)
+      → ((client : ℕ) → TakesEvents caller bytes client (pair w.found.list w.found.settled) (pair w.seen settled))
+      → IsTurnOf caller bytes w.seen (its_turn settled)
   is_turn settled taken event =
       let rest : List Entry = taken.keeps.0 in
       let long : length w.seen ≡ length w.found.list + length rest =
@@ -146,8 +180,8 @@ module _ (caller : Caller) (bytes : List ℕ) (v w : Sight) where
         grows = omega arith;
         within = omega arith;
         event = λ client.
-            subst (λ l. TakesEvents caller client (pair l w.found.settled) (pair (take (length w.seen) w.seen) settled)) (sym before)
-            (subst (λ l. TakesEvents caller client (pair w.found.list w.found.settled) (pair l settled)) (sym after) (event client));
+            subst (λ l. TakesEvents caller bytes client (pair l w.found.settled) (pair (take (length w.seen) w.seen) settled)) (sym before)
+            (subst (λ l. TakesEvents caller bytes client (pair w.found.list w.found.settled) (pair l settled)) (sym after) (event client));
       }
 
   some_turn : (settled : ℕ) → its_turn settled ∷ [] ≢ []
@@ -156,10 +190,10 @@ module _ (caller : Caller) (bytes : List ℕ) (v w : Sight) where
   answered : (told : Reply) (settled : ℕ) → TakesTurn v w settled
       → GivesLine caller bytes told w.found.list w.found.list w.seen
       → positions (length w.found.list) (length w.seen - length w.found.list) ≡ added told
-      → ((client : ℕ) → TakesEvents caller client (pair w.found.list w.found.settled) (pair w.seen settled))
-      → IsToldIn (unsettled_by told) (its_turn settled) → Settle told (its_turn settled ∷ [])
+      → ((client : ℕ) → TakesEvents caller bytes client (pair w.found.list w.found.settled) (pair w.seen settled))
+      → IsToldIn (unsettled_by told) (its_turn settled) → IsNotAgain told → Settle told (its_turn settled ∷ [])
       → HasTurns told (its_turn settled ∷ []) → AnswersBetween caller bytes told v w
-  answered told settled taken gives mine event told_in settle turns = record {
+  answered told settled taken gives mine event told_in other settle turns = record {
     turns = its_turn settled ∷ [];
     h = w.found.list;
     g = w.found.list;
@@ -174,10 +208,12 @@ module _ (caller : Caller) (bytes : List ℕ) (v w : Sight) where
       last = refl;
       later = starts_refl w.found.list;
       own_entries = append-nil (positions (length w.found.list) (length w.seen - length w.found.list)) ∙ mine;
-      events = All-push (IsTurnOf caller w.seen) [] (its_turn settled) (All-nil (IsTurnOf caller w.seen)) (is_turn settled taken event);
+      events = All-push (IsTurnOf caller bytes w.seen) [] (its_turn settled) (All-nil (IsTurnOf caller bytes w.seen)) (is_turn settled taken event);
       in_step = All-push (IsToldIn (unsettled_by told)) [] (its_turn settled) (All-nil (IsToldIn (unsettled_by told))) told_in;
       settle = settle;
       turns_are = turns;
+      at_once = λ line spelled one. record { few = omega arith; same = refl };
+      searches = not_searched caller bytes told (its_turn settled ∷ []) w.found.list w.found.list other;
     };
   }
 
@@ -189,13 +225,13 @@ module _ (caller : Caller) (bytes : List ℕ) (v w : Sight) where
       record { before = []; last = its_turn settled; turns_are = refl; settled = All-nil IsSettled; rose = rose }
 
   pub looked : (told : Reply) → Looks v w → GivesLine caller bytes told w.found.list w.found.list w.seen
-      → added told ≡ [] → ((ts : List Turn) → All IsSettled ts → Settle told ts)
+      → added told ≡ [] → IsNotAgain told → ((ts : List Turn) → All IsSettled ts → Settle told ts)
       → ((ts : List Turn) → ts ≢ [] → HasTurns told ts) → AnswersBetween caller bytes told v w
-  looked told looks gives none settles turns =
+  looked told looks gives none other settles turns =
       answered told (length w.seen) looks.takes gives
       (positions_none w.found.list w.seen looks.same ∙ sym none)
-      (λ client. looks_event caller client w.found.list w.seen w.found.settled looks.takes.within looks.same)
-      (inl refl)
+      (λ client. looks_event caller bytes client w.found.list w.seen w.found.settled looks.takes.within looks.same)
+      (inl refl) other
       (settles (its_turn (length w.seen) ∷ []) (one_settled (length w.seen) refl))
       (turns (its_turn (length w.seen) ∷ []) (some_turn (length w.seen)))
 
@@ -205,28 +241,28 @@ module _ (caller : Caller) (bytes : List ℕ) (v w : Sight) where
       answered reply.DiskFault w.found.settled fails.takes gives
       (positions_none w.found.list w.seen fails.same)
       (λ client. inr (inr (fails.pending, ap (λ l. pair l w.found.settled) fails.same)))
-      (inr (inl (refl, ap length fails.same)))
+      (inr (inl (refl, ap length fails.same))) tt
       (in_fault w.found.settled fails.rose) (some_turn w.found.settled)
 
-  module _ (entry : Entry) (is_of : IsOf caller entry) where
+  module _ (entry : Entry) (is_of : IsOf caller bytes entry) where
     pub not_begun : GivesLine caller bytes reply.DiskFault w.found.list w.found.list w.seen
         → CannotBegin caller.timetable entry v w → AnswersBetween caller bytes reply.DiskFault v w
     not_begun gives fails =
         answered reply.DiskFault (length w.seen) fails.takes gives
         (positions_none w.found.list w.seen fails.same)
-        (λ client. fails_event caller entry is_of w.found.list w.seen w.found.settled fails.takes.within fails.may.joins client fails.same)
-        (inl refl) (in_fault (length w.seen) fails.rose) (some_turn (length w.seen))
+        (λ client. fails_event caller bytes entry is_of w.found.list w.seen w.found.settled fails.takes.within fails.may.joins client fails.same)
+        (inl refl) tt (in_fault (length w.seen) fails.rose) (some_turn (length w.seen))
 
     pub entered : (told : Reply) (at front : ℕ) → TakesTurn v w (length w.seen)
         → IsAdded caller.timetable entry at front w
-        → GivesLine caller bytes told w.found.list w.found.list w.seen → added told ≡ at ∷ []
+        → GivesLine caller bytes told w.found.list w.found.list w.seen → added told ≡ at ∷ [] → IsNotAgain told
         → ((ts : List Turn) → All IsSettled ts → Settle told ts)
         → ((ts : List Turn) → ts ≢ [] → HasTurns told ts) → AnswersBetween caller bytes told v w
-    entered told at front taken adds gives one settles turns =
+    entered told at front taken adds gives one other settles turns =
         answered told (length w.seen) taken gives
         (positions_one w.found.list w.seen entry adds.left ∙ ap (λ n. n ∷ []) (sym adds.here) ∙ sym one)
-        (λ client. enters_event caller entry is_of w.found.list w.seen w.found.settled taken.within adds.may.joins client adds.left)
-        (inl refl)
+        (λ client. enters_event caller bytes entry is_of w.found.list w.seen w.found.settled taken.within adds.may.joins client adds.left)
+        (inl refl) other
         (settles (its_turn (length w.seen) ∷ []) (one_settled (length w.seen) refl))
         (turns (its_turn (length w.seen) ∷ []) (some_turn (length w.seen)))
 
@@ -237,6 +273,6 @@ module _ (caller : Caller) (bytes : List ℕ) (v w : Sight) where
     begun number at front taken adds rose gives =
         answered (reply.Unsettled number at front) (length w.found.list) taken gives
         (positions_one w.found.list w.seen entry adds.left ∙ ap (λ n. n ∷ []) (sym adds.here))
-        (λ client. pends_event caller entry is_of w.found.list w.seen w.found.settled taken.within adds.may.joins client adds.left)
-        (inr (inr (refl, ap length adds.left ∙ length_push w.found.list entry, (0, omega arith, adds.here))))
+        (λ client. pends_event caller bytes entry is_of w.found.list w.seen w.found.settled taken.within adds.may.joins client adds.left)
+        (inr (inr (refl, ap length adds.left ∙ length_push w.found.list entry, (0, omega arith, adds.here)))) tt
         (record { fault = in_fault (length w.found.list) rose; pending = refl }) (some_turn (length w.found.list))

@@ -28,7 +28,7 @@ module _ (caller : Caller) (line : Line) (number : ℕ) (numbered : number_of li
   denied_line rule may is_new denied bytes read =
       looked caller bytes v w (reply.Denied number rule front) looks
       (line, read.spells, (reached, may, numbered, is_new, denied, leaves v w looks front here))
-      refl (λ ts all. all) (λ ts some. some)
+      refl tt (λ ts all. all) (λ ts some. some)
 
   -- the number stands already
   pub again_line : (deed : Deed) → IsDeedOf line.ask deed → (told : Refusal) (said : Reply)
@@ -67,4 +67,4 @@ unknown_line caller after number freed v w looks reached front here none past by
         ),
       ),
     )
-    refl (λ ts all. all) (λ ts some. some)
+    refl tt (λ ts all. all) (λ ts some. some)

@@ -8,3 +8,4 @@ pub mod Told
 pub mod Behind
 pub mod Denied
 pub mod Proved
+pub mod Granting

@@ -66,6 +66,8 @@ untold caller bytes told v w adds between =
         in_step = subst (λ l. All (IsToldIn l) between.turns) is.told_none so.in_step;
         settle = is.settled;
         turns_are = tt;
+        at_once = so.at_once;
+        searches = tt;
       };
     }
 

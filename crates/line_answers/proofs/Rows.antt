@@ -32,7 +32,7 @@ use Rattle.line_answers.specs.Calls.{AnswersBetween, HasTurns, IsOf, IsSettled, 
 use Rattle.line_answers.specs.Points.{added}
 use Rattle.line_answers.specs.Rules.{IsReadAs}
 use Rattle.line_answers.specs.Tells.{AddsNothing, TellsAgain, TellsFree, TellsHold, TellsPin, fault_reply, halt_reply}
-use Rattle.line_answers.proofs.Calls.{begun, entered, looked, not_begun, not_settled, untaken}
+use Rattle.line_answers.proofs.Calls.{IsNotAgain, begun, entered, looked, not_begun, not_settled, untaken}
 
 pub leaves : (v w : Sight) → Looks v w → (front : ℕ) → front ≡ length w.found.list
     → Leaves w.found.list w.seen front
@@ -45,11 +45,11 @@ pub halted_line : (caller : Caller) (line : Line) (v w : Sight) (told : Halt)
 halted_line caller line v w halt.DiskFault fails bytes read =
     not_settled caller bytes v w (line, read.spells, fails.same) fails
 halted_line caller line v w halt.NoMemory looks bytes read =
-    looked caller bytes v w reply.NoMemory looks looks.same refl (λ ts all. all) (λ ts some. tt)
+    looked caller bytes v w reply.NoMemory looks looks.same refl tt (λ ts all. all) (λ ts some. tt)
 halted_line caller line v w (halt.Ahead named front) ahead bytes read =
     looked caller bytes v w (reply.Ahead named front) ahead.0
     (line, read.spells, (ahead.1.asked, below, below, leaves v w ahead.0 front ahead.1.stands))
-    refl (λ ts all. all) (λ ts some. some)
+    refl tt (λ ts all. all) (λ ts some. some)
   where
     below : length w.found.list < named
     below = subst (λ n. n < named) ahead.1.stands ahead.1.beyond
@@ -69,8 +69,8 @@ module _ (caller : Caller) (line : Line) (number : ℕ) (deed : Deed)
   own : IsEntryOf caller line.ask (entry_of caller number deed)
   own = record { number = number; deed = deed; numbered = numbered; asked = asked; entry_is = refl }
 
-  is_of : IsOf caller (entry_of caller number deed)
-  is_of = record { owner = refl; line = refl }
+  is_of : (bytes : List ℕ) → IsReadAs caller.known bytes line → IsOf caller bytes (entry_of caller number deed)
+  is_of bytes read = record { line = line; spelled = read.spells; own = own }
 
   adds : (at front : ℕ) → IsAdded caller.timetable (entry_of caller number deed) at front w
       → Adds caller line.ask w.found.list w.seen (entry_of caller number deed) number at front
@@ -86,19 +86,19 @@ module _ (caller : Caller) (line : Line) (number : ℕ) (deed : Deed)
       → HasEntered caller.timetable (entry_of caller number deed) (Settled at front) v w
       → ((bytes : List ℕ) → IsReadAs caller.known bytes line
       → Adds caller line.ask w.found.list w.seen (entry_of caller number deed) number at front
-      → GivesLine caller bytes told w.found.list w.found.list w.seen) → added told ≡ at ∷ []
+      → GivesLine caller bytes told w.found.list w.found.list w.seen) → added told ≡ at ∷ [] → IsNotAgain told
       → ((ts : List Turn) → All IsSettled ts → Settle told ts)
       → ((ts : List Turn) → ts ≢ [] → HasTurns told ts) → AnswersLine caller line told v w
-  settled_line told at front done gives one settles turns bytes read =
-      entered caller bytes v w its is_of told at front done.0 done.1
-      (gives bytes read (adds at front done.1)) one settles turns
+  settled_line told at front done gives one other settles turns bytes read =
+      entered caller bytes v w its (is_of bytes read) told at front done.0 done.1
+      (gives bytes read (adds at front done.1)) one other settles turns
 
   pub stopped_line : (told : Halt)
       → IsStopped caller.timetable (entry_of caller number deed) told line.after v w
       → AnswersLine caller line (halt_reply told) v w
   stopped_line halt.DiskFault stops bytes read =
       ⊎_elim (λ fails. not_settled caller bytes v w (line, read.spells, fails.same) fails)
-      (λ fails. not_begun caller bytes v w its is_of (line, read.spells, fails.0.same) fails.0) stops
+      (λ fails. not_begun caller bytes v w its (is_of bytes read) (line, read.spells, fails.0.same) fails.0) stops
   stopped_line halt.NoMemory stops bytes read = halted_line caller line v w halt.NoMemory stops bytes read
   stopped_line (halt.Ahead named front) stops bytes read =
       halted_line caller line v w (halt.Ahead named front) stops bytes read
@@ -111,17 +111,17 @@ module _ (caller : Caller) (line : Line) (number : ℕ) (deed : Deed)
         subst (λ r. AnswersLine caller line r v w) (sym is)
         (λ bytes read. looked caller bytes v w (reply.Kept number at front stands) looks
         (line, read.spells, (reached, numbered, (its, own, is_told.0), is_told.1, leaves v w looks front here))
-        refl (λ ts all. all) (λ ts some. some))
+        refl tt (λ ts all. all) (λ ts some. some))
     again (refusal.Other (verdict.Gone at freer)) said looks is_told is =
         subst (λ r. AnswersLine caller line r v w) (sym is)
         (λ bytes read. looked caller bytes v w (reply.Gone number at freer front) looks
         (line, read.spells, (reached, numbered, (its, own, is_told.0), leaves v w looks front here))
-        refl (λ ts all. all) (λ ts some. some))
+        refl tt (λ ts all. all) (λ ts some. some))
     again (refusal.Other (verdict.Other at)) said looks is_told is =
         subst (λ r. AnswersLine caller line r v w) (sym is)
         (λ bytes read. looked caller bytes v w (reply.Other number at front) looks
         (line, read.spells, (reached, numbered, (its, own, is_told.0), leaves v w looks front here))
-        refl (λ ts all. all) (λ ts some. some))
+        refl tt (λ ts all. all) (λ ts some. some))
     again (refusal.Other (verdict.Kept at)) said looks is_told is = absurd is
     again (refusal.Other (verdict.BreaksRequest broken)) said looks is_told is = absurd is
     again (refusal.Other (verdict.Taken claim owner)) said looks is_told is = absurd is
@@ -136,7 +136,7 @@ module _ (caller : Caller) (line : Line) (number : ℕ) (deed : Deed)
         → HasEntered caller.timetable (entry_of caller number deed) (Unsettled at front) v w
         → AnswersLine caller line (reply.Unsettled number at front) v w
     unsettled_line at front done bytes read =
-        begun caller bytes v w its is_of number at front done.0 done.1 done.2
+        begun caller bytes v w its (is_of bytes read) number at front done.0 done.1 done.2
         (line, read.spells, (reached, allowed, narrow, (its, adds at front done.1)))
 
     module _ (front : ℕ) (here : front ≡ length w.found.list) where
@@ -145,7 +145,7 @@ module _ (caller : Caller) (line : Line) (number : ℕ) (deed : Deed)
       full_line full bytes read =
           looked caller bytes v w (reply.Full number front) full.looks
           (line, read.spells, (reached, allowed, narrow, numbered, (its, own, full.joins, full.no_room), leaves v w full.looks front here))
-          refl (λ ts all. all) (λ ts some. some)
+          refl tt (λ ts all. all) (λ ts some. some)
 
       taken : (takes_zones : IsHold line.ask ⊎ IsPin line.ask) (told : Refusal) (said : Reply)
           → IsRefusedIn caller.timetable (entry_of caller number deed) told v w
@@ -154,7 +154,7 @@ module _ (caller : Caller) (line : Line) (number : ℕ) (deed : Deed)
           subst (λ r. AnswersLine caller line r v w) (sym is)
           (λ bytes read. looked caller bytes v w (reply.Taken number claim.zone owner front) refused.looks
           (line, read.spells, (takes_zones, reached, allowed, numbered, (claim, refl, (its, own, refused.refusal.0)), leaves v w refused.looks front here))
-          refl (λ ts all. all) (λ ts some. some))
+          refl tt (λ ts all. all) (λ ts some. some))
       taken takes_zones (refusal.Kept at stands) said refused is = again reached front here (refusal.Kept at stands) said refused.looks refused.refusal is
       taken takes_zones (refusal.Other (verdict.Gone at freer)) said refused is =
           again reached front here (refusal.Other (verdict.Gone at freer)) said refused.looks refused.refusal is
@@ -179,7 +179,7 @@ module _ (caller : Caller) (line : Line) (number : ℕ) (deed : Deed)
           subst (λ r. AnswersLine caller line r v w) (sym is)
           (λ bytes read. looked caller bytes v w (reply.Breaks number broken.run broken.rule front) refused.looks
           (line, read.spells, (pin, reached, allowed, numbered, (its, own, refused.refusal.0), leaves v w refused.looks front here))
-          refl (λ ts all. all) (λ ts some. some))
+          refl tt (λ ts all. all) (λ ts some. some))
       pin_refused pin (refusal.Kept at stands) said refused is = again reached front here (refusal.Kept at stands) said refused.looks refused.refusal is
       pin_refused pin (refusal.Other (verdict.Gone at freer)) said refused is =
           again reached front here (refusal.Other (verdict.Gone at freer)) said refused.looks refused.refusal is
@@ -200,17 +200,17 @@ module _ (caller : Caller) (line : Line) (number : ℕ) (deed : Deed)
           subst (λ r. AnswersLine caller line r v w) (sym is)
           (λ bytes read. looked caller bytes v w (reply.Unknown freed front) refused.looks
           (line, read.spells, (reached, leaves v w refused.looks front here, inl (number, free, (its, own, refused.refusal.0))))
-          refl (λ ts all. all) (λ ts some. some))
+          refl tt (λ ts all. all) (λ ts some. some))
       free_refused freed free (refusal.Other (verdict.NotYours owner)) said refused is =
           subst (λ r. AnswersLine caller line r v w) (sym is)
           (λ bytes read. looked caller bytes v w (reply.NotYours number freed owner front) refused.looks
           (line, read.spells, (free, reached, (its, own, refused.refusal.0), leaves v w refused.looks front here))
-          refl (λ ts all. all) (λ ts some. some))
+          refl tt (λ ts all. all) (λ ts some. some))
       free_refused freed free (refusal.Other (verdict.AlreadyFreed freer)) said refused is =
           subst (λ r. AnswersLine caller line r v w) (sym is)
           (λ bytes read. looked caller bytes v w (reply.AlreadyFreed number freed freer front) refused.looks
           (line, read.spells, (free, reached, (its, own, refused.refusal.0), leaves v w refused.looks front here))
-          refl (λ ts all. all) (λ ts some. some))
+          refl tt (λ ts all. all) (λ ts some. some))
       free_refused freed free (refusal.Kept at stands) said refused is = again reached front here (refusal.Kept at stands) said refused.looks refused.refusal is
       free_refused freed free (refusal.Other (verdict.Gone at freer)) said refused is =
           again reached front here (refusal.Other (verdict.Gone at freer)) said refused.looks refused.refusal is
@@ -229,7 +229,7 @@ module _ (caller : Caller) (line : Line) (v w : Sight) (looks : Looks v w)
   front_line asked bytes read =
       looked caller bytes v w (reply.Front front) looks
       (line, read.spells, (asked, reached, leaves v w looks front here))
-      refl (λ ts all. all) (λ ts some. some)
+      refl tt (λ ts all. all) (λ ts some. some)
 
   pub shown_line : (at : ℕ) (entry : Entry) (freer : Option ℕ) → line.ask ≡ asks.Show at
       → slice_get w.found.list at ≡ Some entry → freer ≡ freed_by w.found.list at
@@ -237,14 +237,14 @@ module _ (caller : Caller) (line : Line) (v w : Sight) (looks : Looks v w)
   shown_line at entry freer asked stands freed bytes read =
       looked caller bytes v w (reply.Shown at front entry freer) looks
       (line, read.spells, (asked, reached, stands, freed, leaves v w looks front here))
-      refl (λ ts all. all) (λ ts some. some)
+      refl tt (λ ts all. all) (λ ts some. some)
 
   pub missing_line : (at : ℕ) → line.ask ≡ asks.Show at → length w.found.list ≤ at
       → AnswersLine caller line (reply.Unknown at front) v w
   missing_line at asked past bytes read =
       looked caller bytes v w (reply.Unknown at front) looks
       (line, read.spells, (reached, leaves v w looks front here, inr (asked, past)))
-      refl (λ ts all. all) (λ ts some. some)
+      refl tt (λ ts all. all) (λ ts some. some)
 
 pub past_end : (entries : List Entry) (at : ℕ) → slice_get entries at ≡ None → length entries ≤ at
 past_end entries at none =
@@ -255,12 +255,12 @@ past_end entries at none =
 
 pub want_line : (caller : Caller) (line : Line) (v : Sight) → AnswersLine caller line reply.NoMemory v v
 want_line caller line v bytes read =
-    untaken caller bytes reply.NoMemory v refl refl (All-nil IsSettled) tt
+    untaken caller bytes reply.NoMemory v refl refl tt (All-nil IsSettled) tt
 
 pub unread_line : (caller : Caller) (bytes : List ℕ) (v : Sight) (told : LineFault)
     → RefusesFirst (a_line caller.known) (fields_of bytes) told
     → AnswersBetween caller bytes (fault_reply told) v v
 unread_line caller bytes v (fault.Bad field) wrong =
-    untaken caller bytes (reply.Bad field) v (wrong, refl) refl (All-nil IsSettled) refl
+    untaken caller bytes (reply.Bad field) v (wrong, refl) refl tt (All-nil IsSettled) refl
 unread_line caller bytes v fault.Memory wrong =
-    untaken caller bytes reply.NoMemory v refl refl (All-nil IsSettled) tt
+    untaken caller bytes reply.NoMemory v refl refl tt (All-nil IsSettled) tt

@@ -1,5 +1,5 @@
 -- What an ask is told by what its turns did.
-use Rattle.std.proofs.Common.{◌≡◌, ◌≢◌, ℕ, zero, suc, All, Bool, true, false, if◌then◌else◌, List, [], Option, Some, None, length, slice_get, ap, sym, ◌∙◌, subst, refl}
+use Rattle.std.proofs.Common.{◌≡◌, ◌≢◌, ℕ, zero, suc, All, Bool, true, false, if◌then◌else◌, List, [], ◌∷◌, ◌++◌, Option, Some, None, length, slice_get, ap, sym, ◌∙◌, subst, refl}
 use mathlib.Core.Logic.{inl, inr, ⊎_elim}
 use Rattle.book_gate.specs.declared.views.Turn.{Turn}
 use Rattle.client_lines.specs.declared.asks.Line.{Line}
@@ -37,19 +37,20 @@ use Rattle.ask_turns.specs.Tries.{SoFar as Searched}
 use Rattle.line_answers.specs.Answers.{Adds, Caller, GivesLine, IsAllowed, IsEntryOf, IsNarrow, IsNarrowLine, IsReached, IsSearched, Leaves, entry_of}
 use Rattle.line_answers.specs.Asked.{TellsAsk, asking}
 use Rattle.line_answers.specs.Callers.{AnswersLine}
-use Rattle.line_answers.specs.Calls.{AnswersBetween, HasTurns, IsOf, IsSettled, Settle}
+use Rattle.line_answers.specs.Calls.{AnswersBetween, HasTurns, IsOf, IsSettled, Settle, TakesOneTurn}
 use Rattle.line_answers.specs.Points.{added}
 use Rattle.line_answers.specs.Tells.{TellsAgain, halt_reply}
-use Rattle.line_answers.proofs.Calls.{looked}
+use Rattle.line_answers.specs.Rules.{IsReadAs}
+use Rattle.line_answers.proofs.Calls.{IsNotAgain, looked}
 use Rattle.book_gate.specs.Views.{StartsWith}
-use Rattle.line_answers.proofs.Many.{SoFar, answered_now, begun_last, entered_last, first_look, looked_last, missed_on, next_look, not_begun_last, not_settled_last}
+use Rattle.line_answers.proofs.Many.{IsLong, SoFar, answered_now, begun_last, entered_last, first_look, looked_last, missed_on, next_look, not_begun_last, not_settled_last}
 
 leaves : (v w : Sight) → Looks v w → (front : ℕ) → front ≡ length w.found.list
     → Leaves w.found.list w.seen front
 leaves v w looks front is = record { same = looks.same; front_is = is }
 
 -- a verdict on what does not stand yet
-abbrev IsOnNew : Verdict → Type 0
+abbrev pub IsOnNew : Verdict → Type 0
 IsOnNew (verdict.Kept at) = ⊥
 IsOnNew (verdict.Gone at freer) = ⊥
 IsOnNew (verdict.Other at) = ⊥
@@ -115,14 +116,21 @@ module _ (caller : Caller) (number : ℕ) (request : Request) (after : Option �
     entry_is = refl;
   }
 
-  is_of : (path : Path) → IsOf caller (entry_of caller number (Grant (Asked request) path))
-  is_of path = record { owner = refl; line = refl }
+  is_of : (bytes : List ℕ) → IsReadAs caller.known bytes (asking after number request) → (path : Path)
+      → IsOf caller bytes (entry_of caller number (Grant (Asked request) path))
+  is_of bytes read path = record { line = asking after number request; spelled = read.spells; own = own path }
+
+  -- the line may take several turns
+  long : (bytes : List ℕ) → IsReadAs caller.known bytes (asking after number request) → IsLong caller bytes
+  long bytes read said spelled one =
+      subst (λ (l : Line). TakesOneTurn caller.ruled l.ask) (read.only said spelled) one
 
   -- ---- the number stands
 
   again_by : (v m w : Sight) (h : List Entry) → IsReached (asking after number request) h → Looks m w
       → ((bytes : List ℕ) (said : Reply) → GivesLine caller bytes said h w.found.list w.seen
-      → added said ≡ [] → ((ts : List Turn) → All IsSettled ts → Settle said ts)
+      → IsReadAs caller.known bytes (asking after number request) → added said ≡ [] → IsNotAgain said
+      → ((ts : List Turn) → All IsSettled ts → Settle said ts)
       → ((ts : List Turn) → ts ≢ [] → HasTurns said ts) → AnswersBetween caller bytes said v w)
       → (path : Path) (told : Refusal) (said : Reply) (front : ℕ) → front ≡ length w.found.list
       → IsOfNumber told
@@ -133,17 +141,17 @@ module _ (caller : Caller) (number : ℕ) (request : Request) (after : Option �
       subst (λ r. AnswersLine caller (asking after number request) r v w) (sym tells)
       (λ bytes read. close bytes (reply.Kept number at front deed)
       (line, read.spells, (reached, refl, (its_entry path, own path, is.0), is.1, leaves m w looks front here))
-      refl (λ ts all. all) (λ ts some. some))
+      read refl tt (λ ts all. all) (λ ts some. some))
   again_by v m w h reached looks close path (refusal.Other (verdict.Gone at freer)) said front here of_number is tells =
       subst (λ r. AnswersLine caller (asking after number request) r v w) (sym tells)
       (λ bytes read. close bytes (reply.Gone number at freer front)
       (line, read.spells, (reached, refl, (its_entry path, own path, is.0), leaves m w looks front here))
-      refl (λ ts all. all) (λ ts some. some))
+      read refl tt (λ ts all. all) (λ ts some. some))
   again_by v m w h reached looks close path (refusal.Other (verdict.Other at)) said front here of_number is tells =
       subst (λ r. AnswersLine caller (asking after number request) r v w) (sym tells)
       (λ bytes read. close bytes (reply.Other number at front)
       (line, read.spells, (reached, refl, (its_entry path, own path, is.0), leaves m w looks front here))
-      refl (λ ts all. all) (λ ts some. some))
+      read refl tt (λ ts all. all) (λ ts some. some))
   again_by v m w h reached looks close path (refusal.Other (verdict.Kept at)) said front here of_number is tells = absurd of_number
   again_by v m w h reached looks close path (refusal.Other (verdict.BreaksRequest broken)) said front here of_number is tells = absurd of_number
   again_by v m w h reached looks close path (refusal.Other (verdict.Taken claim owner)) said front here of_number is tells = absurd of_number
@@ -168,7 +176,7 @@ module _ (caller : Caller) (number : ℕ) (request : Request) (after : Option �
       → AnswersLine caller (asking after number request) said v w
   found_line v w looks reached path told said front here found of_number tells =
       again_by v v w w.found.list reached looks
-      (λ bytes r gives. looked caller bytes v w r looks gives)
+      (λ bytes r gives read. looked caller bytes v w r looks gives)
       path told said front here of_number
       (subst (λ s. IsRefusal w.found.list s told) (sym (repeats w.found.list path found.0 found.1)) found.2)
       tells
@@ -184,25 +192,33 @@ module _ (caller : Caller) (number : ℕ) (request : Request) (after : Option �
     wide_line front here wide bytes read =
         looked caller bytes v u (reply.Wide number front) looks
         (line, read.spells, (request, refl, reached, refl, is_new, allowed, wide, leaves v u looks front here))
-        refl (λ ts all. all) (λ ts some. some)
+        refl tt (λ ts all. all) (λ ts some. some)
 
     pub want_line : AnswersLine caller (asking after number request) reply.NoMemory v u
     want_line bytes read =
-        looked caller bytes v u reply.NoMemory looks looks.same refl (λ ts all. all) (λ ts some. tt)
+        looked caller bytes v u reply.NoMemory looks looks.same refl tt (λ ts all. all) (λ ts some. tt)
 
     module _ (narrow : IsNarrow caller request) (places : Listed) where
       abbrev its_ask : Ask
       its_ask = record { number = number; line = caller.line_number; request = request; places = places }
 
-      so : SoFar caller v u u.found.list
-      so = first_look caller v u looks
+      so : (bytes : List ℕ) → SoFar caller bytes v u u.found.list (u.found.list ∷ [])
+      so bytes = first_look caller bytes v u looks
 
-      missed_so : (count at front : ℕ) (w : Sight)
-          → HaveMissed caller.timetable caller.name its_ask count at front u w
-          → SoFar caller v w u.found.list
-      missed_so zero at front w is = subst (λ x. SoFar caller v x u.found.list) (sym is) so
-      missed_so (suc count) at front w is =
-          next_look caller v is.0 w u.found.list (missed_so count is.1 is.2 is.0 is.3) is.5.looks
+      -- what the turns found
+      abbrev past : (count at front : ℕ) (w : Sight)
+          → HaveMissed caller.timetable caller.name its_ask count at front u w → List (List Entry)
+      past zero at front w is = u.found.list ∷ []
+      past (suc count) at front w is = past count is.1 is.2 is.0 is.3 ++ w.seen ∷ []
+
+      missed_so : (bytes : List ℕ) (count at front : ℕ) (w : Sight)
+          → (is : HaveMissed caller.timetable caller.name its_ask count at front u w)
+          → SoFar caller bytes v w u.found.list (past count at front w is)
+      missed_so bytes zero at front w is =
+          subst (λ (x : Sight). SoFar caller bytes v x u.found.list (u.found.list ∷ [])) (sym is) (so bytes)
+      missed_so bytes (suc count) at front w is =
+          next_look caller bytes v is.0 w u.found.list (past count is.1 is.2 is.0 is.3)
+          (missed_so bytes count is.1 is.2 is.0 is.3) is.5.looks
 
       new_after : (count at front : ℕ) (w : Sight)
           → HaveMissed caller.timetable caller.name its_ask count at front u w
@@ -245,7 +261,7 @@ module _ (caller : Caller) (number : ℕ) (request : Request) (after : Option �
           subst (λ l. IsMissed caller.timetable request b l at) second
           (subst (λ l. IsMissed caller.timetable request l c at) first is)
 
-      are_missed : (at front : ℕ) (w : Sight)
+      abbrev are_missed : (at front : ℕ) (w : Sight)
           → HaveMissed caller.timetable caller.name its_ask (suc (suc (suc zero))) at front u w
           → AreMissed caller.timetable request u.found.list w.seen front at
       are_missed at front w is =
@@ -275,8 +291,9 @@ module _ (caller : Caller) (number : ℕ) (request : Request) (after : Option �
           let joins = j.entered.1.may.joins in
           subst (λ r. AnswersLine caller (asking after number request) r v w) (sym tells)
           (λ bytes read.
-          entered_last caller bytes v m w u.found.list (missed_so s.count s.at s.front m s.missed)
-          (its_entry j.path) (is_of j.path) (reply.Granted number at behind runs) at behind j.entered.0 j.entered.1 (
+          entered_last caller bytes v m w u.found.list (past s.count s.at s.front m s.missed)
+          (missed_so bytes s.count s.at s.front m s.missed) (long bytes read)
+          (its_entry j.path) (is_of bytes read j.path) (reply.Granted number at behind runs) at behind j.entered.0 j.entered.1 (
             line,
             read.spells,
             (
@@ -294,22 +311,24 @@ module _ (caller : Caller) (number : ℕ) (request : Request) (after : Option �
               },
             ),
           )
-          refl (λ ts all. all) (λ ts some. some))
+          refl tt (λ ts all. all) (λ ts some. some))
       judged_line m w s (became.Unsettled at behind) runs front said here j tells =
           subst (λ r. AnswersLine caller (asking after number request) r v w) (sym tells)
           (λ bytes read.
-          begun_last caller bytes v m w u.found.list (missed_so s.count s.at s.front m s.missed)
-          (its_entry j.path) (is_of j.path) number at behind j.entered.0 j.entered.1 j.entered.2
+          begun_last caller bytes v m w u.found.list (past s.count s.at s.front m s.missed)
+          (missed_so bytes s.count s.at s.front m s.missed) (long bytes read)
+          (its_entry j.path) (is_of bytes read j.path) number at behind j.entered.0 j.entered.1 j.entered.2
           (line, read.spells, (reached, allowed, narrow_line, (its_entry j.path, adds w j.path at behind j.entered.1))))
       judged_line m w s (became.Refused told) runs front said here j tells =
           again_by v m w u.found.list reached j.entered.looks
-          (λ bytes r gives. looked_last caller bytes v m w u.found.list
-          (missed_so s.count s.at s.front m s.missed) r j.entered.looks gives)
+          (λ bytes r gives read. looked_last caller bytes v m w u.found.list (past s.count s.at s.front m s.missed)
+          (missed_so bytes s.count s.at s.front m s.missed) (long bytes read) r j.entered.looks gives)
           j.path told said front here j.by_number j.entered.refusal tells
       judged_line m w s became.Full runs front said here j tells =
           subst (λ r. AnswersLine caller (asking after number request) r v w) (sym tells)
           (λ bytes read.
-          looked_last caller bytes v m w u.found.list (missed_so s.count s.at s.front m s.missed)
+          looked_last caller bytes v m w u.found.list (past s.count s.at s.front m s.missed)
+          (missed_so bytes s.count s.at s.front m s.missed) (long bytes read)
           (reply.Full number front) j.entered.looks (
             line,
             read.spells,
@@ -322,7 +341,7 @@ module _ (caller : Caller) (number : ℕ) (request : Request) (after : Option �
               leaves m w j.entered.looks front here,
             ),
           )
-          refl (λ ts all. all) (λ ts some. some))
+          refl tt (λ ts all. all) (λ ts some. some))
 
       pub asked_line : (w : Sight) (told : Outcome) (front : ℕ) (said : Reply)
           → IsTheFront told front w
@@ -334,8 +353,8 @@ module _ (caller : Caller) (number : ℕ) (request : Request) (after : Option �
           let s = is.0 in
           subst (λ r. AnswersLine caller (asking after number request) r v w) (sym tells)
           (λ bytes read.
-          answered_now caller bytes v w u.found.list (reply.NoPath number front)
-          (missed_so s.count s.at s.front w s.missed) (
+          answered_now caller bytes v w u.found.list (past s.count s.at s.front w s.missed)
+          (reply.NoPath number front) (missed_so bytes s.count s.at s.front w s.missed) (
             line,
             read.spells,
             (
@@ -345,12 +364,12 @@ module _ (caller : Caller) (number : ℕ) (request : Request) (after : Option �
               record { same = refl; front_is = here },
             ),
           )
-          refl (λ ts all. all) (λ ts some. some))
+          refl (long bytes read) tt (λ ts all. all) (λ ts some. some))
       asked_line w (outcome.Again at stood) front said here is tells =
           subst (λ r. AnswersLine caller (asking after number request) r v w) (sym tells)
           (λ bytes read.
-          answered_now caller bytes v w u.found.list (reply.Again number at stood front)
-          (missed_so (suc (suc (suc zero))) at stood w is) (
+          answered_now caller bytes v w u.found.list (past (suc (suc (suc zero))) at stood w is)
+          (reply.Again number at stood front) (missed_so bytes (suc (suc (suc zero))) at stood w is) (
             line,
             read.spells,
             (
@@ -360,7 +379,9 @@ module _ (caller : Caller) (number : ℕ) (request : Request) (after : Option �
               record { same = refl; front_is = here },
             ),
           )
-          refl (λ ts all. all) (λ ts some. some))
+          refl (long bytes read)
+          (line, request, read.spells, refl, (are_missed at stood w is, (missed_so bytes (suc (suc (suc zero))) at stood w is).looks))
+          (λ ts all. all) (λ ts some. some))
 
       stopped_in : (m w : Sight) → Searched caller.timetable caller.name its_ask u m → (told : Halt)
           → Stops caller.timetable caller.name its_ask told m w
@@ -368,18 +389,20 @@ module _ (caller : Caller) (number : ℕ) (request : Request) (after : Option �
       stopped_in m w s told (inl none) bytes read =
           subst (λ t. AnswersBetween caller bytes (halt_reply t) v w) (sym none.0)
           (subst (λ x. AnswersBetween caller bytes reply.NoMemory v x) (sym none.1)
-          (answered_now caller bytes v m u.found.list reply.NoMemory
-          (missed_so s.count s.at s.front m s.missed) refl refl (λ ts all. all) (λ ts some. tt)))
+          (answered_now caller bytes v m u.found.list (past s.count s.at s.front m s.missed) reply.NoMemory
+          (missed_so bytes s.count s.at s.front m s.missed) refl refl (long bytes read) tt (λ ts all. all) (λ ts some. tt)))
       stopped_in m w s halt.DiskFault (inr stops) bytes read =
-          let now = missed_so s.count s.at s.front m s.missed in
+          let past_are = past s.count s.at s.front m s.missed in
+          let now = missed_so bytes s.count s.at s.front m s.missed in
           ⊎_elim
-          (λ fails. not_settled_last caller bytes v m w u.found.list now (line, read.spells, fails.same) fails)
-          (λ fails. not_begun_last caller bytes v m w u.found.list now (its_entry stops.0) (is_of stops.0)
+          (λ fails. not_settled_last caller bytes v m w u.found.list past_are now (long bytes read) (line, read.spells, fails.same) fails)
+          (λ fails. not_begun_last caller bytes v m w u.found.list past_are now (long bytes read) (its_entry stops.0) (is_of bytes read stops.0)
           (line, read.spells, fails.0.same) fails.0)
           stops.1
       stopped_in m w s halt.NoMemory (inr stops) bytes read =
-          looked_last caller bytes v m w u.found.list (missed_so s.count s.at s.front m s.missed)
-          reply.NoMemory stops.1 stops.1.same refl (λ ts all. all) (λ ts some. tt)
+          looked_last caller bytes v m w u.found.list (past s.count s.at s.front m s.missed)
+          (missed_so bytes s.count s.at s.front m s.missed) (long bytes read)
+          reply.NoMemory stops.1 stops.1.same refl tt (λ ts all. all) (λ ts some. tt)
       stopped_in m w s (halt.Ahead named front) (inr stops) bytes read =
           absurd (none_named named stops.1.1.asked)
         where

@@ -145,32 +145,35 @@ module _ (caller : Caller) (line : Line) (h g left : List Entry) where
     its_line told gives =
         subst (λ l. Gives caller l told h g left) (read.only gives.0 gives.1) gives.2
 
+    pub gives_read : (told : Reply) → GivesLine caller bytes told h g left → Gives caller line told h g left
+    gives_read (reply.Held number at front) gives = its_line (reply.Held number at front) gives
+    gives_read (reply.Pinned number at front) gives = its_line (reply.Pinned number at front) gives
+    gives_read (reply.Granted number at front runs) gives = its_line (reply.Granted number at front runs) gives
+    gives_read (reply.Freed number at freed front) gives = its_line (reply.Freed number at freed front) gives
+    gives_read (reply.Kept number at front deed) gives = its_line (reply.Kept number at front deed) gives
+    gives_read (reply.Shown at front entry freer) gives = its_line (reply.Shown at front entry freer) gives
+    gives_read (reply.Front front) gives = its_line (reply.Front front) gives
+    gives_read (reply.Bad field) gives = absurd (read.right field gives.0)
+    gives_read (reply.Denied number rule front) gives = its_line (reply.Denied number rule front) gives
+    gives_read (reply.Ahead named front) gives = its_line (reply.Ahead named front) gives
+    gives_read (reply.Other number at front) gives = its_line (reply.Other number at front) gives
+    gives_read (reply.Gone number at freer front) gives = its_line (reply.Gone number at freer front) gives
+    gives_read (reply.Taken number zone owner front) gives = its_line (reply.Taken number zone owner front) gives
+    gives_read (reply.Breaks number run rule front) gives = its_line (reply.Breaks number run rule front) gives
+    gives_read (reply.NoPath number front) gives = its_line (reply.NoPath number front) gives
+    gives_read (reply.Again number at searched front) gives = its_line (reply.Again number at searched front) gives
+    gives_read (reply.Unknown at front) gives = its_line (reply.Unknown at front) gives
+    gives_read (reply.NotYours number at owner front) gives = its_line (reply.NotYours number at owner front) gives
+    gives_read (reply.AlreadyFreed number at freer front) gives = its_line (reply.AlreadyFreed number at freer front) gives
+    gives_read (reply.Wide number front) gives = its_line (reply.Wide number front) gives
+    gives_read (reply.Full number front) gives = its_line (reply.Full number front) gives
+    gives_read (reply.Unsettled number at front) gives = its_line (reply.Unsettled number at front) gives
+    gives_read reply.DiskFault gives = its_line reply.DiskFault gives
+    gives_read reply.NoMemory gives = gives
+
     pub told_read : (told : Reply) → GivesLine caller bytes told h g left → (rules : List Ruled)
         → told_by left told rules ≡ where_some (added told) rules (told_ask g line.ask rules)
-    told_read (reply.Held number at front) gives rules = told_gives (reply.Held number at front) (its_line (reply.Held number at front) gives) rules
-    told_read (reply.Pinned number at front) gives rules = told_gives (reply.Pinned number at front) (its_line (reply.Pinned number at front) gives) rules
-    told_read (reply.Granted number at front runs) gives rules = told_gives (reply.Granted number at front runs) (its_line (reply.Granted number at front runs) gives) rules
-    told_read (reply.Freed number at freed front) gives rules = told_gives (reply.Freed number at freed front) (its_line (reply.Freed number at freed front) gives) rules
-    told_read (reply.Kept number at front deed) gives rules = told_gives (reply.Kept number at front deed) (its_line (reply.Kept number at front deed) gives) rules
-    told_read (reply.Shown at front entry freer) gives rules = told_gives (reply.Shown at front entry freer) (its_line (reply.Shown at front entry freer) gives) rules
-    told_read (reply.Front front) gives rules = told_gives (reply.Front front) (its_line (reply.Front front) gives) rules
-    told_read (reply.Bad field) gives rules = refl
-    told_read (reply.Denied number rule front) gives rules = told_gives (reply.Denied number rule front) (its_line (reply.Denied number rule front) gives) rules
-    told_read (reply.Ahead named front) gives rules = told_gives (reply.Ahead named front) (its_line (reply.Ahead named front) gives) rules
-    told_read (reply.Other number at front) gives rules = told_gives (reply.Other number at front) (its_line (reply.Other number at front) gives) rules
-    told_read (reply.Gone number at freer front) gives rules = told_gives (reply.Gone number at freer front) (its_line (reply.Gone number at freer front) gives) rules
-    told_read (reply.Taken number zone owner front) gives rules = told_gives (reply.Taken number zone owner front) (its_line (reply.Taken number zone owner front) gives) rules
-    told_read (reply.Breaks number run rule front) gives rules = told_gives (reply.Breaks number run rule front) (its_line (reply.Breaks number run rule front) gives) rules
-    told_read (reply.NoPath number front) gives rules = told_gives (reply.NoPath number front) (its_line (reply.NoPath number front) gives) rules
-    told_read (reply.Again number at searched front) gives rules = told_gives (reply.Again number at searched front) (its_line (reply.Again number at searched front) gives) rules
-    told_read (reply.Unknown at front) gives rules = told_gives (reply.Unknown at front) (its_line (reply.Unknown at front) gives) rules
-    told_read (reply.NotYours number at owner front) gives rules = told_gives (reply.NotYours number at owner front) (its_line (reply.NotYours number at owner front) gives) rules
-    told_read (reply.AlreadyFreed number at freer front) gives rules = told_gives (reply.AlreadyFreed number at freer front) (its_line (reply.AlreadyFreed number at freer front) gives) rules
-    told_read (reply.Wide number front) gives rules = told_gives (reply.Wide number front) (its_line (reply.Wide number front) gives) rules
-    told_read (reply.Full number front) gives rules = told_gives (reply.Full number front) (its_line (reply.Full number front) gives) rules
-    told_read (reply.Unsettled number at front) gives rules = told_gives (reply.Unsettled number at front) (its_line (reply.Unsettled number at front) gives) rules
-    told_read reply.DiskFault gives rules = told_gives reply.DiskFault (its_line reply.DiskFault gives) rules
-    told_read reply.NoMemory gives rules = refl
+    told_read told gives rules = told_gives told (gives_read told gives) rules
 
 -- ---- what the rules are told in the code
 

@@ -1,5 +1,5 @@
 -- What a line is answered.
-use Rattle.std.specs.Prelude.{◌≡◌, ◌⊎◌, ℕ, ◌+◌, ◌<◌, ◌≤◌, List, [], ◌∷◌, ◌++◌, length, Option, Some, None, slice_get}
+use Rattle.std.specs.Prelude.{◌≡◌, ◌⊎◌, Bool, ℕ, ◌+◌, ◌<◌, ◌≤◌, List, [], ◌∷◌, ◌++◌, length, Option, Some, None, slice_get}
 use Rattle.client_lines.specs.Cuts.{fields_of}
 use Rattle.client_lines.specs.Forms.{IsFirstWrong, Spells}
 use Rattle.client_lines.specs.Lines.{a_line}
@@ -31,13 +31,14 @@ use Rattle.ask_turns.specs.Searched.{AreMissed, FitsAt, IsEarliestAt, IsPossible
 use Rattle.book_gate.specs.Views.{StartsWith}
 
 -- Who sends a line: what the line may name, the timetable by which it is judged, the client's name, the number of the
--- line in its session, and the first of the client's rules that says no to the line at a history.
+-- line in its session, the first of the client's rules that says no to the line at a history, and whether it has rules.
 pub record Caller : Type 0 where
   pub known : Names
   pub timetable : Timetable
   pub name : List ℕ
   pub line_number : ℕ
   pub denied : List Entry → Line → Option RuleName
+  pub ruled : Bool
 
 -- ---- the entry of a line
 

@@ -1,5 +1,5 @@
 -- Who calls.
-use Rattle.std.specs.Prelude.{◌≡◌, ℕ, List, Some, None}
+use Rattle.std.specs.Prelude.{◌≡◌, ℕ, Bool, true, false, List, [], ◌∷◌, Some, None}
 use Rattle.client_lines.specs.declared.asks.Line.{Line}
 use Rattle.client_rules.specs.Ruled.{Ruled}
 use Rattle.reply_texts.specs.declared.replies.Reply.{Reply}
@@ -10,6 +10,11 @@ use Rattle.line_answers.specs.Calls.{AnswersBetween}
 use Rattle.line_answers.specs.Rules.{IsReadAs, denial}
 use Rattle.line_answers.specs.declared.shared.Shared.{Shared}
 
+-- whether there are rules
+abbrev pub are_some : List Ruled → Bool
+are_some [] = false
+are_some (rule ∷ rules) = true
+
 -- a client of this name with these rules, whose line has this number
 abbrev pub caller_of : {D : Type 0} → Shared D → List Ruled → List ℕ → ℕ → Caller
 caller_of shared rules name line_number =
@@ -19,6 +24,7 @@ caller_of shared rules name line_number =
       name = name;
       line_number = line_number;
       denied = λ history line. denial rules line;
+      ruled = are_some rules;
     }
 
 -- *inside*: the reply to the bytes of a line, whatever bytes are read as it

@@ -1,55 +1,68 @@
 -- The turns of a call, and what they show of its reply.
-use Rattle.std.specs.Prelude.{◌≡◌, ◌≢◌, ◌⊎◌, ℕ, ◌+◌, ◌≤◌, true, false, All, Contains, List, [], ◌∷◌, ◌++◌, length, take}
+use Rattle.std.specs.Prelude.{◌≡◌, ◌≢◌, ◌⊎◌, ℕ, ◌+◌, ◌≤◌, Bool, true, false, All, Contains, List, [], ◌∷◌, ◌++◌, length, take}
 use Rattle.book_gate.specs.declared.views.Turn.{Turn}
 use Rattle.book_gate.specs.Views.{StartsWith, own}
+use Rattle.client_lines.specs.Cuts.{fields_of}
+use Rattle.client_lines.specs.Forms.{Spells}
+use Rattle.client_lines.specs.Lines.{a_line}
+use Rattle.client_lines.specs.declared.asks.Ask.{Ask}
+use Rattle.client_lines.specs.declared.asks.Ask.TheVariants as asks
+use Rattle.client_lines.specs.declared.asks.Line.{Line}
 use Rattle.outside_io.specs.Faults.{Rose}
 use Rattle.plan_core.specs.declared.events.Event.{Event}
 use Rattle.plan_core.specs.declared.events.Event.TheVariants as event
 use Rattle.plan_core.specs.Pairs.{IsEventOfPair, Pair}
 use Rattle.rail_types.specs.declared.entries.Entry.{Entry}
+use Rattle.rail_types.specs.declared.trains.Request.{Request}
 use Rattle.reply_texts.specs.declared.replies.Reply.{Reply}
 use Rattle.reply_texts.specs.declared.replies.Reply.TheVariants as reply
 use Rattle.client_turns.specs.Turns.{Sight}
-use Rattle.line_answers.specs.Answers.{Caller, GivesLine}
+use Rattle.ask_turns.specs.Searched.{AreMissed}
+use Rattle.line_answers.specs.Answers.{Caller, GivesLine, IsEntryOf, IsSought}
 use Rattle.line_answers.specs.Points.{added, unsettled_by}
 
 -- ---- events
 
--- an entry that bears the client's name and the number of the line
-pub record IsOf (caller : Caller) (entry : Entry) : Type 0 where
-  pub owner : entry.owner ≡ caller.name
-  pub line : entry.line ≡ caller.line_number
+-- an entry for which the bytes of a line ask: so it bears the client's name, the number of the line, and the number and
+-- the deed that the line tells
+pub record IsOf (caller : Caller) (bytes : List ℕ) (entry : Entry) : Type 0 where
+  pub line : Line
+  pub spelled : Spells (a_line caller.known) (fields_of bytes) line
+  pub own : IsEntryOf caller line.ask entry
 
--- an event of the client of this number in a world: a turn without an entry, or one with an entry that bears the
--- client's name and the line's number
-abbrev pub IsEventOf : Caller → ℕ → Event → Type 0
-IsEventOf caller client (event.Turn other) = other ≡ client
-IsEventOf caller client (event.Commit other entry) = (other ≡ client) × IsOf caller entry
-IsEventOf caller client (event.Free other entry) = (other ≡ client) × IsOf caller entry
-IsEventOf caller client (event.Fault other entry stage) = (other ≡ client) × IsOf caller entry
-IsEventOf caller client other = ⊥
+-- an event of the client of this number in a world: a turn without an entry, or one with an entry for which the line asks
+abbrev pub IsEventOf : Caller → List ℕ → ℕ → Event → Type 0
+IsEventOf caller bytes client (event.Turn other) = other ≡ client
+IsEventOf caller bytes client (event.Commit other entry) =
+    (other ≡ client) × IsOf caller bytes entry
+IsEventOf caller bytes client (event.Free other entry) =
+    (other ≡ client) × IsOf caller bytes entry
+IsEventOf caller bytes client (event.Fault other entry stage) =
+    (other ≡ client) × IsOf caller bytes entry
+IsEventOf caller bytes client other = ⊥
 
 -- one event of the client takes the pair of history and settled count to the other
-abbrev pub TakesEvent : Caller → ℕ → Pair → Pair → Type 0
-TakesEvent caller client old new =
-    (one : Event) × IsEventOf caller client one × IsEventOfPair caller.timetable one old new
+abbrev pub TakesEvent : Caller → List ℕ → ℕ → Pair → Pair → Type 0
+TakesEvent caller bytes client old new =
+    (one : Event) × IsEventOf caller bytes client one × IsEventOfPair caller.timetable one old new
 
 -- one event of the client, or a settling and then that event, or a settling that is not done, alone
-abbrev pub TakesEvents : Caller → ℕ → Pair → Pair → Type 0
-TakesEvents caller client old new =
-    TakesEvent caller client old new
+abbrev pub TakesEvents : Caller → List ℕ → ℕ → Pair → Pair → Type 0
+TakesEvents caller bytes client old new =
+    TakesEvent caller bytes client old new
     ⊎ (((mid : Pair) × IsEventOfPair caller.timetable (event.Settle true) old mid
-    × TakesEvent caller client mid new)
+    × TakesEvent caller bytes client mid new)
     ⊎ IsEventOfPair caller.timetable (event.Settle false) old new)
 
 abbrev pub pair : List Entry → ℕ → Pair
 pair entries settled = record { entries = entries; settled = settled }
 
 -- the turn is such an event, by what its marks say of beginnings of a history, whatever number the client has
-pub record IsTurnOf (caller : Caller) (history : List Entry) (t : Turn) : Type 0 where
+pub record IsTurnOf (caller : Caller) (bytes : List ℕ) (history : List Entry) (t : Turn)
+    : Type 0 where
   pub grows : t.found.entries ≤ t.left.entries
   pub within : t.left.entries ≤ length history
-  pub event : (client : ℕ) → TakesEvents caller client
+  pub event : (client : ℕ) → TakesEvents caller bytes client
       (pair (take t.found.entries history) t.found.settled)
       (pair (take t.left.entries history) t.left.settled)
 
@@ -105,6 +118,42 @@ IsToldIn unsettled t =
     ⊎ ((t.left.settled ≡ t.found.entries) × (t.left.entries ≡ t.found.entries + 1)
     × Contains unsettled t.found.entries))
 
+-- a line that is answered in one turn: all but a path that is sought, and a Free of a client that has rules
+abbrev pub TakesOneTurn : Bool → Ask → Type 0
+TakesOneTurn ruled (asks.Hold number claims reason) = Unit {0}
+TakesOneTurn ruled (asks.Pin number path) = Unit {0}
+TakesOneTurn ruled (asks.Path number request) = ⊥
+TakesOneTurn ruled (asks.Free number at) = ruled ≡ false
+TakesOneTurn ruled (asks.Show at) = Unit {0}
+TakesOneTurn ruled asks.Front = Unit {0}
+
+-- no turn was taken but one, so what the last one found is what the first one did
+pub record AreAtOnce (turns : List Turn) (h g : List Entry) : Type 0 where
+  pub few : length turns ≤ 1
+  pub same : g ≡ h
+
+-- the turn found these entries, and added nothing to them
+pub record IsLook (t : Turn) (entries : List Entry) : Type 0 where
+  pub found : t.found.entries ≡ length entries
+  pub left : t.left.entries ≡ length entries
+
+-- the turns found these, one after another, and added nothing
+abbrev pub AreLooks : List Turn → List (List Entry) → Type 0
+AreLooks [] [] = Unit {0}
+AreLooks [] (entries ∷ others) = ⊥
+AreLooks (t ∷ turns) [] = ⊥
+AreLooks (t ∷ turns) (entries ∷ others) = IsLook t entries × AreLooks turns others
+
+-- Where the reply is that each of three searches was missed, the call took four turns: each search stood at what the turn
+-- before it found and left, and what the turn behind it found is where it was missed.
+abbrev pub AreSearches : Caller → List ℕ → Reply → List Turn → List Entry → List Entry → Type 0
+AreSearches caller bytes (reply.Again number at searched front) turns h g =
+    (line : Line) × (request : Request) × Spells (a_line caller.known) (fields_of bytes) line
+    × IsSought line.ask request
+    × ((missed : AreMissed caller.timetable request h g searched at)
+    × AreLooks turns (h ∷ missed.second ∷ missed.third ∷ g ∷ []))
+AreSearches caller bytes other turns h g = Unit {0}
+
 -- The reply to a line over the turns of the call: the first found h, the last found g and left this.
 pub record Answers (caller : Caller) (bytes : List ℕ) (told : Reply) (turns : List Turn)
     (h g left : List Entry) : Type 0 where
@@ -113,10 +162,13 @@ pub record Answers (caller : Caller) (bytes : List ℕ) (told : Reply) (turns : 
   pub last : LastFound turns (length g)
   pub later : StartsWith g h
   pub own_entries : own turns ≡ added told
-  pub events : All (IsTurnOf caller left) turns
+  pub events : All (IsTurnOf caller bytes left) turns
   pub in_step : All (IsToldIn (unsettled_by told)) turns
   pub settle : Settle told turns
   pub turns_are : HasTurns told turns
+  pub at_once : (line : Line) → Spells (a_line caller.known) (fields_of bytes) line
+      → TakesOneTurn caller.ruled line.ask → AreAtOnce turns h g
+  pub searches : AreSearches caller bytes told turns h g
 
 -- The call took the pass from v to w, and that reply answers the line. Where it took no turn, it saw nothing more.
 pub record AnswersBetween (caller : Caller) (bytes : List ℕ) (told : Reply) (v w : Sight)

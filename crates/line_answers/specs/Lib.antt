@@ -7,3 +7,4 @@ pub mod Tells
 pub mod Asked
 pub mod Sharing
 pub mod Proved
+pub mod Granting

@@ -13,6 +13,7 @@ ghost use Rattle.line_answers.specs.Asked.{HasRoomIn};
 ghost use Rattle.line_answers.specs.Calls.{AnswersBetween};
 ghost use Rattle.client_rules.specs.Ruled.{stand};
 ghost use Rattle.line_answers.specs.Callers.{AnswersAllowed, caller_of};
+ghost use Rattle.line_answers.specs.Granting.{GrantsIfUnhindered};
 ghost use Rattle.line_answers.specs.Proved.{IsProvedBetween, ShowsBytes, ShowsLine};
 ghost use Rattle.line_answers.specs.Rules.{told_by};
 ghost use Rattle.line_answers.specs.Sharing.{IsShared};
@@ -40,7 +41,7 @@ use std::sync::Wait;
 /// history. `between` is called behind each search that found a path. The client's rules are asked as they stand, and
 /// told of the entry that the reply tells as the line's own. Where proofs are wanted and the reply tells that a path was
 /// granted or that there is none, the text of a proof takes the place of what the buffer of the proof held; else that
-/// buffer is emptied.
+/// buffer is emptied. A path that nothing hinders is granted, unless memory is wanted.
 pub fn answer_one<R: Wait, L: Rule, D: Disk, B: Between>(
     rt: &R,
     alloc: Global,
@@ -67,6 +68,10 @@ pub fn answer_one<R: Wait, L: Rule, D: Disk, B: Between>(
     ensures knows { Knows (timetable_at shared.now.gate) client.new (view pass.new).seen }
     ensures answers { IfOk result (λ reply.
         AnswersBetween
+        (caller_of shared.now (stand L.Rule rules.old) client.old.name line_number)
+        line.now reply (view pass.old) (view pass.new)) }
+    ensures granted { IfOk result (λ reply.
+        GrantsIfUnhindered
         (caller_of shared.now (stand L.Rule rules.old) client.old.name line_number)
         line.now reply (view pass.old) (view pass.new)) }
     ensures proved { IfOk result (λ reply.
@@ -136,6 +141,9 @@ fn answer_bytes<R: Wait, L: Rule, D: Disk, B: Between>(
     ensures name { client.new.name ≡ client.old.name }
     ensures knows { Knows (timetable_at shared.now.gate) client.new (view pass.new).seen }
     ensures answers { AnswersBetween
+        (caller_of shared.now (stand L.Rule rules.old) client.old.name line_number)
+        line.now result (view pass.old) (view pass.new) }
+    ensures granted { GrantsIfUnhindered
         (caller_of shared.now (stand L.Rule rules.old) client.old.name line_number)
         line.now result (view pass.old) (view pass.new) }
     ensures shown { ShowsBytes shared.now proves line.now result proof.new.held

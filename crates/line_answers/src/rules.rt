@@ -345,6 +345,7 @@ fn free_ruled<R: Wait, L: Rule, D: Disk>(
     requires knows { Knows (timetable_at shared.now.gate) client.old (view pass.old).seen }
     requires name { IsClientName client.old.name }
     requires within { IsAskWithin (timetable_at shared.now.gate).net (free_of number freed) }
+    requires some { 0 < length rules.old }
     ensures ready { IsReady shared.now.gate pass.new }
     ensures budget { turns_left pass.old ≤ turns_left pass.new + 3 }
     ensures name { client.new.name ≡ client.old.name }
@@ -404,6 +405,7 @@ fn free_found<R: Wait, L: Rule, D: Disk>(
     requires name { IsClientName client.old.name }
     requires within { IsAskWithin (timetable_at shared.now.gate).net (free_of number freed) }
     requires stands { freed < length (view pass.old).seen }
+    requires some { 0 < length rules.old }
     ensures ready { IsReady shared.now.gate pass.new }
     ensures budget { turns_left pass.old ≤ turns_left pass.new + 2 }
     ensures name { client.new.name ≡ client.old.name }

@@ -1,3 +1,6 @@
 pub mod Files
 pub mod Calls
 pub mod Fitting
+pub mod Ready
+pub mod Sessions
+pub mod Unhindered

@@ -5,6 +5,9 @@ mod orders;
 mod rules;
 mod runs;
 
+pub use command_words::{
+    ClientWord, Order, ProofWord, RuleKind, RuleWord, Text, WordsFault, read_words, rule_words,
+};
 pub use exit_status::Status;
 pub use rules::rules_of_words;
 pub use runs::run;

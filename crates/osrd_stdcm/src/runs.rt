@@ -4,6 +4,7 @@ ghost use Rattle.std.specs.Prelude.{◌≡◌, ◌≢◌, ◌⊎◌, ℕ, List, 
 ghost use Rattle.outside_io.specs.Openings.{Undisturbed};
 ghost use Rattle.outside_io.specs.Places.{Untouched};
 ghost use Rattle.file_rounds.specs.Scenes.{scene};
+ghost use Rattle.osrd_stdcm.specs.Complete.{AreUnhindered, IsAnswered};
 ghost use Rattle.osrd_stdcm.specs.Runs.{AskNoClients, AskNoDisk, AskNothing, IsDone, IsRefused, RunSays, TellsWords};
 
 use crate::orders::obey;
@@ -67,6 +68,10 @@ pub fn run<R: AllocGlobal + Threads + Wait + Sync, O: Outside, L: Rule + Send>(
     // At No the command's own no was answered, for a reason that it has.
     ensures no { result ≡ Status.No → IsRefused O.Src.Source O.Dsk.Disk
         (map string_bytes words.now) (scene O.Outside outside.old) }
+    // Where nothing hinders what the words ask for, it is done, or the command's own no is answered, but for want of memory.
+    ensures complete { AreUnhindered O.Src.Source O.Snk.Sink O.Dsk.Disk
+        (scene O.Outside outside.old) (scene O.Outside outside.new) (map string_bytes words.now)
+        → IsAnswered result }
     // At a refusal no sink gained anything: whatever the words, and at want of memory too where they serve no clients.
     ensures refused { result ≢ Status.Done → result ≢ Status.ClientEnd → result ≢ Status.Report
         → result ≢ Status.Memory → Untouched (O.sinks outside.old) (O.sinks outside.new) }

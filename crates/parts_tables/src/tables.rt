@@ -9,7 +9,8 @@ use crate::words::{
 };
 use crate::worlds::{known, step};
 use outside_io::{
-    FileDisk, FileOutside, FileSink, FileSource, Fuse, MemDisk, MemOutside, MemSink, MemSource,
+    FileDisk, FileOutside, FileSink, FileSource, Fuse, Locking, MemDisk, MemOutside, MemSink,
+    MemSource,
 };
 use plan_core::World;
 use std::alloc::Global;
@@ -38,7 +39,7 @@ pub fn carry_out(rt: HostRuntime, lines: &str) -> io::Result<()> {
     let mut table = Table {
         memory: MemOutside::new(alloc, Vec::new(alloc)),
         of_memory: Held::new(),
-        machine: FileOutside::new(rt),
+        machine: FileOutside::new(rt, Locking::Exclusive),
         of_machine: Held::new(),
         is_machine: false,
         pipe: Pipe::none(),
@@ -162,6 +163,7 @@ fn use_machine(rt: &HostRuntime, table: &mut Table, word: &str, rest: &str) -> i
     match word {
         "machine" => {
             table.is_machine = true;
+            table.machine = FileOutside::new(*rt, locking_of(rest)?);
             Ok(())
         }
         "pipe" => {
@@ -175,6 +177,15 @@ fn use_machine(rt: &HostRuntime, table: &mut Table, word: &str, rest: &str) -> i
             println!(rt; "  {rest} holds {text}")
         }
         _ => remove(rt, name_of(rt, &table.pipe, rest)?.as_str()),
+    }
+}
+
+// How a machine holds its disks that was turned to by this word.
+fn locking_of(word: &str) -> io::Result<Locking> {
+    match word {
+        "" => Ok(Locking::Exclusive),
+        "unlocked" => Ok(Locking::Unlocked),
+        _ => Err(not_understood()),
     }
 }
 

@@ -1,7 +1,9 @@
-//! Laws of the texts of proofs, each on a function that calls other laws alone.
+//! Laws of the texts of proofs, each on a function that calls other laws at most.
 
+ghost use Rattle.std.specs.Prelude.{◌≡◌};
 ghost use Rattle.proof_texts.specs.Read.{AsksCanBeTold, ProofsAreReadOnce};
 
+use crate::reading::MAX_PROOF_FILE_BYTES;
 use client_lines::asks_spell_requests;
 use name_text::names_are_spelled_once;
 
@@ -18,3 +20,8 @@ pub fn asks_can_be_told()
 {
     asks_spell_requests();
 }
+
+/// The limit of the file of a client's proofs.
+pub fn limits_are_these()
+    ensures { MAX_PROOF_FILE_BYTES ≡ 67108864 }
+{}

@@ -11,7 +11,7 @@ mod reading;
 mod refusals;
 
 pub use faults::ProofFault;
-pub use laws::{asks_can_be_told, proofs_are_read_once};
+pub use laws::{asks_can_be_told, limits_are_these, proofs_are_read_once};
 pub use prints::proof_text;
 pub use reading::{MAX_PROOF_FILE_BYTES, read_proof};
 pub use refusals::Proof;

@@ -4,13 +4,31 @@ use Rattle.admission_rules.specs.declared.rules.Rule.{Ghosts as Rules}
 use Rattle.client_lines.specs.Names.{Names}
 use Rattle.client_rules.specs.Ruled.{stand}
 use Rattle.client_seats.specs.Runs.{AreMatched, IsRun, told_own}
+use Rattle.client_seats.specs.Seats.{IsDone}
 use Rattle.client_seats.specs.Talks.{Talk}
+use Rattle.client_seats.specs.declared.seats.Seat.{Seat}
+use Rattle.line_answers.specs.declared.shared.Shared.{Shared}
 use Rattle.line_sessions.specs.Ends.{Passes, Streams}
 use Rattle.line_sessions.specs.Proofs.{is_wanted}
+use Rattle.line_sessions.specs.declared.proofs.Proofs.{Proofs}
+use Rattle.line_sessions.specs.declared.sessions.Ended.{Ended}
 use Rattle.path_commit.specs.Ledgers.{Ledger}
 use Rattle.rail_types.specs.declared.entries.Entry.{Entry}
 use Rattle.request_server.specs.declared.plans.Plan.{Plan}
 use Rattle.request_server.specs.declared.plans.Session.{Session}
+
+-- One client was served at its seat: this passed in its session, whose end its streams show. It is the client of the seat,
+-- by the rules that stood there. By what the pass of the seat has seen at the end, each reply is what a beginning of the
+-- history gives, and the rules were told its own entries that the replies print.
+pub record IsSession {D Src Snk Btw L : Type 0} (kind : Rules L) (shared : Shared D)
+    (streams : Streams Src Snk) (ended : Ended) (seat seat' : Seat D Btw L)
+    (source source' : Src) (sink sink' : Snk) (proofs proofs' : Proofs Snk) : Type 0 where
+  pub talk : Talk
+  pub name : talk.name ≡ seat.client.name
+  pub rules : talk.rules ≡ stand kind seat.rules.items
+  pub proves : talk.proves ≡ is_wanted proofs
+  pub passes : Passes streams ended talk.traffic source source' sink sink' proofs proofs'
+  pub done : IsDone kind shared seat' talk
 
 -- The client of this plan was served so: this passed in its session, whose end its streams show. Proofs went along with its
 -- replies where it wants them. Its rules were told its own entries: before its first line those of the history found, and

@@ -2,8 +2,10 @@
 //! and what all of them are told is one history.
 #![tactic(auto)]
 
+mod clients;
 mod plans;
 mod runs;
 
+pub use clients::serve_client;
 pub use plans::{Plan, Session};
 pub use runs::serve_clients;

@@ -19,13 +19,14 @@ ghost use Rattle.rail_types.specs.declared.entries.Entry.{Entry as entry_type};
 ghost use Rattle.request_server.specs.Jobs.{begun, begun_of, HasPassed, IsDoneJob, IsReadyJob, WasServed};
 ghost use Rattle.request_server.specs.Runs.{WereServed};
 
+use crate::clients::serve_client;
 use crate::plans::{Job, Plan, Session};
 use admission_rules::Rule;
 use book_gate::Pass;
 use client_lines::Known;
 use client_seats::{Newcomer, close_gate, leave_seat, open_gate, take_seat};
 use line_answers::Shared;
-use line_sessions::{Ended, Why, serve_lines};
+use line_sessions::{Ended, Why};
 use no_memory::NoMemory;
 use outside_io::{Between, Disk, Sink, Source};
 use path_commit::Book;
@@ -220,9 +221,10 @@ fn serve_job<'a, R: Wait, D: Disk, S: Source + Drop, T: Sink + Drop, B: Between 
     requires { IsReadyJob shared.now job.old }
     ensures { WasServed L.Rule (streams S.left S.faults T.held T.faults) job.old job.new }
 {
-    let ended = serve_lines(
+    let ended = serve_client(
         rt,
         alloc,
+        shared,
         &mut job.seat,
         &mut job.source,
         &mut job.sink,

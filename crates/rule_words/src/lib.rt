@@ -2,8 +2,10 @@
 #![tactic(auto)]
 
 mod kinds;
+mod laws;
 mod reading;
 mod ticks;
 
 pub use kinds::{MAX_RULE_NUMBER, RuleKind};
+pub use laws::limits_are_these;
 pub use reading::{RuleWord, read_rule, read_rules};

@@ -2,7 +2,7 @@
 #![tactic(auto)]
 
 use osrd_stdcm::{Status, rules_of_words, run};
-use outside_io::FileOutside;
+use outside_io::{FileOutside, Locking};
 use std::io::ErrorKind;
 use std::process::ExitCode;
 use std::{env, io};
@@ -17,7 +17,7 @@ fn main(rt: HostRuntime) -> ExitCode {
     let Ok(rules) = rules_of_words(rt.alloc(), &words) else {
         return ExitCode::from(Status::Memory.number());
     };
-    let mut outside = FileOutside::new(rt);
+    let mut outside = FileOutside::new(rt, locking_of(&words));
     let status = run(&rt, &words, &mut outside, rules);
     ExitCode::from(status.number())
 }
@@ -29,4 +29,15 @@ fn words_of(rt: &HostRuntime) -> io::Result<Vec<String>> {
         words.push(word)?;
     }
     Ok(words)
+}
+
+// How the command of these words holds a journal. Those that only read one go on beside a server.
+fn locking_of(words: &[String]) -> Locking {
+    let Some(command) = words.first() else {
+        return Locking::Exclusive;
+    };
+    match command.as_str() {
+        "stairs" | "capacity" | "check" => Locking::Unlocked,
+        _ => Locking::Exclusive,
+    }
 }

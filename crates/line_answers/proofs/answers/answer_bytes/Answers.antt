@@ -8,8 +8,10 @@ use Rattle.line_answers.specs.Answers.{Caller}
 use Rattle.line_answers.specs.Callers.{caller_of}
 use Rattle.line_answers.specs.Calls.{AnswersBetween}
 use Rattle.line_answers.specs.Proved.{ProvedOr}
-use Rattle.line_answers.specs.Rules.{told_by}
+use Rattle.line_answers.specs.Granting.{IsGranted}
+use Rattle.line_answers.specs.Rules.{IsReadAs, told_by}
 use Rattle.line_answers.specs.Tells.{fault_reply}
+use Rattle.line_answers.proofs.Granting.{fault_grants, unhindered}
 use Rattle.line_answers.proofs.Rows.{unread_line}
 use Rattle.line_answers.proofs.Told.{fault_adds, read_as, untold_by}
 use Rattle.line_answers.proofs.Proved.{shows_fault}
@@ -52,3 +54,18 @@ returns-in-Err-clause-shown g c wanted =
     let text : List ℕ = c.args.proof.now.held in
     subst (λ (r : Reply). ProvedOr (Unit {0}) c.args.shared.now.known timetable c.args.line.now r text v v) (sym c.unread.ensures)
     (shows_fault c.args.shared.now.known timetable c.args.line.now c.in-Err.fault text v v)
+
+pub returns-in-Ok-clause-granted : goal.returns-in-Ok-clause-granted
+returns-in-Ok-clause-granted g c answers said spelled unhindered_so =
+    let rules : List Ruled = stand g.L.Rule c.args.rules.now in
+    let caller : Caller = caller_of c.args.shared.now rules c.args.client.now.name c.args.line_number in
+    let read : IsReadAs caller.known c.args.line.now c.in-Ok.line =
+    read_as c.args.shared.now.known c.args.line.now c.in-Ok.line c.in-Ok.ensures.spelled c.in-Ok.ensures.read c.in-Ok.ensures.refused in
+    let same : said ≡ c.in-Ok.line = read.only said spelled in
+    unhindered caller c.args.line.now said (subst (IsReadAs caller.known c.args.line.now) (sym same) read)
+    c.answer_ruled.result (view c.args.pass.now) (view c.answer_ruled.new.pass) answers unhindered_so
+
+pub returns-in-Err-clause-granted : goal.returns-in-Err-clause-granted
+returns-in-Err-clause-granted g c answers said spelled unhindered_so =
+    subst IsGranted (sym c.unread.ensures)
+    (fault_grants c.in-Err.fault said (c.in-Err.ensures.read said spelled))

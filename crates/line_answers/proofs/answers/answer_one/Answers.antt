@@ -20,7 +20,7 @@ returns-in_err-reserve-clause-wanted g c =
     let caller : Caller = caller_of c.args.shared.now rules c.args.client.now.name c.args.line_number in
     let v : Sight = view c.args.pass.now in
     if_err _ c.from_residual.result
-    (untaken caller c.args.line.now reply.NoMemory v refl refl (All-nil IsSettled) tt)
+    (untaken caller c.args.line.now reply.NoMemory v refl refl tt (All-nil IsSettled) tt)
 
 pub returns-then-is_err-clause-wanted : goal.returns-then-is_err-clause-wanted
 returns-then-is_err-clause-wanted g c =

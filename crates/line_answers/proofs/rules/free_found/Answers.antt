@@ -12,7 +12,7 @@ use Rattle.line_answers.specs.Callers.{AnswersAllowed, AnswersLine, caller_of}
 use Rattle.line_answers.specs.Points.{added}
 use Rattle.line_answers.specs.Rules.{told_by, told_free}
 use Rattle.line_answers.specs.Tells.{halt_reply}
-use Rattle.line_answers.proofs.Behind.{look_first}
+use Rattle.line_answers.proofs.Behind.{look_first, some_stand}
 use Rattle.line_answers.proofs.Rows.{halted_line}
 use Rattle.line_answers.proofs.Told.{freed_told, halt_adds, untold_by}
 use Rattle.line_answers.proofs.rules.free_found.Goals as goal
@@ -25,7 +25,7 @@ returns-in-Ok-Some-clause-answers g c =
     let v : Sight = view c.args.pass.now in let m : Sight = view c.show.new.pass in
     let w : Sight = view c.free-reply.new.pass in
     let allowed = subst (λ (name : List ℕ). AnswersAllowed c.args.shared.now name c.args.line_number line c.free-reply.result m w) c.in-Ok-Some.ensures.name c.free-reply.ensures.answers in
-    look_first caller c.args.after c.args.number c.args.freed v m w c.in-Ok-Some.ensures.looks c.in-Ok-Some.ensures.reached
+    look_first caller c.args.after c.args.number c.args.freed (some_stand g.L.Rule c.args.rules.now c.requires.some) v m w c.in-Ok-Some.ensures.looks c.in-Ok-Some.ensures.reached
     c.free-reply.result (allowed rules refl)
 
 pub returns-in-Ok-Some-clause-told : goal.returns-in-Ok-Some-clause-told

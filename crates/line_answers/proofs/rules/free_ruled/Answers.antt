@@ -11,7 +11,7 @@ use Rattle.line_answers.specs.Answers.{Caller}
 use Rattle.line_answers.specs.Callers.{AnswersLine, caller_of}
 use Rattle.line_answers.specs.Rules.{told_by}
 use Rattle.line_answers.specs.Tells.{halt_reply}
-use Rattle.line_answers.proofs.Behind.{look_first}
+use Rattle.line_answers.proofs.Behind.{look_first, some_stand}
 use Rattle.line_answers.proofs.Denied.{again_line, unknown_line}
 use Rattle.line_answers.proofs.Rows.{halted_line}
 use Rattle.line_answers.proofs.Told.{halt_adds, none_added, untold_by}
@@ -36,7 +36,7 @@ returns-in-Ok-None-clause-answers g c =
     let v : Sight = view c.args.pass.now in let u : Sight = view c.find_again.new.pass in
     let w : Sight = view c.free_found.new.pass in
     let inner = subst (λ (name : List ℕ). AnswersLine (caller_of c.args.shared.now rules name c.args.line_number) line c.free_found.result u w) c.in-Ok-None.ensures.name c.free_found.ensures.answers in
-    look_first caller c.args.after c.args.number c.args.freed v u w c.in-Ok-None.ensures.looks c.in-Ok-None.ensures.reached
+    look_first caller c.args.after c.args.number c.args.freed (some_stand g.L.Rule c.args.rules.now c.requires.some) v u w c.in-Ok-None.ensures.looks c.in-Ok-None.ensures.reached
     c.free_found.result inner
 
 pub returns-in-Ok-Some-clause-answers : goal.returns-in-Ok-Some-clause-answers

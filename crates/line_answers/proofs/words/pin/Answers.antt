@@ -33,7 +33,7 @@ returns-in-Ok-Settled-clause-answers g c rules allowed =
     let done = subst (λ (e : Entry). HasEntered timetable e (entered.Settled at front) v w) c.in-Ok.ensures told in
     settled_line caller line c.args.number deed refl refl v w (reply.Pinned c.args.number at front) at front done
     (λ bytes read adds. (line, read.spells, (tt, c.in-Ok-Settled.ensures.reached, (λ may. allowed), (entry_of caller c.args.number deed, adds))))
-    refl (λ ts all. all) (λ ts some. some)
+    refl tt (λ ts all. all) (λ ts some. some)
 
 pub returns-in-Ok-Unsettled-clause-answers : goal.returns-in-Ok-Unsettled-clause-answers
 returns-in-Ok-Unsettled-clause-answers g c rules allowed =

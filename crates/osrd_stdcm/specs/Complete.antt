@@ -1,0 +1,79 @@
+-- When a run is done, or answers its command's own no, but for want of memory.
+use Rattle.std.specs.Prelude.{◌≡◌, ◌⊎◌, ℕ, List, [], ◌∷◌, ◌++◌, All, None, Some}
+use Rattle.batch_command.specs.Works.{batch_calls}
+use Rattle.check_command.specs.Works.{check_calls}
+use Rattle.command_words.specs.Orders.{AreWords}
+use Rattle.command_words.specs.declared.orders.Order.{Order}
+use Rattle.command_words.specs.declared.orders.Order.TheVariants.{Tables, Init, Stairs, Capacity, Serve, Demo, Check, Batch}
+use Rattle.command_files.specs.Files.{HasNetworkFault}
+use Rattle.command_files.specs.declared.files.FileKind.TheVariants as file
+use Rattle.demo_command.specs.Works.{demo_calls}
+use Rattle.exit_status.specs.declared.Status.{Status}
+use Rattle.exit_status.specs.declared.Status.TheVariants.{Done, No, Memory}
+use Rattle.file_rounds.specs.Scenes.{Scene}
+use Rattle.init_command.specs.Works.{init_calls, move_calls}
+use Rattle.journal_files.specs.Steps.{print_calls}
+use Rattle.list_command.specs.Works.{list_calls}
+use Rattle.option_words.specs.Spelling.{Word}
+use Rattle.outside_io.specs.Openings.{the_report}
+use Rattle.outside_io.specs.declared.disks.Disk.{Ghosts as Disks}
+use Rattle.outside_io.specs.declared.sinks.Sink.{Ghosts as Sinks}
+use Rattle.outside_io.specs.declared.sources.Source.{Ghosts as Sources}
+use Rattle.serve_command.specs.Works.{serve_calls}
+use Rattle.osrd_stdcm.specs.Ready.{AreReady, AreRight, HasJournalOf, HasLines, HasOldJournalOf, HasTrains, IsEmptyDisk, IsRight}
+
+-- the files of a command over a journal are right, and the journal stands
+pub record AreRightWithJournal {Src Snk Dsk : Type 0} (source : Sources Src) (disk : Disks Dsk)
+    (old : Scene Src Snk Dsk) (network base journal : List ℕ) : Type 0 where
+  pub files : AreRight source old network base
+  pub journal_stands : HasJournalOf disk old journal files.network_bytes files.base_bytes
+
+-- Nothing hinders an order: each name of it and the report stand ready when their turn comes, the files have no fault, the
+-- journal stands, or the disk is empty where one is begun, the clients keep within the limits of lines, and no count rose.
+abbrev pub IsUnhindered : {Src Snk Dsk : Type 0} → Sources Src → Sinks Snk → Disks Dsk
+    → Scene Src Snk Dsk → Scene Src Snk Dsk → Order → Type 0
+IsUnhindered source sink disk old new (Tables network out) =
+    AreReady source sink disk old new (list_calls network out ++ the_report ∷ [])
+    × ((bytes : List ℕ) × IsRight file.Network source HasNetworkFault old network bytes)
+IsUnhindered source sink disk old new (Init network base journal None) =
+    AreReady source sink disk old new (init_calls network base journal ++ the_report ∷ [])
+    × AreRight source old network base × IsEmptyDisk disk old journal
+IsUnhindered source sink disk old new (Init network base journal (Some from)) =
+    AreReady source sink disk old new (move_calls network base journal from ++ the_report ∷ [])
+    × IsEmptyDisk disk old journal
+    × ((files : AreRight source old network base)
+    × HasOldJournalOf disk old from files.network_bytes files.base_bytes)
+IsUnhindered source sink disk old new (Stairs network base journal entry out) =
+    AreReady source sink disk old new (print_calls network base journal out ++ the_report ∷ [])
+    × AreRightWithJournal source disk old network base journal
+IsUnhindered source sink disk old new (Capacity network base journal first last from to out) =
+    AreReady source sink disk old new (print_calls network base journal out ++ the_report ∷ [])
+    × AreRightWithJournal source disk old network base journal
+IsUnhindered source sink disk old new (Serve network trains base journal clients proofs rules) =
+    AreReady source sink disk old new
+    (serve_calls network base trains journal clients proofs ++ the_report ∷ [])
+    × HasTrains source old trains × AreRightWithJournal source disk old network base journal
+    × All (HasLines source old) clients
+IsUnhindered source sink disk old new (Demo number out) =
+    AreReady source sink disk old new (demo_calls out ++ the_report ∷ [])
+IsUnhindered source sink disk old new (Check network trains base journal proof) =
+    AreReady source sink disk old new
+    (check_calls network trains base journal proof ++ the_report ∷ [])
+    × HasTrains source old trains × AreRightWithJournal source disk old network base journal
+IsUnhindered source sink disk old new (Batch network trains base journal client workers rules) =
+    AreReady source sink disk old new
+    (batch_calls network trains base journal client ++ the_report ∷ [])
+    × HasTrains source old trains × AreRightWithJournal source disk old network base journal
+    × HasLines source old client
+
+-- the words spell an order, and nothing hinders any order that they spell
+pub record AreUnhindered {Src Snk Dsk : Type 0} (source : Sources Src) (sink : Sinks Snk)
+    (disk : Disks Dsk) (old new : Scene Src Snk Dsk) (words : List Word) : Type 0 where
+  pub order : Order
+  pub asked : AreWords words order
+  pub unhindered : (other : Order) → AreWords words other
+      → IsUnhindered source sink disk old new other
+
+-- all was done, or the command's own no was answered, or memory was wanted
+abbrev pub IsAnswered : Status → Type 0
+IsAnswered status = (status ≡ Done) ⊎ ((status ≡ No) ⊎ (status ≡ Memory))
