@@ -11,6 +11,7 @@ from __future__ import annotations
 
 import argparse
 import os
+import signal
 import subprocess
 import sys
 import tempfile
@@ -36,6 +37,8 @@ FILES = {"init": ("network", "base", "journal"), "stairs": ("network", "base", "
          "check": ("network", "trains", "base", "journal")}
 #: An ask that is granted at entry 0 of an empty journal, and one that is refused behind it.
 GRANTED, REFUSED = "ask 1 F1 W E 6 6 0 17280 0", "ask 2 F1 W E 6 38 0 17280 0"
+#: The entries of a journal that takes a while to read, and how often a reader of it is tried.
+LONG, STOPS = 60_000, 40
 
 
 class Wrong(Exception):
@@ -295,16 +298,72 @@ def a_served_journal_can_be_read(site: Site) -> None:
     must(beside["check"].report == b"proofs 1\n", f"check tells {beside['check'].report!r}")
 
 
+def lengthen(site: Site, count: int, journal: str = "journal") -> None:
+    """Puts so many holds of one tick behind the entries of a journal that nobody serves."""
+    records = bytearray()
+    for number in range(count):
+        body = (b"\x01" + number.to_bytes(8, "big") + (0).to_bytes(4, "big") + b"\x01B"
+                + (0).to_bytes(4, "big") + (20_000 + number).to_bytes(8, "big")
+                + (20_001 + number).to_bytes(8, "big"))
+        records += b"\x01" + len(body).to_bytes(4, "big") + body
+    before = site.bytes(journal)
+    must(before[-1:] == b"\0", "the journal does not end with a closed gate")
+    (site.folder / journal).write_bytes(before[:-1] + records + b"\0")
+
+
+def has_open(process: subprocess.Popen, path: Path) -> bool:
+    """Whether a process has a file open at this moment."""
+    try:
+        opened = [*Path(f"/proc/{process.pid}/fd").iterdir()]
+        return any(os.readlink(one) == str(path) for one in opened)
+    except OSError:
+        return False
+
+
+def is_stopped_with(process: subprocess.Popen, path: Path) -> bool:
+    """Stops a process once it has a file open; False where it is done with the file before."""
+    while process.poll() is None:
+        if has_open(process, path):
+            os.kill(process.pid, signal.SIGSTOP)
+            os.waitid(os.P_PID, process.pid, os.WSTOPPED | os.WEXITED | os.WNOWAIT)
+            return has_open(process, path)
+        time.sleep(0.001)
+    return False
+
+
+@contextmanager
+def stopped_at_the_journal(site: Site, command: str, *more: str) -> Iterator[subprocess.Popen]:
+    """A command that stands still while it has the journal open, until it gets SIGCONT.
+
+    The journal is long, so that reading it takes a while; where the command is done with it before
+    it could be stopped, another one is started.
+    """
+    journal = (site.folder / "journal").resolve()
+    for _ in range(STOPS):
+        process = site.program.start(site.words(command, *more), site.folder,
+                                     stdin=subprocess.DEVNULL)
+        try:
+            if is_stopped_with(process, journal):
+                yield process
+                return
+        finally:
+            stop(process)
+    raise Wrong(f"{command} was never found with the journal open, in {STOPS} calls")
+
+
 def a_server_beside_a_reading_command_starts(site: Site) -> None:
     site.begin()
     must(site.serve([GRANTED]).status == 0, "the first server fails")
-    with waiting(site, "check", "proofs", "--proof", "proofs") as process:
-        wait_until_it_waits(site, process)
+    lengthen(site, LONG)
+    proof = str(EXAMPLES / "refusal.proof")
+    with stopped_at_the_journal(site, "check", "--proof", proof) as process:
         ended = site.serve(["front"])
         must(ended.status == 0, f"the server ends with {ended.status}: {ended.report!r}")
-        must(site.replies() == ["front at 1"], f"it answers {site.replies()}")
-        checked = write_into(site, "proofs", process, (EXAMPLES / "refusal.proof").read_text())
-    must((checked.status, checked.report) == (0, b"proofs 1\n"), f"check ends with {checked}")
+        must(site.replies() == [f"front at {LONG + 1}"], f"it answers {site.replies()}")
+        os.kill(process.pid, signal.SIGCONT)
+        out, report = process.communicate(timeout=site.program.limit)
+    told = (process.returncode, out, report)
+    must(told == (0, b"", b"proofs 1\n"), f"check ends with {told}")
 
 
 def a_killed_server_is_followed_at_once(site: Site) -> None:
