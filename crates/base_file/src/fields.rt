@@ -5,7 +5,9 @@ ghost use Rattle.serde_json.specs.View.{view};
 ghost use Rattle.json_fields.specs.Numbers.{whole_value};
 ghost use Rattle.json_fields.specs.Places.{spot_of};
 ghost use Rattle.rail_types.specs.Limits.{IsTick};
-ghost use Rattle.base_file.specs.Fields.{Gives, object_at, found_at, name_at, limited_name, number_read, within, number_at, whole_at, near, tick_at, zone_among, zone_at, flag, flag_at, list_at, elements_of};
+ghost use Rattle.base_file.specs.Fields.{Gives, object_at, found_at, name_at, limited_name};
+ghost use Rattle.base_file.specs.Fields.{number_read, within, number_at, whole_at, near, tick_at};
+ghost use Rattle.base_file.specs.Fields.{zone_among, zone_at, flag, flag_at, list_at, elements_of};
 
 use crate::faults::{BaseFault, What};
 use decimal_quote::NotWhole;

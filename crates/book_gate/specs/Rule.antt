@@ -1,5 +1,7 @@
--- The rule of the gate, `IsKept`, which holds between any two atomic steps. `Fits` is what it says of each pass, and `IsInPlace` of the book.
-use Rattle.std.specs.Prelude.{◌≡◌, ℕ, ◌+◌, ◌-◌, ◌^◌, ◌==◌, ◌<◌, ◌≤◌, Bool, true, false, if◌then◌else◌, List, [], ◌∷◌, All, map, length, sum_by, Option, Some}
+-- The rule of the gate, `IsKept`, which holds between any two atomic steps. `Fits` is what it says
+-- of each pass, and `IsInPlace` of the book.
+use Rattle.std.specs.Prelude.{◌≡◌, ℕ, ◌+◌, ◌-◌, ◌^◌, ◌==◌, ◌<◌, ◌≤◌, Bool, true, false}
+use Rattle.std.specs.Prelude.{if◌then◌else◌, List, [], ◌∷◌, All, map, length, sum_by, Option, Some}
 use mathlib.Core.Option as slot
 use lib.ListN.{get_elem?}
 use Rattle.atomic_table.specs.Table.{State}
@@ -29,7 +31,8 @@ budget v = v.share - (length v.turns + tickets v)
 abbrev pub IsWithinShare : {E F : Type 0} → View E F → Type 0
 IsWithinShare v = length v.turns + tickets v ≤ v.share
 
--- What holds of each pass, of which i is the number: `taken` and `serving` are the two words, and `last` is what the book stood for as the last turn left it.
+-- What holds of each pass, of which i is the number: `taken` and `serving` are the two words, and
+-- `last` is what the book stood for as the last turn left it.
 pub record Fits {E F : Type 0} (here : Origin F) (taken serving : ℕ) (is_out : Bool) (last : Statement E) (log : List (ℕ × Turn)) (i : ℕ) (v : View E F) : Type 0 where
   -- it knows the footing that `new` found, and how many turns there are
   pub knows_origin : (o : Origin F) → v.origin ≡ Some o → o ≡ here
@@ -48,12 +51,15 @@ pub record Fits {E F : Type 0} (here : Origin F) (taken serving : ℕ) (is_out :
   -- its turns are those that the log has under its number
   pub has_its_turns : v.turns ≡ turns_of i log
 
--- Where the book is. At home it is as the last turn left it, on the footing that `new` found, and before any turn it is the one that `new` was given. Else it is out with the pass that is called.
+-- Where the book is. At home it is as the last turn left it, on the footing that `new` found, and
+-- before any turn it is the one that `new` was given. Else it is out with the pass that is called.
 abbrev pub IsInPlace : {S E F : Type 0} → (S → Statement E) → (S → F) → S → Statement E → List (ℕ × Turn) → Bool → List (slot.Option (Option S)) → Type 0
 IsInPlace {S} stands footing opened last log false homes = (b : S) × (homes ≡ slot.some (Some b) ∷ []) × (stands b ≡ last) × (footing b ≡ footing opened) × (log ≡ [] → b ≡ opened)
 IsInPlace stands footing opened last log true homes = homes ≡ slot.none ∷ []
 
--- The rule. `taken` and `serving` are the two words, and `is_out` tells whether the book is with a pass. `last` is what the book stood for as the last turn left it, or as `new` found it. The log has all turns that were served, each with the number of the pass whose it is.
+-- The rule. `taken` and `serving` are the two words, and `is_out` tells whether the book is with a
+-- pass. `last` is what the book stood for as the last turn left it, or as `new` found it. The log
+-- has all turns that were served, each with the number of the pass whose it is.
 pub record IsKept {S E F : Type 0} (stands : S → Statement E) (footing : S → F) (given : ℕ) (opened : S) (s : State (Option S) (View E F)) : Type 0 where
   pub taken : ℕ
   pub serving : ℕ
@@ -73,7 +79,8 @@ pub record IsKept {S E F : Type 0} (stands : S → Statement E) (footing : S →
   pub all_budgets : taken + sum_by budget s.views ≡ given
   pub all_shares : sum_by (λ v. v.share) s.views ≡ given
   pub no_wrap : given ≤ 2 ^ 62
-  -- the log has the turns up to the one that is served, each going on from the one before, from what `new` found to what the last left
+  -- the log has the turns up to the one that is served, each going on from the one before, from
+  -- what `new` found to what the last left
   pub all_served : length log ≡ serving
   pub one_chain : IsChain 0 (mark_of (stands opened)) (map (λ e. e.1) log) (mark_of last)
   pub all_goes_on : StartsWith last.list (stands opened).list

@@ -1,11 +1,13 @@
 -- What each atomic step tells the pass that makes it.
-use Rattle.std.specs.Prelude.{◌≡◌, ◌≢◌, ℕ, ◌+◌, ◌-◌, ◌≤◌, max, true, false, [], ◌∷◌, ◌++◌, All, length, Option, Some, None, IfSome}
+use Rattle.std.specs.Prelude.{◌≡◌, ◌≢◌, ℕ, ◌+◌, ◌-◌, ◌≤◌, max, true, false, [], ◌∷◌, ◌++◌, All}
+use Rattle.std.specs.Prelude.{length, Option, Some, None, IfSome}
 use Rattle.atomic_table.specs.Table.{Me, Step}
 use Rattle.book_gate.specs.declared.views.Origin.{Origin}
 use Rattle.book_gate.specs.declared.views.Statement.{Statement}
 use Rattle.book_gate.specs.declared.views.View.{View}
 use Rattle.book_gate.specs.Rule.{budget}
-use Rattle.book_gate.specs.Views.{StartsWith, AreListedWithin, AreCountedWithin, AreNumberedBelow, AreAscending, turn, longer, merged}
+use Rattle.book_gate.specs.Views.{StartsWith, AreListedWithin, AreCountedWithin, AreNumberedBelow}
+use Rattle.book_gate.specs.Views.{AreAscending, turn, longer, merged}
 
 module _ {E F : Type 0} where
   abbrev pub with_ticket : View E F → ℕ → View E F
@@ -55,6 +57,8 @@ module _ {S E F : Type 0} (stands : S → Statement E) where
   Advances st m n w = (b : S) → m.1 ≡ (0, Some b) ∷ [] → w ≡ (served m.0 (stands b), [])
 
 module _ {S E F : Type 0} where
-  -- The lists that were joined are beginnings of one, and the turns of the pass ascend. So many turns were served: at least those of the pass, at most all but those that it may still take, and its own alone where its share is the whole.
+  -- The lists that were joined are beginnings of one, and the turns of the pass ascend. So many
+  -- turns were served: at least those of the pass, at most all but those that it may still take,
+  -- and its own alone where its share is the whole.
   abbrev pub Meets : Step (Option S) → Me (Option S) (View E F) → ℕ → Me (Option S) (View E F) → Type 0
   Meets st m n w = (w ≡ m) × All (λ l. StartsWith m.0.seen l) m.0.joined × (length m.0.turns ≤ n) × (length m.0.turns ≤ m.0.share) × AreNumberedBelow m.0.turns n × AreAscending m.0.turns × ((o : Origin F) → m.0.origin ≡ Some o → n + budget m.0 ≤ o.turns) × ((o : Origin F) → m.0.origin ≡ Some o → m.0.share ≡ o.turns → n ≡ length m.0.turns)

@@ -1,5 +1,6 @@
 -- What a book stands for, and what a pass knows of it.
-use Rattle.std.specs.Prelude.{◌≡◌, ℕ, zero, suc, ◌-◌, ◌≤◌, ◌<◌, nat_lt, if◌then◌else◌, false, All, AllPairs, List, [], ◌∷◌, ◌++◌, length, sum_by, Some}
+use Rattle.std.specs.Prelude.{◌≡◌, ℕ, zero, suc, ◌-◌, ◌≤◌, ◌<◌, nat_lt, if◌then◌else◌, false, All}
+use Rattle.std.specs.Prelude.{AllPairs, List, [], ◌∷◌, ◌++◌, length, sum_by, Some}
 use Rattle.book_gate.specs.declared.views.Mark.{Mark}
 use Rattle.book_gate.specs.declared.views.Origin.{Origin}
 use Rattle.book_gate.specs.declared.views.Statement.{Statement}
@@ -24,7 +25,8 @@ origin footing turns = record { footing = footing; turns = turns }
 abbrev pub Rises : Turn → Type 0
 Rises t = (t.found.entries ≤ t.left.entries) × (t.found.count ≤ t.left.count)
 
--- turns numbered from n on: the first found that mark, each later one what the turn before it left, and the last left that mark
+-- turns numbered from n on: the first found that mark, each later one what the turn before it
+-- left, and the last left that mark
 abbrev pub IsChain : ℕ → Mark → List Turn → Mark → Type 0
 IsChain n first [] last = first ≡ last
 IsChain n first (t ∷ ts) last = (t.number ≡ n) × (t.found ≡ first) × Rises t × IsChain (suc n) t.left ts last

@@ -1,5 +1,6 @@
 //! The gate and its passes.
-ghost use Rattle.std.specs.Prelude.{◌≡◌, ℕ, ◌+◌, ◌-◌, ◌^◌, ◌≤◌, ◌<◌, [], ◌∷◌, ◌++◌, All, IsPermutation, length, IfOk, IfErr, true, false, Some, None};
+ghost use Rattle.std.specs.Prelude.{◌≡◌, ℕ, ◌+◌, ◌-◌, ◌^◌, ◌≤◌, ◌<◌, [], ◌∷◌, ◌++◌, All};
+ghost use Rattle.std.specs.Prelude.{IsPermutation, length, IfOk, IfErr, true, false, Some, None};
 
 use crate::held::Held;
 use crate::plays::{Amount, Give, Meet, TakeIn, Turns};
@@ -31,9 +32,12 @@ pub struct Pass<S: Stands> {
 }
 
 impl<S: Stands> Gate<S> {
-    ghost use Rattle.book_gate.specs.Passes.{view, opened, turns_given, turns_left, IsOf, IsIdle, IsInTurn, IsWaiting, IsCalledWith, OpensTurn};
+    ghost use Rattle.book_gate.specs.Passes.{view, opened, turns_given, turns_left, IsOf, IsIdle};
+    ghost use Rattle.book_gate.specs.Passes.{IsInTurn, IsWaiting, IsCalledWith, OpensTurn};
     ghost use Rattle.book_gate.specs.Steps.{served, giving, given, joining};
-    ghost use Rattle.book_gate.specs.Views.{StartsWith, AreListedWithin, AreCountedWithin, AreNumberedBelow, AreAscending, IsChain, statement_of, newcomer, origin, mark_of, own, positions, rises};
+    ghost use Rattle.book_gate.specs.Views.{StartsWith, AreListedWithin, AreCountedWithin};
+    ghost use Rattle.book_gate.specs.Views.{AreNumberedBelow, AreAscending, IsChain, statement_of};
+    ghost use Rattle.book_gate.specs.Views.{newcomer, origin, mark_of, own, positions, rises};
 
     /// A gate that keeps this book for so many turns, and the pass that may take them all.
     pub fn new(alloc: Global, book: S, turns: u64) -> Result<(Gate<S>, Pass<S>), (S, NoMemory)>
@@ -115,7 +119,8 @@ impl<S: Stands> Gate<S> {
         unreachable!()
     }
 
-    /// Puts the book back, and ends the turn. Its list is the one that was found, with the entries of this turn behind it.
+    /// Puts the book back, and ends the turn. Its list is the one that was found, with the
+    /// entries of this turn behind it.
     #[tactic(auto, using(crate::proofs::Turns::own_push))]
     pub fn leave(&self, pass: &mut Pass<S>, held: Held<S>)
         requires own { IsOf S.footing self.now pass.old }
@@ -136,7 +141,8 @@ impl<S: Stands> Gate<S> {
         self.table.shared.wake_all(SERVING);
     }
 
-    /// Gives some of its turns to a new pass, for another thread. That one has seen as much, and has taken no turns.
+    /// Gives some of its turns to a new pass, for another thread. That one has seen as
+    /// much, and has taken no turns.
     pub fn split(&self, pass: &mut Pass<S>, turns: u64) -> Pass<S>
         requires own { IsOf S.footing self.now pass.old }
         requires idle { IsIdle pass.old }
@@ -157,7 +163,8 @@ impl<S: Stands> Gate<S> {
         self.split_by::<Brand>(pass, turns)
     }
 
-    // A cut of a view has no argument, so it reads from a type, in proofs alone, how many turns go over.
+    // A cut of a view has no argument, so it reads from a type, in proofs
+    // alone, how many turns go over.
     fn split_by<A: Amount>(&self, pass: &mut Pass<S>, turns: u64) -> Pass<S>
         requires own { IsOf S.footing self.now pass.old }
         requires idle { IsIdle pass.old }
@@ -197,7 +204,8 @@ impl<S: Stands> Gate<S> {
         self.meet(into);
     }
 
-    /// How many turns were served. The lists that were joined into the pass are beginnings of one list.
+    /// How many turns were served. The lists that were joined into the
+    /// pass are beginnings of one list.
     pub fn meet(&self, pass: &mut Pass<S>) -> u64
         requires own { IsOf S.footing self.now pass.old }
         requires idle { IsIdle pass.old }

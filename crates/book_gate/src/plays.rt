@@ -1,6 +1,7 @@
 //! The rule of the gate, and what each step tells.
 ghost use Rattle.book_gate.specs.Rule.{IsKept};
-ghost use Rattle.book_gate.specs.Steps.{Takes, Looks, Advances, Meets, giving, given, joining, spent};
+ghost use Rattle.book_gate.specs.Steps.{Takes, Looks, Advances, Meets, giving, given, joining};
+ghost use Rattle.book_gate.specs.Steps.{spent};
 ghost use Rattle.book_gate.specs.Views.{statement_of, newcomer, origin};
 
 use crate::stands::Stands;

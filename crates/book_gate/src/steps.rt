@@ -12,7 +12,8 @@ const TICKET: usize = 0;
 pub(crate) const SERVING: usize = 1;
 
 impl<S: Stands> Gate<S> {
-    ghost use Rattle.book_gate.specs.Passes.{view, opened, turns_left, IsOf, IsIdle, IsInTurn, IsWaiting, IsCalledWith, HasBook};
+    ghost use Rattle.book_gate.specs.Passes.{view, opened, turns_left, IsOf, IsIdle, IsInTurn};
+    ghost use Rattle.book_gate.specs.Passes.{IsWaiting, IsCalledWith, HasBook};
     ghost use Rattle.book_gate.specs.Steps.{with_ticket, served};
     ghost use Rattle.book_gate.specs.Views.{StartsWith, statement_of};
 

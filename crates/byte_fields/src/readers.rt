@@ -1,14 +1,15 @@
 //! Fields read one after another from the front of some bytes.
 
-ghost use Rattle.std.specs.Prelude.{◌≡◌, ℕ, ◌+◌, ◌^◌, ◌<◌, ◌++◌, ◌∷◌, ◌↔◌, List, [], length, Ok, IfOk, IfErr, OnOk, OnErr, IsErr, IsOk, ℤ, FitsSigned};
+ghost use Rattle.std.specs.Prelude.{◌≡◌, ℕ, ◌+◌, ◌^◌, ◌<◌, ◌++◌, ◌∷◌, ◌↔◌, List, [], length, Ok};
+ghost use Rattle.std.specs.Prelude.{IfOk, IfErr, OnOk, OnErr, IsErr, IsOk, ℤ, FitsSigned};
 ghost use Rattle.std.specs.Int.{w32, w64, to_be_bytes};
 ghost use Rattle.byte_fields.specs.Unread.{end_of, signed_bytes};
 
 use crate::faults::{Over, Short};
 use std::marker::Model;
 
-/// A reader of the fields that some bytes spell. Offsets count from the start of the bytes given to `new`.
-/// A call that finds too few bytes takes none.
+/// A reader of the fields that some bytes spell. Offsets count from the start of the bytes given to
+/// `new`. A call that finds too few bytes takes none.
 #[derive(Debug, Drop)]
 pub struct Fields<'a> {
     left: &'a [u8],
@@ -143,7 +144,8 @@ impl<'a> Fields<'a> {
     }
 }
 
-/// No spelling of a number begins another of its kind, so what was written is what is read, whatever follows it.
+/// No spelling of a number begins another of its kind, so what was written is what
+/// is read, whatever follows it.
 pub fn one_form()
     ensures u32 { (v w : ℕ) (x y : List ℕ) → v < 2 ^ 32 → w < 2 ^ 32 → to_be_bytes w32 v ++ x ≡ to_be_bytes w32 w ++ y → (v ≡ w) × (x ≡ y) }
     ensures u64 { (v w : ℕ) (x y : List ℕ) → v < 2 ^ 64 → w < 2 ^ 64 → to_be_bytes w64 v ++ x ≡ to_be_bytes w64 w ++ y → (v ≡ w) × (x ≡ y) }

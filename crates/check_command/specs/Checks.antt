@@ -1,5 +1,6 @@
 -- What a file of proofs comes to, by a history: its timetable and its entries.
-use Rattle.std.specs.Prelude.{◌≡◌, ◌≢◌, ◌⊎◌, ◌≤◌, ℕ, List, [], ◌++◌, length, take, map, All, codes, decimal, flat_map, Result, Ok, Err}
+use Rattle.std.specs.Prelude.{◌≡◌, ◌≢◌, ◌⊎◌, ◌≤◌, ℕ, List, [], ◌++◌, length, take, map, All, codes}
+use Rattle.std.specs.Prelude.{decimal, flat_map, Result, Ok, Err}
 use Rattle.client_lines.specs.Names.{Names}
 use Rattle.command_reports.specs.Refusals.{IsTold, line_with}
 use Rattle.command_reports.specs.declared.refusals.Refusal.{Refusal}
@@ -28,7 +29,8 @@ IsWide timetable proof = HasMoreThan MAX_PLACES timetable.net proof.request
 abbrev pub IsPast : List Entry → Proof → Type 0
 IsPast entries proof = proof.at ≤ length entries
 
--- the members show that no path could be granted at the proof's front, which is at the first entries
+-- the members show that no path could be granted at the proof's front,
+-- which is at the first entries
 abbrev pub Proves : Timetable → List Entry → Proof → Type 0
 Proves timetable entries proof =
     IsProof timetable.net timetable.settings (live_in timetable (take proof.at entries))

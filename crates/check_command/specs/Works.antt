@@ -1,5 +1,5 @@
--- The work of `check`: the network, the trains and the base timetable are read, the journal of the network and the base
--- timetable, and then the proofs.
+-- The work of `check`: the network, the trains and the base timetable are read, the journal of the
+-- network and the base timetable, and then the proofs.
 use Rattle.std.specs.Prelude.{ℕ, List, [], ◌∷◌, Vec, Result}
 use Rattle.std.specs.Global.{Global}
 use Rattle.base_file.specs.Sound.{IsBaseOn}

@@ -1,5 +1,6 @@
 -- What entries have brought and freed since a copy of the claims was made.
-use Rattle.std.specs.Prelude.{◌≡◌, ℕ, ◌<◌, ◌≤◌, List, [], drop, Option, Some, None, slice_get, All, Any}
+use Rattle.std.specs.Prelude.{◌≡◌, ℕ, ◌<◌, ◌≤◌, List, [], drop, Option, Some, None, slice_get, All}
+use Rattle.std.specs.Prelude.{Any}
 use Rattle.rail_types.specs.declared.paths.Claim.{Claim}
 use Rattle.rail_types.specs.declared.entries.Entry.{Entry}
 use Rattle.rail_types.specs.declared.entries.Deed.TheVariants.{Free}

@@ -1,22 +1,24 @@
 //! A decimal as a whole number and what is left over, without numbers of more than 128 bits.
 
-ghost use Rattle.std.specs.Prelude.{◌≡◌, ◌+◌, ◌<◌, ◌≤◌, ◌*◌, ◌/◌, ◌%◌, ◌^◌, ◌==◌, ◌&&◌, not, length};
+ghost use Rattle.std.specs.Prelude.{◌≡◌, ◌+◌, ◌<◌, ◌≤◌, ◌*◌, ◌/◌, ◌%◌, ◌^◌, ◌==◌, ◌&&◌, not};
+ghost use Rattle.std.specs.Prelude.{length};
 ghost use Rattle.std.specs.List.{list_all};
 ghost use Rattle.std.specs.Str.Parse.{AllDigits, digits_value_after};
 ghost use Rattle.decimal_quote.specs.Values.{below, is_zero, raised};
 
-/// A quotient: its whole number, None where that is not below the end that was asked for, and whether something is
-/// left over.
+/// A quotient: its whole number, None where that is not below the end that was asked for, and
+/// whether something is left over.
 #[derive(Clone, Copy)]
 pub(crate) struct Share {
     pub amount: Option<u128>,
     pub has_rest: bool,
 }
 
-/// All digits as one whole number, times ten to the power `up`, divided by ten once for each digit of the fraction and
-/// `down` times more.
+/// All digits as one whole number, times ten to the power `up`, divided by ten once for each digit
+/// of the fraction and `down` times more.
 ///
-/// The point moves `up` places to the right and `down` places to the left; what stands before it is the whole number.
+/// The point moves `up` places to the right and `down` places to the left; what stands
+/// before it is the whole number.
 pub(crate) fn divide(whole: &[u8], fraction: &[u8], up: u128, down: u128, end: u128) -> Share
     requires digits_before { AllDigits 10 whole.now }
     requires digits_behind { AllDigits 10 fraction.now }

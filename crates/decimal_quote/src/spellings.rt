@@ -3,11 +3,14 @@
 ghost use Rattle.std.specs.Prelude.{◌≡◌, drop, [], if◌then◌else◌};
 ghost use Rattle.std.specs.Str.Parse.{AllDigits};
 ghost use Rattle.decimal_quote.specs.Numbers.{begins, after_sign};
-ghost use Rattle.decimal_quote.specs.Values.{front_digits, behind_digits, is_negative, whole_digits, fraction_digits, exponent_part, is_divided};
+ghost use Rattle.decimal_quote.specs.Values.{front_digits, behind_digits, is_negative};
+ghost use Rattle.decimal_quote.specs.Values.{whole_digits, fraction_digits, exponent_part};
+ghost use Rattle.decimal_quote.specs.Values.{is_divided};
 
 use crate::numbers::{begins_with, behind_first, behind_minus, behind_sign, digits_at_front};
 
-/// The parts of a number's text: the digits before and behind its point, and its exponent without the sign.
+/// The parts of a number's text: the digits before and behind its point, and
+/// its exponent without the sign.
 #[derive(Clone, Copy)]
 pub(crate) struct Spelling<'a> {
     pub is_negative: bool,

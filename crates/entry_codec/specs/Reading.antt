@@ -1,10 +1,18 @@
 -- A body read from left to right, with the place of the first field that is wrong.
-use Rattle.std.specs.Prelude.{◌≡◌, ℕ, zero, suc, ◌+◌, ◌^◌, ◌-◌, Bool, true, false, ◌&&◌, ◌||◌, List, [], ◌∷◌, length, take, drop, slice_index, Option, Some, None, Result, Ok, Err, ℤ, pos, neg_ℤ, ◌-ℤ◌, int_lt, nat_lt, nat_le, ◌==◌, if◌then◌else◌}
+use Rattle.std.specs.Prelude.{◌≡◌, ℕ, zero, suc, ◌+◌, ◌^◌, ◌-◌, Bool, true, false, ◌&&◌, ◌||◌, List}
+use Rattle.std.specs.Prelude.{[], ◌∷◌, length, take, drop, slice_index, Option, Some, None, Result}
+use Rattle.std.specs.Prelude.{Ok, Err, ℤ, pos, neg_ℤ, ◌-ℤ◌, int_lt, nat_lt, nat_le, ◌==◌}
+use Rattle.std.specs.Prelude.{if◌then◌else◌}
 use Rattle.std.specs.List.{list_all}
 use Rattle.std.specs.Int.{Width, w32, w64, byte_len, from_be_bytes, cast_signed}
 use Rattle.std.specs.Str.{is_utf8}
 use Rattle.byte_fields.specs.Unread.{Unread, end_of}
-use Rattle.rail_types.specs.declared.limits.TheConstants.{MAX_TICK, MAX_NUMBER, MAX_OWNER_BYTES, MAX_TRAIN_LENGTH_M, MAX_SPEED_MM_S, MAX_ACCEL_MM_S2, MAX_ALLOWANCE_PERCENT, MAX_TRAIN_NAME_BYTES, MAX_STOPS, MAX_DWELL, MAX_PINNED_RUNS, MAX_HOLD_CLAIMS, MAX_REASON_BYTES}
+use Rattle.rail_types.specs.declared.limits.TheConstants.{MAX_TICK, MAX_NUMBER, MAX_OWNER_BYTES}
+use Rattle.rail_types.specs.declared.limits.TheConstants.{MAX_TRAIN_LENGTH_M, MAX_SPEED_MM_S}
+use Rattle.rail_types.specs.declared.limits.TheConstants.{MAX_ACCEL_MM_S2, MAX_ALLOWANCE_PERCENT}
+use Rattle.rail_types.specs.declared.limits.TheConstants.{MAX_TRAIN_NAME_BYTES, MAX_STOPS}
+use Rattle.rail_types.specs.declared.limits.TheConstants.{MAX_DWELL, MAX_PINNED_RUNS}
+use Rattle.rail_types.specs.declared.limits.TheConstants.{MAX_HOLD_CLAIMS, MAX_REASON_BYTES}
 use Rattle.rail_types.specs.Limits.{is_between, is_tick, is_name_byte}
 use Rattle.rail_types.specs.declared.paths.Claim.{Claim}
 use Rattle.rail_types.specs.declared.paths.Window.{Window}
@@ -24,8 +32,8 @@ use Rattle.entry_codec.specs.declared.faults.Wrong.{Wrong}
 use Rattle.entry_codec.specs.declared.finding.FoundTrain.{FoundTrain}
 use Rattle.entry_codec.specs.declared.faults.EntryFault.TheVariants.{NotEntry, Memory}
 
--- What reading gives: a value and what is left behind it, or where the first wrong field begins. Where bytes are
--- missing that is the end of all.
+-- What reading gives: a value and what is left behind it, or where the first wrong field begins.
+-- Where bytes are missing that is the end of all.
 abbrev pub Reading : Type 0 → Type 0
 Reading A = Unread → Result (A × Unread) ℕ
 
@@ -265,7 +273,8 @@ abbrev pub whole : {A : Type 0} → Result (A × Unread) ℕ → Result A ℕ
 whole (Ok found) = if length found.1.left == 0 then Ok found.0 else Err found.1.at
 whole (Err at) = Err at
 
--- the entry that the body spells, or where the first wrong field begins; a surplus is wrong where it begins
+-- the entry that the body spells, or where the first wrong field begins; a
+-- surplus is wrong where it begins
 unfoldable pub entry_at : List ℕ → Result Entry ℕ
 entry_at body = whole (entry_field (record { at = 0; left = body }))
 

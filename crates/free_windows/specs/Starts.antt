@@ -1,5 +1,6 @@
 -- The ticks at which claims are free, as windows.
-use Rattle.std.specs.Prelude.{◌≡◌, ◌⊎◌, ℕ, ◌<◌, ℤ, pos, neg_ℤ, ◌+ℤ◌, ◌<ℤ◌, ◌≤ℤ◌, ◌↔◌, List, All, AllPairs, Any, Bool, false, IsTrue}
+use Rattle.std.specs.Prelude.{◌≡◌, ◌⊎◌, ℕ, ◌<◌, ℤ, pos, neg_ℤ, ◌+ℤ◌, ◌<ℤ◌, ◌≤ℤ◌, ◌↔◌, List, All}
+use Rattle.std.specs.Prelude.{AllPairs, Any, Bool, false, IsTrue}
 use Rattle.rail_types.specs.declared.paths.Claim.{Claim}
 use Rattle.rail_types.specs.declared.paths.Window.{Window}
 use Rattle.rail_types.specs.Occupation.{HasTicks}

@@ -1,6 +1,7 @@
 //! The ticks at which claims are free.
 
-ghost use Rattle.std.specs.Prelude.{◌≡◌, ℕ, ◌≤◌, ◌<◌, ℤ, pos, ◌+ℤ◌, ◌-ℤ◌, ◌<ℤ◌, ◌≤ℤ◌, ◌↔◌, All, AllPairs, IfOk, IfSome, IsNone, length};
+ghost use Rattle.std.specs.Prelude.{◌≡◌, ℕ, ◌≤◌, ◌<◌, ℤ, pos, ◌+ℤ◌, ◌-ℤ◌, ◌<ℤ◌, ◌≤ℤ◌, ◌↔◌, All};
+ghost use Rattle.std.specs.Prelude.{AllPairs, IfOk, IfSome, IsNone, length};
 ghost use Rattle.std.specs.Int.{int_min};
 ghost use Rattle.std.specs.List.{AllWithin};
 ghost use Rattle.rail_types.specs.declared.limits.TheConstants.{FAR_TICK};
@@ -8,7 +9,8 @@ ghost use Rattle.rail_types.specs.Limits.{IsNear, IsNearSpan};
 ghost use Rattle.rail_types.specs.Occupation.{HasTicks};
 ghost use Rattle.occupation_book.specs.Held.{AreInOrder, held};
 ghost use Rattle.free_windows.specs.Free.{Fits, Holds, IsFreeOf, moved};
-ghost use Rattle.free_windows.specs.Starts.{IsPiece, IsNearWindow, IsStretch, IsNextWindow, AreWindowsOf};
+ghost use Rattle.free_windows.specs.Starts.{IsPiece, IsNearWindow, IsStretch, IsNextWindow};
+ghost use Rattle.free_windows.specs.Starts.{AreWindowsOf};
 
 use no_memory::NoMemory;
 use occupation_book::Occupations;
@@ -22,8 +24,8 @@ struct Stretch {
     ticks: Window,
 }
 
-/// The ticks of a window to which claims can be moved, that stand here for tick 0, so that each of them is free:
-/// ascending windows that neither overlap nor touch.
+/// The ticks of a window to which claims can be moved, that stand here for tick 0, so that each of
+/// them is free: ascending windows that neither overlap nor touch.
 pub fn starts(
     alloc: Global,
     pieces: &[Claim],

@@ -1,7 +1,8 @@
 //! Callers that add to a book in turns, each in a thread.
 ghost use Rattle.std.specs.Prelude.{◌≡◌, ◌+◌, ◌*◌, ◌^◌, ◌≤◌, ◌<◌, [], All, IfOk, length, sum_by};
 ghost use Rattle.book_gate.specs.Passes.{view, opened, turns_given, turns_left};
-ghost use Rattle.gate_numbers.specs.Passes.{IsReady, IsFresh, IsSpent, IsHistory, HasAdded, TakesTurns, share};
+ghost use Rattle.gate_numbers.specs.Passes.{IsReady, IsFresh, IsSpent, IsHistory, HasAdded};
+ghost use Rattle.gate_numbers.specs.Passes.{TakesTurns, share};
 
 use crate::numbers::Numbers;
 use book_gate::{Gate, Pass};
@@ -134,7 +135,8 @@ fn close_all(gate: Gate<Numbers>, mut pass: Pass<Numbers>) -> (u64, Numbers)
     (served, gate.close(pass))
 }
 
-/// So many clients take so many turns each, in up to sixteen threads. It answers how many turns were served, and the book after them.
+/// So many clients take so many turns each, in up to sixteen threads. It answers how many turns
+/// were served, and the book after them.
 pub fn run_all<R: Threads + Wait + Clock + Sync>(
     rt: &R,
     alloc: Global,

@@ -1,5 +1,7 @@
 -- Fields of an object: what each reads as, or its first fault.
-use Rattle.std.specs.Prelude.{◌≡◌, ℕ, ℤ, pos, negsuc, List, [], ◌∷◌, ◌++◌, length, map, codes, if◌then◌else◌, Bool, false, ◌&&◌, nat_le, is_some, Option, Some, None, option_map, Result, Ok, Err}
+use Rattle.std.specs.Prelude.{◌≡◌, ℕ, ℤ, pos, negsuc, List, [], ◌∷◌, ◌++◌, length, map, codes}
+use Rattle.std.specs.Prelude.{if◌then◌else◌, Bool, false, ◌&&◌, nat_le, is_some, Option, Some, None}
+use Rattle.std.specs.Prelude.{option_map, Result, Ok, Err}
 use Rattle.serde_json.specs.Data.{Data, Items, no_items, item}
 use Rattle.serde_json.specs.Find.{get, as_array, as_object, as_str}
 use Rattle.decimal_quote.specs.declared.values.NotWhole.{NotWhole}
@@ -12,7 +14,9 @@ use Rattle.json_fields.specs.Places.{FilePlace, spot_of}
 use Rattle.json_fields.specs.Reading.{◌>>=◌, or_fault}
 use Rattle.json_fields.specs.Reading as reading
 use Rattle.infra_fields.specs.declared.faults.InfraFault.{InfraFault}
-use Rattle.infra_fields.specs.declared.faults.InfraFault.TheVariants.{Missing, Kind, Fraction, Negative, Unknown, Twice, Limit, Memory}
+use Rattle.infra_fields.specs.declared.faults.InfraFault.TheVariants.{Missing, Kind, Fraction}
+use Rattle.infra_fields.specs.declared.faults.InfraFault.TheVariants.{Negative, Unknown, Twice}
+use Rattle.infra_fields.specs.declared.faults.InfraFault.TheVariants.{Limit, Memory}
 use Rattle.infra_fields.specs.declared.faults.What.{What}
 use Rattle.infra_fields.specs.declared.faults.What.TheVariants as what
 

@@ -1,5 +1,7 @@
--- Words that stand for one of a few things: directions, ends, types of switches, their ports and their groups.
-use Rattle.std.specs.Prelude.{ℕ, List, [], ◌∷◌, ◌++◌, codes, if◌then◌else◌, Option, Some, None, Result}
+-- Words that stand for one of a few things: directions, ends, types of switches,
+-- their ports and their groups.
+use Rattle.std.specs.Prelude.{ℕ, List, [], ◌∷◌, ◌++◌, codes, if◌then◌else◌, Option, Some, None}
+use Rattle.std.specs.Prelude.{Result}
 use Rattle.std.specs.Str.{bytes_eq}
 use Rattle.serde_json.specs.Data.{Data}
 use Rattle.json_fields.specs.Places.{FilePlace, spot_of}
@@ -11,9 +13,11 @@ use Rattle.infra_types.specs.declared.ends.End.TheVariants as ends
 use Rattle.infra_types.specs.declared.ends.Applies.{Applies}
 use Rattle.infra_types.specs.declared.ends.Applies.TheVariants as applying
 use Rattle.infra_types.specs.declared.switches.SwitchKind.{SwitchKind}
-use Rattle.infra_types.specs.declared.switches.SwitchKind.TheVariants.{Point, Link, Crossing, DoubleSlip}
+use Rattle.infra_types.specs.declared.switches.SwitchKind.TheVariants.{Point, Link, Crossing}
+use Rattle.infra_types.specs.declared.switches.SwitchKind.TheVariants.{DoubleSlip}
 use Rattle.infra_types.specs.declared.switches.Group.{Group}
-use Rattle.infra_types.specs.declared.switches.Group.TheVariants.{AB1, AB2, A1B1, A1B2, A2B1, A2B2, Other}
+use Rattle.infra_types.specs.declared.switches.Group.TheVariants.{AB1, AB2, A1B1, A1B2, A2B1, A2B2}
+use Rattle.infra_types.specs.declared.switches.Group.TheVariants.{Other}
 use Rattle.infra_fields.specs.declared.words.Port.{Port}
 use Rattle.infra_fields.specs.declared.words.Port.TheVariants as port
 use Rattle.infra_fields.specs.declared.faults.InfraFault.{InfraFault}

@@ -1,13 +1,17 @@
 //! Fields of one object. Each call answers the first fault of its field, at its spot.
 
-ghost use Rattle.std.specs.Prelude.{◌≡◌, ◌<◌, ◌≤◌, ◌^◌, ℤ, length, map, false, Ok, IfOk, option_map};
+ghost use Rattle.std.specs.Prelude.{◌≡◌, ◌<◌, ◌≤◌, ◌^◌, ℤ, length, map, false, Ok, IfOk};
+ghost use Rattle.std.specs.Prelude.{option_map};
 ghost use Rattle.serde_json.specs.View.{view};
 ghost use Rattle.decimal_quote.specs.declared.values.NotWhole.{NotWhole};
 ghost use Rattle.id_lists.specs.Ids.{is_known};
 ghost use Rattle.json_fields.specs.Places.{spot_of};
 ghost use Rattle.named_network.specs.Named.{IsId};
 ghost use Rattle.rail_types.specs.declared.limits.TheConstants.{MAX_OBJECTS};
-ghost use Rattle.infra_fields.specs.Fields.{Gives, object_at, found_at, text_of, text_at, limited_id, id_at, new_id_at, known_number, number_at, number_read, natural, metres_at, rounded_at, within, list_found, list_at, few, elements_in};
+ghost use Rattle.infra_fields.specs.Fields.{Gives, object_at, found_at, text_of, text_at};
+ghost use Rattle.infra_fields.specs.Fields.{limited_id, id_at, new_id_at, known_number, number_at};
+ghost use Rattle.infra_fields.specs.Fields.{number_read, natural, metres_at, rounded_at, within};
+ghost use Rattle.infra_fields.specs.Fields.{list_found, list_at, few, elements_in};
 
 use crate::faults::{InfraFault, What};
 use decimal_quote::NotWhole;

@@ -14,7 +14,8 @@ use Rattle.infra_fields.specs.declared.words.Port.{Port}
 use Rattle.infra_fields.specs.declared.faults.InfraFault.{InfraFault}
 use Rattle.infra_fields.specs.declared.faults.InfraFault.TheVariants.{SwitchType}
 use Rattle.infra_fields.specs.declared.faults.What.TheVariants as what
-use Rattle.infra_fields.specs.Fields.{object_at, found_at, text_at, new_id_at, number_at, metres_at, within, list_at, read_each}
+use Rattle.infra_fields.specs.Fields.{object_at, found_at, text_at, new_id_at, number_at, metres_at}
+use Rattle.infra_fields.specs.Fields.{within, list_at, read_each}
 use Rattle.infra_fields.specs.Words.{kind_named, end_at, ports_of, port_name, port_within}
 
 -- ---- tracks, detectors, buffer stops

@@ -7,7 +7,8 @@ ghost use Rattle.serde_json.specs.View.{view};
 ghost use Rattle.rail_types.specs.declared.limits.TheConstants.{MAX_OBJECTS};
 ghost use Rattle.infra_fields.specs.Fields.{Gives, GivesNext, read_each};
 ghost use Rattle.infra_types.specs.Infras.{IsSignal, IsBal};
-ghost use Rattle.infra_lists.specs.Signals.{signals_in, signal_at, signal_in, bal_at, bal_in, sight_at, is_block_signal, any_bal, is_bal};
+ghost use Rattle.infra_lists.specs.Signals.{signals_in, signal_at, signal_in, bal_at, bal_in};
+ghost use Rattle.infra_lists.specs.Signals.{sight_at, is_block_signal, any_bal, is_bal};
 
 use id_lists::Listed;
 use infra_fields::{

@@ -6,7 +6,8 @@ ghost use Rattle.serde_json.specs.View.{view};
 ghost use Rattle.rail_types.specs.declared.limits.TheConstants.{MAX_OBJECTS};
 ghost use Rattle.infra_fields.specs.Fields.{Gives, GivesNext, read_each};
 ghost use Rattle.infra_types.specs.Infras.{IsSwitch, port_count};
-ghost use Rattle.infra_lists.specs.Objects.{switches_in, switch_at, switch_in, kind_at, ports_at, read_ports, port_at, port_in};
+ghost use Rattle.infra_lists.specs.Objects.{switches_in, switch_at, switch_in, kind_at, ports_at};
+ghost use Rattle.infra_lists.specs.Objects.{read_ports, port_at, port_in};
 ghost use Rattle.infra_fields.specs.Words.{ports_of};
 
 use id_lists::Listed;

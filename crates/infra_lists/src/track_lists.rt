@@ -7,7 +7,8 @@ ghost use Rattle.named_network.specs.Named.{IsId};
 ghost use Rattle.rail_types.specs.declared.limits.TheConstants.{MAX_OBJECTS};
 ghost use Rattle.infra_fields.specs.Fields.{Gives, GivesNext, read_each};
 ghost use Rattle.infra_types.specs.Infras.{IsTrack, IsPlaced};
-ghost use Rattle.infra_lists.specs.Objects.{all_placed_in, tracks_in, track_at, track_in, placed_at, placed_in, length_at};
+ghost use Rattle.infra_lists.specs.Objects.{all_placed_in, tracks_in, track_at, track_in};
+ghost use Rattle.infra_lists.specs.Objects.{placed_at, placed_in, length_at};
 
 use id_lists::Listed;
 use infra_fields::{InfraFault, What, limit, list, metres, new_id, number, object};

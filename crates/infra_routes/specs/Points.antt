@@ -8,7 +8,8 @@ use Rattle.infra_types.specs.declared.tracks.Track.{Track}
 use Rattle.infra_types.specs.declared.tracks.Part.{Part}
 use Rattle.infra_types.specs.declared.tracks.OperationalPoint.{OperationalPoint}
 use Rattle.infra_fields.specs.declared.faults.InfraFault.{InfraFault}
-use Rattle.infra_fields.specs.Fields.{object_at, new_id_at, number_at, rounded_at, list_at, read_items, read_each}
+use Rattle.infra_fields.specs.Fields.{object_at, new_id_at, number_at, rounded_at, list_at}
+use Rattle.infra_fields.specs.Fields.{read_items, read_each}
 
 abbrev pub part_in : FilePlace → List (List ℕ) → Data → Result Part InfraFault
 part_in place tracks d = do

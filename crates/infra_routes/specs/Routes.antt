@@ -1,6 +1,7 @@
 -- Routes.
 use Rattle.infra_types.specs.Ids.{id_of_placed, id_of_route, id_of_switch}
-use Rattle.std.specs.Prelude.{ℕ, List, [], ◌∷◌, ◌++◌, map, length, codes, if◌then◌else◌, Option, Some, None, Result, Ok, Err}
+use Rattle.std.specs.Prelude.{ℕ, List, [], ◌∷◌, ◌++◌, map, length, codes, if◌then◌else◌, Option}
+use Rattle.std.specs.Prelude.{Some, None, Result, Ok, Err}
 use Rattle.std.specs.BTreeMap.{insert_entry}
 use Rattle.std.specs.Ordering.{nat_cmp}
 use Rattle.std.specs.Str.{bytes_eq}
@@ -18,7 +19,8 @@ use Rattle.infra_types.specs.declared.switches.Way.{Way}
 use Rattle.infra_types.specs.declared.tracks.Placed.{Placed}
 use Rattle.infra_fields.specs.declared.faults.InfraFault.{InfraFault}
 use Rattle.infra_fields.specs.declared.faults.InfraFault.TheVariants.{Kind}
-use Rattle.infra_fields.specs.Fields.{object_at, found_at, text_of, text_at, limited_id, new_id_at, known_number, number_at, list_at, read_items, read_each}
+use Rattle.infra_fields.specs.Fields.{object_at, found_at, text_of, text_at, limited_id, new_id_at}
+use Rattle.infra_fields.specs.Fields.{known_number, number_at, list_at, read_items, read_each}
 use Rattle.infra_fields.specs.Words.{direction_at, group_named}
 
 -- ---- entry and exit

@@ -7,7 +7,8 @@ ghost use Rattle.named_network.specs.Named.{IsId};
 ghost use Rattle.rail_types.specs.declared.limits.TheConstants.{MAX_OBJECTS};
 ghost use Rattle.infra_fields.specs.Fields.{Gives, GivesNext, read_each, read_items};
 ghost use Rattle.infra_types.specs.Infras.{IsPoint};
-ghost use Rattle.infra_routes.specs.Points.{points_in, point_at, point_in, parts_at, part_at, part_in};
+ghost use Rattle.infra_routes.specs.Points.{points_in, point_at, point_in, parts_at, part_at};
+ghost use Rattle.infra_routes.specs.Points.{part_in};
 
 use id_lists::Listed;
 use infra_fields::{InfraFault, list, new_id, number, object, rounded};

@@ -7,7 +7,8 @@ ghost use Rattle.named_network.specs.Named.{IsId};
 ghost use Rattle.rail_types.specs.declared.limits.TheConstants.{MAX_OBJECTS};
 ghost use Rattle.infra_fields.specs.Fields.{Gives, GivesNext, read_each, read_items};
 ghost use Rattle.infra_types.specs.Infras.{IsRoute, IsRoutePoint};
-ghost use Rattle.infra_routes.specs.Routes.{routes_in, route_at, route_in, route_of, point_at, point_in, releases_at, release_at, release_in};
+ghost use Rattle.infra_routes.specs.Routes.{routes_in, route_at, route_in, route_of, point_at};
+ghost use Rattle.infra_routes.specs.Routes.{point_in, releases_at, release_at, release_in};
 
 use crate::way_lists::ways;
 use id_lists::Listed;

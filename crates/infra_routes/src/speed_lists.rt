@@ -1,13 +1,16 @@
 //! Speed sections of a file.
 
 ghost use Rattle.infra_types.specs.Ids.{id_of_speed};
-ghost use Rattle.std.specs.Prelude.{◌≡◌, ◌<◌, ◌≤◌, ◌^◌, [], codes, length, map, All, IfOk, IfSome, OnOk, min, slice_index_or};
+ghost use Rattle.std.specs.Prelude.{◌≡◌, ◌<◌, ◌≤◌, ◌^◌, [], codes, length, map, All, IfOk, IfSome};
+ghost use Rattle.std.specs.Prelude.{OnOk, min, slice_index_or};
 ghost use Rattle.serde_json.specs.View.{view};
 ghost use Rattle.rail_types.specs.declared.limits.TheConstants.{MAX_OBJECTS, MAX_SPEED_MM_S};
 ghost use Rattle.json_fields.specs.Places.{spot_of};
 ghost use Rattle.infra_fields.specs.Fields.{Gives, GivesNext, read_each, read_items};
 ghost use Rattle.infra_types.specs.Infras.{IsSpeed, IsRange, lengths_of};
-ghost use Rattle.infra_routes.specs.Speeds.{speeds_in, speed_at, speed_in, limit_at, limit_found, mm_s_at, counted, ranges_at, range_at, range_in, clipped};
+ghost use Rattle.infra_routes.specs.Speeds.{speeds_in, speed_at, speed_in, limit_at, limit_found};
+ghost use Rattle.infra_routes.specs.Speeds.{mm_s_at, counted, ranges_at, range_at, range_in};
+ghost use Rattle.infra_routes.specs.Speeds.{clipped};
 
 use id_lists::Listed;
 use infra_fields::{

@@ -1,7 +1,8 @@
 //! The ways of a route across its switches.
 
 ghost use Rattle.infra_types.specs.Ids.{id_of_switch};
-ghost use Rattle.std.specs.Prelude.{◌≡◌, ◌<◌, ◌++◌, ◌∷◌, [], length, map, All, IfOk, OnOk, string_bytes};
+ghost use Rattle.std.specs.Prelude.{◌≡◌, ◌<◌, ◌++◌, ◌∷◌, [], length, map, All, IfOk, OnOk};
+ghost use Rattle.std.specs.Prelude.{string_bytes};
 ghost use Rattle.std.specs.BTreeMap.{IsOrdered, insert_entry};
 ghost use Rattle.std.specs.Ordering.{nat_cmp};
 ghost use Rattle.serde_json.specs.Data.{Members};
@@ -9,7 +10,8 @@ ghost use Rattle.serde_json.specs.View.{view, members_view};
 ghost use Rattle.json_fields.specs.Places.{spot_of};
 ghost use Rattle.infra_fields.specs.Fields.{Gives};
 ghost use Rattle.infra_types.specs.Infras.{AreWays};
-ghost use Rattle.infra_routes.specs.Routes.{ways_at, ways_found, read_ways, way_in, way_field, ways_of};
+ghost use Rattle.infra_routes.specs.Routes.{ways_at, ways_found, read_ways, way_in, way_field};
+ghost use Rattle.infra_routes.specs.Routes.{ways_of};
 
 use id_lists::Listed;
 use infra_fields::{InfraFault, group_named, limited};

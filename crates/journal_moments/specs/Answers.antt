@@ -21,8 +21,8 @@ pub record Leaves {D : Type 0} (disk : Ghosts D) (old new : Timed D) (header : L
 abbrev pub with_body : List (List ℕ) → List ℕ → List (List ℕ)
 with_body bodies body = bodies ++ body ∷ []
 
--- once it is done the entry is settled, and the moment is kept; after a fault of the record the history is as before;
--- and after a fault of the gate the entry is pending
+-- once it is done the entry is settled, and the moment is kept; after a fault of the record the
+-- history is as before; and after a fault of the gate the entry is pending
 abbrev pub Enters : {D : Type 0} → Ghosts D → Timed D → Timed D → List ℕ → List (List ℕ) → List ℕ → Written → Type 0
 Enters disk old new header bodies body Done =
     Leaves disk old new header (with_body bodies body)

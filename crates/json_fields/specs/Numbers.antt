@@ -1,5 +1,7 @@
 -- Numbers of a file. After quoting, a number stands as it is or is spelled by a text.
-use Rattle.std.specs.Prelude.{ℕ, ◌/◌, ◌^◌, ℤ, pos, ◌*ℤ◌, unsigned_abs, List, Bool, false, if◌then◌else◌, nat_lt, Option, Some, None, option_and_then, Result, Ok, Err}
+use Rattle.std.specs.Prelude.{ℕ, ◌/◌, ◌^◌, ℤ, pos, ◌*ℤ◌, unsigned_abs, List, Bool, false}
+use Rattle.std.specs.Prelude.{if◌then◌else◌, nat_lt, Option, Some, None, option_and_then, Result}
+use Rattle.std.specs.Prelude.{Ok, Err}
 use Rattle.serde_json.specs.Data.{Data}
 use Rattle.serde_json.specs.Find.{as_number, as_str, as_i64}
 use Rattle.decimal_quote.specs.Values.{whole_of, scaled_of, count_told, units}

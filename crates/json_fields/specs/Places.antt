@@ -2,8 +2,8 @@
 use Rattle.std.specs.Prelude.{ℕ, List, [], ◌∷◌, ◌++◌, codes, decimal, Option, Some, None}
 use Rattle.json_fields.specs.declared.spots.Spot.{Spot}
 
--- A place: the element of that index of that list, in it behind those fields, and there that item of a list. Without an
--- index it is the whole file.
+-- A place: the element of that index of that list, in it behind those fields, and there that item
+-- of a list. Without an index it is the whole file.
 pub record FilePlace : Type 0 where
   pub list : List ℕ
   pub index : Option ℕ

@@ -1,5 +1,6 @@
 -- What labels say.
-use Rattle.std.specs.Prelude.{◌≡◌, ◌⊎◌, ℕ, ◌≤◌, ◌<◌, ℤ, pos, ◌+ℤ◌, ◌≤ℤ◌, List, [], ◌++◌, Bool, true, false, length, slice_index_or, All, Any, map, filter, not}
+use Rattle.std.specs.Prelude.{◌≡◌, ◌⊎◌, ℕ, ◌≤◌, ◌<◌, ℤ, pos, ◌+ℤ◌, ◌≤ℤ◌, List, [], ◌++◌, Bool, true}
+use Rattle.std.specs.Prelude.{false, length, slice_index_or, All, Any, map, filter, not}
 use Rattle.rail_types.specs.declared.paths.Span.{Span}
 use Rattle.rail_types.specs.declared.paths.Claim.{Claim}
 use Rattle.label_search.specs.declared.plans.Member.{Member}

@@ -5,7 +5,8 @@ use Rattle.label_search.specs.declared.plans.Plan.{Plan}
 use Rattle.label_search.specs.declared.plans.Trip.{Trip}
 use Rattle.label_search.specs.declared.plans.Step.{Step}
 use Rattle.label_search.specs.Free.{Book}
-use Rattle.label_search.specs.Paths.{IsMove, IsRest, MoveFits, RestFits, last_leave, target_of, leave_of}
+use Rattle.label_search.specs.Paths.{IsMove, IsRest, MoveFits, RestFits, last_leave, target_of}
+use Rattle.label_search.specs.Paths.{leave_of}
 
 -- the rest of a path that fits and arrives at `last`, from a place that was reached at a tick
 pub record FollowsArrival (plan : Plan) (trip : Trip) (book : Book) (last : ℤ) (place : ℕ) (tick : ℤ) (steps : List Step) : Type 0 where

@@ -1,5 +1,6 @@
 -- What holds of the labels of a search and of the best end that it has found.
-use Rattle.std.specs.Prelude.{◌≡◌, ℕ, ◌<◌, ℤ, pos, ◌+ℤ◌, ◌-ℤ◌, ◌<ℤ◌, ◌≤ℤ◌, List, length, take, slice_index_or, Bool, true, false, IsTrue, Option, None, Some, IfSome}
+use Rattle.std.specs.Prelude.{◌≡◌, ℕ, ◌<◌, ℤ, pos, ◌+ℤ◌, ◌-ℤ◌, ◌<ℤ◌, ◌≤ℤ◌, List, length, take}
+use Rattle.std.specs.Prelude.{slice_index_or, Bool, true, false, IsTrue, Option, None, Some, IfSome}
 use Rattle.std.specs.Int.{int_min}
 use Rattle.rail_types.specs.declared.paths.Window.{Window}
 use Rattle.label_search.specs.declared.plans.Target.{Target}

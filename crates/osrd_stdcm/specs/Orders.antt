@@ -8,7 +8,8 @@ use Rattle.outside_io.specs.declared.sinks.Sink.{Ghosts as Sinks}
 use Rattle.outside_io.specs.declared.sources.Source.{Ghosts as Sources}
 use Rattle.file_rounds.specs.Scenes.{Scene}
 use Rattle.command_words.specs.declared.orders.Order.{Order}
-use Rattle.command_words.specs.declared.orders.Order.TheVariants.{Tables, Init, Stairs, Capacity, Serve, Demo, Check, Batch}
+use Rattle.command_words.specs.declared.orders.Order.TheVariants.{Tables, Init, Stairs, Capacity}
+use Rattle.command_words.specs.declared.orders.Order.TheVariants.{Serve, Demo, Check, Batch}
 use Rattle.command_reports.specs.Works.{Runs}
 use Rattle.batch_command.specs.Runs.{IsBatchDone, IsRefusedList, RunsBatch}
 use Rattle.capacity_command.specs.Capacities.{HasNoCapacity, stretch_of, TellsCapacity}
@@ -71,7 +72,8 @@ OrderIsDone source sink disk kind handed (Check network trains base journal proo
 OrderIsDone source sink disk kind handed (Batch network trains base journal client workers rules) old new =
     IsBatchDone source sink disk kind network trains base journal client workers handed old new
 
--- why an order was answered with its command's own no; only stairways, capacities, proofs and batches have one
+-- why an order was answered with its command's own no; only stairways,
+-- capacities, proofs and batches have one
 abbrev pub OrderIsRefused : {Src Snk Dsk : Type 0} → Sources Src → Disks Dsk → Order
     → Scene Src Snk Dsk → Type 0
 OrderIsRefused source disk (Tables network out) old = ⊥

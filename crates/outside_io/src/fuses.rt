@@ -1,14 +1,16 @@
 //! A disk that fails from some call on.
 
-ghost use Rattle.std.specs.Prelude.{◌≡◌, ◌≤◌, ◌<◌, ◌+◌, ◌-◌, ◌^◌, ◌↔◌, ℕ, List, Some, min, length, take, drop, is_some, option_map, IfOk, IfSome, OnErr, OnOk, IsErr, IsTrue};
+ghost use Rattle.std.specs.Prelude.{◌≡◌, ◌≤◌, ◌<◌, ◌+◌, ◌-◌, ◌^◌, ◌↔◌, ℕ, List, Some, min, length};
+ghost use Rattle.std.specs.Prelude.{take, drop, is_some, option_map, IfOk, IfSome, OnErr, OnOk};
+ghost use Rattle.std.specs.Prelude.{IsErr, IsTrue};
 ghost use Rattle.std.specs.Io.{ReadsAtMost};
 ghost use Rattle.outside_io.specs.Disks.{Follows, Looks, Passes, Torn, TornWhereTold, write_over};
 ghost use Rattle.outside_io.specs.Faults.{HasCause, next_count};
 
 use crate::{Disk, Failed};
 
-/// A disk behind a fuse: so many calls reach it, and each call after them fails and does not reach it. Its moment is
-/// that of the disk.
+/// A disk behind a fuse: so many calls reach it, and each call after them fails and does not reach
+/// it. Its moment is that of the disk.
 #[derive(Debug, Drop)]
 pub struct Fuse<D: Disk> {
     disk: D,

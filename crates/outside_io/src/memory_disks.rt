@@ -1,8 +1,12 @@
-ghost use Rattle.std.specs.Prelude.{◌↔◌, ◌⊎◌, Contains, IsErr, IsTrue, OnErr, OnOk, is_some, option_map, ◌≡◌, ◌∷◌, ◌+◌, ◌-◌, ◌%◌, ◌<◌, ◌≤◌, ◌^◌, [], ℕ, List, Some, length, IfOk, IfSome, IsNone, take, drop};
+ghost use Rattle.std.specs.Prelude.{◌↔◌, ◌⊎◌, Contains, IsErr, IsTrue, OnErr, OnOk, is_some};
+ghost use Rattle.std.specs.Prelude.{option_map, ◌≡◌, ◌∷◌, ◌+◌, ◌-◌, ◌%◌, ◌<◌, ◌≤◌, ◌^◌, [], ℕ};
+ghost use Rattle.std.specs.Prelude.{List, Some, length, IfOk, IfSome, IsNone, take, drop};
 ghost use Rattle.std.specs.Io.{ReadsAtMost};
 ghost use Rattle.outside_io.specs.Disks.{Follows, Looks, Passes, Torn, TornWhereTold, write_over};
 ghost use Rattle.outside_io.specs.Faults.{HasCause, next_count};
-ghost use Rattle.outside_io.specs.StoredDisks.{contents_after, contents_synced, failed_at, room_used, synced, wrote, IsImageAfter, IsImageSince};
+ghost use Rattle.outside_io.specs.StoredDisks.{contents_after, contents_synced, failed_at};
+ghost use Rattle.outside_io.specs.StoredDisks.{room_used, synced, wrote, IsImageAfter};
+ghost use Rattle.outside_io.specs.StoredDisks.{IsImageSince};
 
 use crate::crashes::replay;
 use crate::logged::Logged;
@@ -56,9 +60,9 @@ fn room_behind(room: usize, len: usize, at: u64, count: usize) -> Option<usize>
 }
 
 impl MemDisk {
-    /// A disk with these bytes, and room for so much more: each write or sync uses 1, and a write the bytes that it
-    /// writes, and those between the old end and its place. `fails` lists the calls that fail, counted from 0. The
-    /// memory for all the room is taken here.
+    /// A disk with these bytes, and room for so much more: each write or sync uses 1, and a write
+    /// the bytes that it writes, and those between the old end and its place. `fails` lists the
+    /// calls that fail, counted from 0. The memory for all the room is taken here.
     pub fn new(
         alloc: Global,
         bytes: Vec<u8>,
@@ -71,8 +75,8 @@ impl MemDisk {
         MemDisk::failing(alloc, bytes, room, fails, none)
     }
 
-    /// A disk like that of `new`, of which the listed syncs fail, counted from 0, and any other call only for want of
-    /// room.
+    /// A disk like that of `new`, of which the listed syncs fail, counted from 0, and any
+    /// other call only for want of room.
     pub fn failing_syncs(
         alloc: Global,
         bytes: Vec<u8>,
@@ -119,10 +123,11 @@ impl MemDisk {
         &self.bytes
     }
 
-    /// A disk with what a crash now may leave of this one, with as much room as this one was given, and no failing
-    /// call. The choice counts modulo 8: 0 leaves what was synced last, 1 what is there, 2 the front of each piece
-    /// that was not synced, 3 its back, 4 a foreign byte in it, 5 what of it lies before the end that was synced last;
-    /// 6 leaves every other piece, from the first on, and 7 fronts and whole pieces in turn. From 2 on the pieces of
+    /// A disk with what a crash now may leave of this one, with as much room as this one was
+    /// given, and no failing call. The choice counts modulo 8: 0 leaves what was synced last, 1
+    /// what is there, 2 the front of each piece that was not synced, 3 its back, 4 a foreign
+    /// byte in it, 5 what of it lies before the end that was synced last; 6 leaves every other
+    /// piece, from the first on, and 7 fronts and whole pieces in turn. From 2 on the pieces of
     /// failed writes are among them.
     pub fn crash(&self, alloc: Global, choice: u64) -> Result<MemDisk, NoMemory>
         ensures image { IfOk result (λ left. IsImageAfter self.now.first self.now.changes left.first) }

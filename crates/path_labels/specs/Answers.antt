@@ -1,5 +1,6 @@
 -- What a request is answered.
-use Rattle.std.specs.Prelude.{◌≡◌, ℕ, ◌-◌, ℤ, pos, ◌-ℤ◌, ◌≤ℤ◌, List, length, map, All, Option, None, Some}
+use Rattle.std.specs.Prelude.{◌≡◌, ℕ, ◌-◌, ℤ, pos, ◌-ℤ◌, ◌≤ℤ◌, List, length, map, All, Option, None}
+use Rattle.std.specs.Prelude.{Some}
 use Rattle.rail_types.specs.declared.tracks.Network.{Network}
 use Rattle.rail_types.specs.declared.trains.Request.{Request}
 use Rattle.rail_types.specs.declared.entries.Settings.{Settings}
@@ -52,7 +53,8 @@ pub record IsCertificate (net : Network) (settings : Settings) (live : List Clai
   pub members : All (IsMemberOf net settings request) proof.members
   pub closed : IsClosed net settings request live proof.members
 
--- a path that leaves last as early as any, with a certificate for what would leave last earlier; or that there is none
+-- a path that leaves last as early as any, with a certificate for what would leave last
+-- earlier; or that there is none
 abbrev pub IsAnswer : Network → Settings → List Claim → Request → Sought → Type 0
 IsAnswer net settings live request (Found path proof) =
     IsEarliest net settings live request path

@@ -1,5 +1,6 @@
 -- Inside: what joins the plan of a request to the request.
-use Rattle.std.specs.Prelude.{◌≡◌, ℕ, zero, suc, ◌-◌, ◌+◌, ◌<◌, ◌≤◌, ℤ, List, [], ◌∷◌, length, map, All}
+use Rattle.std.specs.Prelude.{◌≡◌, ℕ, zero, suc, ◌-◌, ◌+◌, ◌<◌, ◌≤◌, ℤ, List, [], ◌∷◌, length, map}
+use Rattle.std.specs.Prelude.{All}
 use Rattle.std.specs.List.{slice_index_or}
 use Rattle.rail_types.specs.declared.tracks.Network.{Network}
 use Rattle.rail_types.specs.declared.trains.Request.{Request}
@@ -23,7 +24,8 @@ use Rattle.label_search.specs.declared.plans.Trip.{Trip}
 use Rattle.label_search.specs.declared.plans.Step.{Step}
 use Rattle.label_search.specs.declared.plans.Member.{Member as PlannedMember}
 use Rattle.label_search.specs.Free.{Book}
-use Rattle.label_search.specs.Paths.{IsMove as IsPlannedMove, IsPath, PathFits, arrival, leave_of, place_at, target_of}
+use Rattle.label_search.specs.Paths.{IsMove as IsPlannedMove, IsPath, PathFits, arrival, leave_of}
+use Rattle.label_search.specs.Paths.{place_at, target_of}
 use Rattle.label_search.specs.Closed.{IsClosed as IsClosedPlan, before as trip_before}
 use Rattle.request_plans.specs.Plans.{IsPlanOf}
 use Rattle.request_plans.specs.Searched.{IsPlannedWithinLimits}
@@ -39,7 +41,8 @@ pub record IsPlannedFrom (net : Network) (settings : Settings) (request : Reques
 abbrev pub trip_of : Request → Trip
 trip_of request = record { depart = request.depart; arrive = request.arrive }
 
--- the listed moves from the planned place of a number: the start place has 0, each listed place the number behind its own
+-- the listed moves from the planned place of a number: the start place has 0, each listed
+-- place the number behind its own
 abbrev pub moves_of : Listed → ℕ → List Move
 moves_of listed zero = listed.starts
 moves_of listed (suc number) = slice_index_or listed.moves number []

@@ -1,5 +1,6 @@
 -- The first of held claims that clashes with new ones, by zone, then by begin.
-use Rattle.std.specs.Prelude.{◌≡◌, ◌↔◌, ◌⊎◌, ◌<◌, ◌<ℤ◌, Bool, ◌&&◌, ◌||◌, not, List, Option, find, filter, nat_eq, nat_lt, int_lt, All, AllPairs, Any, Contains}
+use Rattle.std.specs.Prelude.{◌≡◌, ◌↔◌, ◌⊎◌, ◌<◌, ◌<ℤ◌, Bool, ◌&&◌, ◌||◌, not, List, Option, find}
+use Rattle.std.specs.Prelude.{filter, nat_eq, nat_lt, int_lt, All, AllPairs, Any, Contains}
 use Rattle.std.specs.List.{list_any, list_all}
 use Rattle.rail_types.specs.declared.paths.Claim.{Claim}
 use Rattle.rail_types.specs.Occupation.{Clash, HasTicks, HeldClaim}

@@ -1,4 +1,5 @@
--- The work of `serve`: the network, the base timetable and the trains are read, and then clients are served.
+-- The work of `serve`: the network, the base timetable and the trains are read,
+-- and then clients are served.
 use Rattle.std.specs.Prelude.{ℕ, List, ◌∷◌, Result}
 use Rattle.admission_rules.specs.declared.rules.Rule.{Ghosts as Rules}
 use Rattle.client_rules.specs.declared.clients.ClientRules.{ClientRules}

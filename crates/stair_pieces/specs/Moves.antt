@@ -1,5 +1,6 @@
 -- The moves of a request, the places that they lead to, and the paths that they make.
-use Rattle.std.specs.Prelude.{◌≡◌, ◌⊎◌, ℕ, ◌<◌, ◌≤◌, ℤ, pos, ◌+ℤ◌, ◌≤ℤ◌, Bool, true, false, List, [], ◌∷◌, length, All, Contains, Some, None, slice_get}
+use Rattle.std.specs.Prelude.{◌≡◌, ◌⊎◌, ℕ, ◌<◌, ◌≤◌, ℤ, pos, ◌+ℤ◌, ◌≤ℤ◌, Bool, true, false, List}
+use Rattle.std.specs.Prelude.{[], ◌∷◌, length, All, Contains, Some, None, slice_get}
 use Rattle.rail_types.specs.declared.tracks.Block.{Block}
 use Rattle.rail_types.specs.declared.tracks.Network.{Network}
 use Rattle.rail_types.specs.declared.trains.Stop.{Stop}
@@ -34,7 +35,8 @@ abbrev pub MakesStop : Request → ℕ → Block → Type 0
 MakesStop request made block =
     (stop : Stop) × (slice_get request.stops made ≡ Some stop) × Contains block.serves stop.stop
 
--- a train may roll on at the end of any block, and halt there to make the next named stop or to arrive
+-- a train may roll on at the end of any block, and halt there to make the
+-- next named stop or to arrive
 abbrev pub MayLeave : Request → ℕ → Block → Edge → Type 0
 MayLeave request made block Rolling = Unit {0}
 MayLeave request made block Halted = MakesStop request made block ⊎ Arrives request made block
@@ -112,7 +114,8 @@ OfLast Said [] = ⊥
 OfLast Said (run ∷ []) = Said run
 OfLast Said (run ∷ (next ∷ runs)) = OfLast Said (next ∷ runs)
 
--- the request's train makes moves of the request from the start place, in their time, within its windows
+-- the request's train makes moves of the request from the start place, in
+-- their time, within its windows
 pub record IsMadeOfMoves (net : Network) (settings : Settings) (request : Request) (path : Path) : Type 0 where
   pub train : path.train ≡ request.train
   pub moves : AreMoves net request start_place path.runs
@@ -129,7 +132,8 @@ PathsAreMoves =
     → broken net settings path (Asked request) ≡ None
     → IsMadeOfMoves net settings request path × ArePlaces net request start_place path.runs
 
--- a path that is made of moves of the request goes through blocks of the network, and keeps the request
+-- a path that is made of moves of the request goes through blocks of the
+-- network, and keeps the request
 abbrev pub MovesAreAPath : Type 0
 MovesAreAPath =
     (net : Network) (settings : Settings) (request : Request) (path : Path)

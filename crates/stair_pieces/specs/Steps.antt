@@ -3,7 +3,8 @@ use Rattle.std.specs.Prelude.{◌≡◌, ℕ, ◌<◌, true, List, [], length, A
 use Rattle.rail_types.specs.declared.tracks.Network.{Network}
 use Rattle.rail_types.specs.declared.trains.Train.{Train}
 use Rattle.rail_types.specs.declared.entries.Settings.{Settings}
-use Rattle.rail_types.specs.Limits.{IsBlockWithinLimits, IsTrainWithinLimits, IsSettingsWithinLimits}
+use Rattle.rail_types.specs.Limits.{IsBlockWithinLimits, IsTrainWithinLimits}
+use Rattle.rail_types.specs.Limits.{IsSettingsWithinLimits}
 use Rattle.running_time.specs.Limits.{IsEnterWithinLimits}
 use Rattle.stair_pieces.specs.declared.places.Place.{Place}
 

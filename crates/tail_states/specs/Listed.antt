@@ -1,5 +1,6 @@
 -- The places of a request by number, with the moves from each.
-use Rattle.std.specs.Prelude.{◌≡◌, ◌≢◌, ◌⊎◌, ℕ, ◌+◌, ◌<◌, List, [], ◌∷◌, ◌++◌, length, All, AllPairs, Contains, Some, slice_get}
+use Rattle.std.specs.Prelude.{◌≡◌, ◌≢◌, ◌⊎◌, ℕ, ◌+◌, ◌<◌, List, [], ◌∷◌, ◌++◌, length, All}
+use Rattle.std.specs.Prelude.{AllPairs, Contains, Some, slice_get}
 use Rattle.rail_types.specs.declared.tracks.Network.{Network}
 use Rattle.rail_types.specs.declared.trains.Request.{Request}
 use Rattle.rail_types.specs.declared.limits.TheConstants.{MAX_PLACES}
@@ -13,7 +14,8 @@ use Rattle.tail_states.specs.declared.moves.Next.TheVariants.{End, At}
 use Rattle.tail_states.specs.declared.faults.PlacesFault.{PlacesFault}
 use Rattle.tail_states.specs.declared.faults.PlacesFault.TheVariants.{Wide, Memory}
 
--- the places in the order of their numbers, the moves from the start place, and for each place those from it
+-- the places in the order of their numbers, the moves from the start place, and
+-- for each place those from it
 pub record Listed : Type 0 where
   pub members : List Place
   pub starts : List Move

@@ -1,5 +1,6 @@
 -- What is wrong with the switches and positions of an infrastructure.
-use Rattle.std.specs.Prelude.{◌≡◌, ℕ, ◌<◌, ◌⊎◌, Bool, nat_lt, List, ◌++◌, map, find, Option, Some, None, option_map}
+use Rattle.std.specs.Prelude.{◌≡◌, ℕ, ◌<◌, ◌⊎◌, Bool, nat_lt, List, ◌++◌, map, find, Option, Some}
+use Rattle.std.specs.Prelude.{None, option_map}
 use Rattle.std.specs.List.{flat_map, filter_map}
 use Rattle.infra_types.specs.declared.ends.TrackEnd.{TrackEnd}
 use Rattle.infra_types.specs.declared.infras.Infra.{Infra}

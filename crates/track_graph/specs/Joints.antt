@@ -1,5 +1,6 @@
 -- *Inside*: for each end of a track the port that is there.
-use Rattle.std.specs.Prelude.{◌≡◌, ℕ, ◌+◌, ◌*◌, ◌<◌, List, length, slice_index_or, slice_set, Bool, true, false, Option, Some, None}
+use Rattle.std.specs.Prelude.{◌≡◌, ℕ, ◌+◌, ◌*◌, ◌<◌, List, length, slice_index_or, slice_set, Bool}
+use Rattle.std.specs.Prelude.{true, false, Option, Some, None}
 use Rattle.std.specs.List.{All}
 use Rattle.infra_types.specs.declared.ends.End.{End}
 use Rattle.infra_types.specs.declared.ends.End.TheVariants as ends

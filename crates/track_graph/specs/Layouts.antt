@@ -1,5 +1,6 @@
 -- The layout of an infrastructure: its pieces and their zones.
-use Rattle.std.specs.Prelude.{◌≡◌, ℕ, ◌+◌, ◌↔◌, List, length, Option, Some, None, slice_get, slice_index, option_map}
+use Rattle.std.specs.Prelude.{◌≡◌, ℕ, ◌+◌, ◌↔◌, List, length, Option, Some, None, slice_get}
+use Rattle.std.specs.Prelude.{slice_index, option_map}
 use Rattle.std.specs.List.{sum_by}
 use Rattle.infra_types.specs.declared.ends.TrackEnd.{TrackEnd}
 use Rattle.infra_types.specs.declared.infras.Infra.{Infra}
@@ -14,7 +15,8 @@ use Rattle.track_graph.specs.Stands.{AreOnRows}
 use Rattle.track_graph.specs.Ways.{HasPort, LeadsTo}
 use Rattle.track_graph.specs.Zones.{AreJoined, AreZones}
 
--- An infrastructure with the detectors, the buffer stops and the pieces of each track, and the zone of each piece.
+-- An infrastructure with the detectors, the buffer stops and the pieces of each
+-- track, and the zone of each piece.
 pub record Layout : Type 0 where
   pub infra : Infra
   pub stands : List (List Stand)

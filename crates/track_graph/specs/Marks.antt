@@ -1,5 +1,6 @@
 -- Pieces marked with zones.
-use Rattle.std.specs.Prelude.{◌≡◌, ℕ, ◌+◌, ◌<◌, ◌≤◌, ◌⊎◌, List, [], length, slice_index_or, Option, Some, None, is_none}
+use Rattle.std.specs.Prelude.{◌≡◌, ℕ, ◌+◌, ◌<◌, ◌≤◌, ◌⊎◌, List, [], length, slice_index_or, Option}
+use Rattle.std.specs.Prelude.{Some, None, is_none}
 use Rattle.std.specs.List.{Contains, count_by}
 use Rattle.track_graph.specs.Zones.{AreLinked}
 use Rattle.track_graph.specs.Neighbours.{IsNextTo}

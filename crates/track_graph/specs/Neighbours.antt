@@ -1,5 +1,6 @@
 -- *Inside*: joins, and for each piece a row of those that are joined to it.
-use Rattle.std.specs.Prelude.{ℕ, ◌+◌, ◌-◌, ◌<◌, ◌⊎◌, ◌↔◌, List, [], ◌∷◌, ◌++◌, length, map, slice_index, slice_index_or, slice_set}
+use Rattle.std.specs.Prelude.{ℕ, ◌+◌, ◌-◌, ◌<◌, ◌⊎◌, ◌↔◌, List, [], ◌∷◌, ◌++◌, length, map}
+use Rattle.std.specs.Prelude.{slice_index, slice_index_or, slice_set}
 use Rattle.std.specs.List.{All, Contains, flat_map}
 use Rattle.infra_types.specs.declared.ends.End.{End}
 use Rattle.infra_types.specs.declared.ends.End.TheVariants as ends

@@ -1,5 +1,6 @@
 -- *Inside*: detectors or buffer stops, sorted over all tracks and handed out to their tracks.
-use Rattle.std.specs.Prelude.{◌≡◌, ℕ, ◌<◌, ◌↔◌, Bool, nat_eq, List, [], ◌∷◌, ◌++◌, length, slice_index_or, slice_set}
+use Rattle.std.specs.Prelude.{◌≡◌, ℕ, ◌<◌, ◌↔◌, Bool, nat_eq, List, [], ◌∷◌, ◌++◌, length}
+use Rattle.std.specs.Prelude.{slice_index_or, slice_set}
 use Rattle.std.specs.List.{AllPairs, Contains, filter, sum_by}
 use Rattle.infra_types.specs.declared.tracks.Placed.{Placed}
 use Rattle.track_graph.specs.declared.stands.Stand.{Stand}

@@ -1,5 +1,6 @@
 -- The detectors and the buffer stops along each track.
-use Rattle.std.specs.Prelude.{◌≡◌, ℕ, ◌<◌, ◌⊎◌, ◌↔◌, List, [], length, slice_get, slice_index_or, Some}
+use Rattle.std.specs.Prelude.{◌≡◌, ℕ, ◌<◌, ◌⊎◌, ◌↔◌, List, [], length, slice_get, slice_index_or}
+use Rattle.std.specs.Prelude.{Some}
 use Rattle.std.specs.List.{AllPairs, Contains, sum_by}
 use Rattle.infra_types.specs.declared.tracks.Placed.{Placed}
 use Rattle.track_graph.specs.declared.stands.Stand.{Stand}

@@ -21,7 +21,8 @@ Leads next a (c ∷ via) b = next a c × Leads next c via b
 abbrev pub AreLinked : (ℕ → ℕ → Type 0) → ℕ → ℕ → Type 0
 AreLinked joined a b = (via : List ℕ) × Leads joined a via b
 
--- The zone of each piece: linked pieces have one zone, and zones are numbered from 0 by their first pieces.
+-- The zone of each piece: linked pieces have one zone, and zones are numbered
+-- from 0 by their first pieces.
 pub record AreZones (joined : ℕ → ℕ → Type 0) (pieces count : ℕ) (zones : List ℕ) : Type 0 where
   pub long : length zones ≡ pieces
   pub same : (a b : ℕ) → a < pieces → b < pieces → (slice_index zones a ≡ slice_index zones b) ↔ AreLinked joined a b
