@@ -59,7 +59,8 @@ Shows known timetable owner ask (Again at searched) text v w = Unit {0}
 -- What the text shows beside what a search found beside a client's copy.
 abbrev pub ShowsBeside : Names → Settings → Client → Ask → List ℕ → Option Found → Type 0
 ShowsBeside known settings client ask text None =
-    IsShown known known.railway.network settings (claims_held client.copy) client.front ask None text
+    IsShown known known.railway.network settings (claims_held client.copy)
+    client.front ask None text
 ShowsBeside known settings client ask text (Some found) =
     (path : Path)
     × Takes known.railway.network settings (claims_held client.copy) client.name ask found path

@@ -97,13 +97,15 @@ claims_of_trains zones ds = do
   Ok planned.claims
 
 -- inside: the claim that was read stands behind the others, unless memory was wanted
-abbrev pub GivesNextClaim : List Claim → List Claim → Result (Unit {0}) BaseFault → Result Claim BaseFault → Type 0
+abbrev pub GivesNextClaim : List Claim → List Claim → Result (Unit {0}) BaseFault
+    → Result Claim BaseFault → Type 0
 GivesNextClaim old new (Ok _) read =
     (claim : Claim) × (read ≡ Ok claim) × (new ≡ old ++ claim ∷ [])
 GivesNextClaim old new (Err e) read = (e ≡ Memory → ⊥) → read ≡ Err e
 
 -- inside: what was read stands behind the rest, unless memory was wanted
-abbrev pub GivesNext : Planned → Planned → Result (Unit {0}) BaseFault → Result (List Claim) BaseFault → Type 0
+abbrev pub GivesNext : Planned → Planned → Result (Unit {0}) BaseFault
+    → Result (List Claim) BaseFault → Type 0
 GivesNext old new (Ok _) read =
     (claims : List Claim) × (read ≡ Ok claims) × (new ≡ with_train old claims)
 GivesNext old new (Err e) read = (e ≡ Memory → ⊥) → read ≡ Err e

@@ -35,7 +35,8 @@ fn found<'a>(
     value: &'a Value,
     field: &str,
 ) -> Result<&'a Value, BaseFault>
-    ensures { Gives (λ found. view found.now) result (found_at place.now field.now (view value.now)) }
+    ensures { Gives (λ found. view found.now) result
+        (found_at place.now field.now (view value.now)) }
 {
     let Some(found) = value.get(field) else {
         return Err(BaseFault::Missing {
@@ -129,7 +130,8 @@ fn whole(alloc: Global, place: &Place, value: &Value, field: &str) -> Result<i64
 /// The whole number that a field's value is.
 fn whole_of(alloc: Global, place: &Place, found: &Value, field: &str) -> Result<i64, BaseFault>
     ensures { Gives (λ number. number) result
-        (number_read (spot_of place.now field.now) (view found.now) (whole_value (view found.now))) }
+        (number_read (spot_of place.now field.now) (view found.now)
+        (whole_value (view found.now))) }
 {
     let number = read(alloc, place, found, field, whole_in(found))?;
     Ok(number)

@@ -124,7 +124,8 @@ fn read_train(
 /// Refuses a list with which there are too many elements.
 fn count(items: &[Value], elements: u32) -> Result<&[Value], BaseFault>
     requires { elements ≤ MAX_BASE_CLAIMS }
-    ensures list { Gives (λ items. map view items.now) result (counted elements (map view items.now)) }
+    ensures list { Gives (λ items. map view items.now) result
+        (counted elements (map view items.now)) }
     ensures few { IfOk result (λ items. elements + length items.now ≤ MAX_BASE_CLAIMS) }
 {
     let sum = items.len() + elements as usize;

@@ -108,7 +108,8 @@ StopsWell leg (next ∷ legs) = leg.run.stops ≡ true → ¬ (leg.block.serves 
 
 -- what one leg keeps, behind one and before others
 pub record KeepsRules
-    (train : Train) (settings : Settings) (before : Option Leg) (leg : Leg) (legs : List Leg) : Type 0 where
+    (train : Train) (settings : Settings) (before : Option Leg) (leg : Leg)
+    (legs : List Leg) : Type 0 where
   pub follows : Follows before leg
   pub timed : leg.run.leave ≡ reached train settings leg leg.block.length_m
   pub enters : Enters before leg

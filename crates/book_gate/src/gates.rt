@@ -47,7 +47,8 @@ impl<S: Stands> Gate<S> {
         ensures turns { IfOk result (λ r. turns_given r.0 ≡ turns) }
         ensures own { IfOk result (λ r. IsOf S.footing r.0 r.1) }
         ensures idle { IfOk result (λ r. IsIdle r.1) }
-        ensures fresh { IfOk result (λ r. view r.1 ≡ newcomer (origin (S.footing book) turns) (statement_of S.list S.settled S.count book)) }
+        ensures fresh { IfOk result (λ r. view r.1 ≡ newcomer (origin (S.footing book) turns)
+            (statement_of S.list S.settled S.count book)) }
         ensures refused { IfErr result (λ e. e.0 ≡ book) }
     {
         let opening = Opening {
@@ -99,7 +100,8 @@ impl<S: Stands> Gate<S> {
         requires own { IsOf S.footing self.now pass.old }
         requires waits { IsWaiting pass.old × ((view pass.old).ticket ≡ ticket) }
         ensures own { IsOf S.footing self.now pass.new }
-        ensures called { IsCalledWith (statement_of S.list S.settled S.count) S.footing pass.old pass.new }
+        ensures called { IsCalledWith (statement_of S.list S.settled S.count)
+            S.footing pass.old pass.new }
     {
         let mut looks = 0;
         for _ in rt.forever() {
@@ -130,9 +132,12 @@ impl<S: Stands> Gate<S> {
         requires count { (view pass.old).found.count ≤ S.count held }
         ensures own { IsOf S.footing self.now pass.new }
         ensures idle { IsIdle pass.new }
-        ensures served { view pass.new ≡ served (view pass.old) (statement_of S.list S.settled S.count held) }
+        ensures served { view pass.new
+            ≡ served (view pass.old) (statement_of S.list S.settled S.count held) }
         ensures budget { turns_left pass.new ≡ turns_left pass.old }
-        ensures own_entries { own (view pass.new).turns ≡ own (view pass.old).turns ++ positions (length (view pass.old).found.list) (length (S.list held) - length (view pass.old).found.list) }
+        ensures own_entries { own (view pass.new).turns
+            ≡ own (view pass.old).turns ++ positions (length (view pass.old).found.list)
+            (length (S.list held) - length (view pass.old).found.list) }
     {
         let Held { book } = held;
         self.put_back(pass, book);
@@ -192,9 +197,12 @@ impl<S: Stands> Gate<S> {
         ensures own { IsOf S.footing self.now into.new }
         ensures idle { IsIdle into.new }
         ensures joined { view into.new ≡ joining (view into.old) (view other) }
-        ensures turns { IsPermutation ((view into.old).turns ++ (view other).turns) (view into.new).turns }
-        ensures own_entries { IsPermutation (own (view into.old).turns ++ own (view other).turns) (own (view into.new).turns) }
-        ensures rises { rises (view into.new).turns ≡ rises (view into.old).turns + rises (view other).turns }
+        ensures turns { IsPermutation ((view into.old).turns ++ (view other).turns)
+            (view into.new).turns }
+        ensures own_entries { IsPermutation (own (view into.old).turns ++ own (view other).turns)
+            (own (view into.new).turns) }
+        ensures rises { rises (view into.new).turns
+            ≡ rises (view into.old).turns + rises (view other).turns }
         ensures budget { turns_left into.new ≡ turns_left into.old + turns_left other }
         ensures ascend { AreAscending (view into.new).turns }
     {
@@ -212,13 +220,15 @@ impl<S: Stands> Gate<S> {
         ensures own { IsOf S.footing self.now pass.new }
         ensures idle { IsIdle pass.new }
         ensures same { view pass.new ≡ view pass.old }
-        ensures one_list { All (λ list. StartsWith (view pass.old).seen list) (view pass.old).joined }
+        ensures one_list { All (λ list. StartsWith (view pass.old).seen list)
+            (view pass.old).joined }
         ensures at_least { length (view pass.old).turns ≤ result }
         ensures at_most { result + turns_left pass.old ≤ turns_given self.now }
         ensures within { length (view pass.old).turns ≤ (view pass.old).share }
         ensures numbers { AreNumberedBelow (view pass.old).turns result }
         ensures ascend { AreAscending (view pass.old).turns }
-        ensures all { (view pass.old).share ≡ turns_given self.now → result ≡ length (view pass.old).turns }
+        ensures all { (view pass.old).share ≡ turns_given self.now
+            → result ≡ length (view pass.old).turns }
     {
         self.table.shared.load::<Meet>(&mut pass.seat, SERVING)
     }
@@ -230,11 +240,13 @@ impl<S: Stands> Gate<S> {
         requires whole { (view pass).share ≡ turns_given self }
         ensures footing { S.footing result ≡ S.footing (opened self) }
         ensures untouched { (view pass).turns ≡ [] → result ≡ opened self }
-        ensures chain { IsChain 0 (mark_of (statement_of S.list S.settled S.count (opened self))) (view pass).turns (mark_of (statement_of S.list S.settled S.count result)) }
+        ensures chain { IsChain 0 (mark_of (statement_of S.list S.settled S.count (opened self)))
+            (view pass).turns (mark_of (statement_of S.list S.settled S.count result)) }
         ensures list { StartsWith (S.list result) (S.list (opened self)) }
         ensures seen { StartsWith (S.list result) (view pass).seen }
         ensures joined { All (λ list. StartsWith (S.list result) list) (view pass).joined }
-        ensures own_entries { own (view pass).turns ≡ positions (length (S.list (opened self))) (length (S.list result) - length (S.list (opened self))) }
+        ensures own_entries { own (view pass).turns ≡ positions (length (S.list (opened self)))
+            (length (S.list result) - length (S.list (opened self))) }
         ensures rises { rises (view pass).turns + S.count (opened self) ≡ S.count result }
     {
         let Gate { table } = self;

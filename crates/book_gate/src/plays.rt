@@ -14,9 +14,11 @@ pub(crate) struct Turns<S> {
 }
 
 impl<S: Stands> TableRule<Option<S>, View<S::Entry, S::Footing>, Opening<S>> for Turns<S> {
-    ghost holds = { λ o. IsKept (statement_of S.list S.settled S.count) S.footing o.turns o.book.value };
+    ghost holds = { λ o.
+        IsKept (statement_of S.list S.settled S.count) S.footing o.turns o.book.value };
 
-    ghost first = { λ o. newcomer (origin (S.footing o.book.value) o.turns) (statement_of S.list S.settled S.count o.book.value) };
+    ghost first = { λ o. newcomer (origin (S.footing o.book.value) o.turns)
+        (statement_of S.list S.settled S.count o.book.value) };
 }
 
 pub(crate) struct Take;

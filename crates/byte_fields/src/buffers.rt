@@ -20,7 +20,8 @@ impl Model for Buffer {
 
     ghost Value = { Buffered };
 
-    ghost view = { λ b. record { held = b.bytes.items; spare = vec_capacity b.bytes - vec_len b.bytes } };
+    ghost view = { λ b.
+        record { held = b.bytes.items; spare = vec_capacity b.bytes - vec_len b.bytes } };
 }
 
 impl Buffer {

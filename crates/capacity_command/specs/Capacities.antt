@@ -87,5 +87,6 @@ pub record HasNoCapacity {Src Snk Dsk : Type 0} (source : Sources Src) (disk : D
 -- *inside*: why the capacity of these trains is not told
 abbrev pub AreRefused : List Occupied → Refusal → Type 0
 AreRefused trains refusal =
-    ((MAX_TRAINS < length trains) × IsTold No (many_line (min (length trains) (2 ^ 32 - 1))) refusal)
+    ((MAX_TRAINS < length trains)
+    × IsTold No (many_line (min (length trains) (2 ^ 32 - 1))) refusal)
     ⊎ (refusal ≡ Memory)

@@ -65,7 +65,8 @@ Begins (chain {A} form next) fields =
 
 -- The first wrong field, counted from 1: those before it are as the form wants them; with it they
 -- are not, or they end before it and say nothing yet.
-pub record IsFirstWrong {A : Type 0} (form : Form A) (fields : List (List ℕ)) (at : ℕ) : Type 0 where
+pub record IsFirstWrong {A : Type 0} (form : Form A) (fields : List (List ℕ))
+    (at : ℕ) : Type 0 where
   pub before : ℕ
   pub next : at ≡ before + 1
   pub there : before ≤ length fields

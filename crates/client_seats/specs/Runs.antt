@@ -73,7 +73,8 @@ pub record IsRun {D : Type 0} (disk_faults : D → ℕ) (known : Names) (found l
       × Contains (flat_map (λ talk. unsettled talk.traffic.told) talks) (settled_of left))
   -- all before a front that is printed is settled, but for the entry that
   -- this reply told as unsettled
-  pub settled_replies : All (λ talk. All (IsWithinSettled (settled_of left)) talk.traffic.told) talks
+  pub settled_replies : All (λ talk. All (IsWithinSettled (settled_of left)) talk.traffic.told)
+      talks
 
 -- ---- lists side by side
 

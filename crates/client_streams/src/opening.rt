@@ -65,7 +65,8 @@ fn open_file<O: Outside>(
         AreOut (file_loans (option_map (λ text. text.now) file.entry) proof)
         (scene O.Outside outside.old) (scene O.Outside outside.new)) }
     ensures fit { IfOk result (IsFit (option_map (λ text. text.now) file.entry)) }
-    ensures stopped { IfErr result (IsStopped (file_calls (option_map (λ text. text.now) file.entry))
+    ensures stopped { IfErr result
+        (IsStopped (file_calls (option_map (λ text. text.now) file.entry))
         (scene O.Outside outside.old) (scene O.Outside outside.new)) }
 {
     match file {

@@ -197,11 +197,11 @@ fn run_words<R: AllocGlobal + Print + Threads + Wait + Sync>(
 fn print_rules<R: Print>(rt: &R, table: &Table) -> io::Result<()> {
     for rule in &table.handed {
         let client = rule.client.as_str();
-        let tallies = rule.watched.tallies();
+        let read = rule.watched.tallies();
         let drops = rule.watched.drops();
         let before = rule.watched.tallies_at_drop();
         println!(rt;
-            "  own-7 of {client}: tally read {tallies}, dropped {drops}, read before the drop {before}"
+            "  own-7 of {client}: tally read {read}, dropped {drops}, read before the drop {before}"
         )?;
     }
     Ok(())

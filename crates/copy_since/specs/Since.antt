@@ -26,13 +26,15 @@ pub record IsFreedFrom (entries : List Entry) (front at : ℕ) : Type 0 where
   pub frees : entry.deed ≡ Free at
 
 -- inside: an entry before a position that one from there on frees, with its claims
-pub record IsFreedSince (timetable : Timetable) (entries : List Entry) (front : ℕ) (one : Freed) : Type 0 where
+pub record IsFreedSince (timetable : Timetable) (entries : List Entry) (front : ℕ)
+    (one : Freed) : Type 0 where
   pub before : one.at < front
   pub claims : one.claims ≡ claims_at timetable entries one.at
   pub freed : IsFreedFrom entries front one.at
 
 -- inside: all of them, as far as entries below a position free them
-pub record AreFreedBelow (timetable : Timetable) (entries : List Entry) (front below : ℕ) (all : List Freed) : Type 0 where
+pub record AreFreedBelow (timetable : Timetable) (entries : List Entry) (front below : ℕ)
+    (all : List Freed) : Type 0 where
   pub each : All (IsFreedSince timetable entries front) all
   pub whole : (at by : ℕ) (entry : Entry) → at < front → front ≤ by → by < below
       → slice_get entries by ≡ Some entry → entry.deed ≡ Free at → Any (λ one. one.at ≡ at) all

@@ -166,7 +166,8 @@ fn push_owned(all: &mut Vec<(Claim, Owner)>, claims: &[Claim], at: u64) -> Resul
 // Takes out what these entries hold.
 fn take_out_all(book: &mut Occupations, freed: &[Freed])
     requires zones { All (λ one. All (λ claim. claim.zone < length book.old) one.claims) freed.now }
-    requires all { All (λ one. AreOnZonesOf (of_entry one.at) (held book.old) one.claims) freed.now }
+    requires all { All (λ one. AreOnZonesOf (of_entry one.at) (held book.old) one.claims)
+        freed.now }
     ensures left { (one : HeldClaim) → Contains (held book.new) one ↔
         (Contains (held book.old) one × All (λ gone. one.1 ≢ of_entry gone.at) freed.now) }
     ensures zones { length book.new ≡ length book.old }

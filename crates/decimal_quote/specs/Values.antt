@@ -55,7 +55,8 @@ exponent_amount t = digits_value 10 (front_digits (after_sign (exponent_part t))
 -- as a negative exponent says.
 unfoldable pub numerator : List ℕ → ℕ
 numerator t =
-    digits_value 10 (whole_digits t ++ fraction_digits t) * 10 ^ (if is_divided t then 0 else exponent_amount t)
+    digits_value 10 (whole_digits t ++ fraction_digits t)
+    * 10 ^ (if is_divided t then 0 else exponent_amount t)
 
 unfoldable pub denominator : List ℕ → ℕ
 denominator t =

@@ -18,7 +18,8 @@ const BACKSLASH: u8 = b'\\';
 /// to 18 digits, the first not 0, behind a minus or none. Strings stay as they are.
 pub fn quote(alloc: Global, text: &[u8]) -> Result<Vec<u8>, NoMemory>
     ensures quoted { IfOk result (λ quoted. IsQuoted text.now quoted.items) }
-    ensures only { IfOk result (λ quoted. (other : List ℕ) → IsQuoted text.now other → other ≡ quoted.items) }
+    ensures only { IfOk result
+        (λ quoted. (other : List ℕ) → IsQuoted text.now other → other ≡ quoted.items) }
 {
     let mut quoted = Vec::with_capacity(alloc, text.len().saturating_mul(2))?;
     let mut rest = text;

@@ -25,8 +25,10 @@ pub(crate) fn divide(whole: &[u8], fraction: &[u8], up: u128, down: u128, end: u
     requires up { up < 2 ^ 80 }
     requires some { 0 < end }
     requires end { end ≤ 2 ^ 64 }
-    ensures amount { result.amount ≡ below end (raised whole.now fraction.now up / 10 ^ (length fraction.now + down)) }
-    ensures rest { result.has_rest ≡ not (raised whole.now fraction.now up % 10 ^ (length fraction.now + down) == 0) }
+    ensures amount { result.amount
+        ≡ below end (raised whole.now fraction.now up / 10 ^ (length fraction.now + down)) }
+    ensures rest { result.has_rest
+        ≡ not (raised whole.now fraction.now up % 10 ^ (length fraction.now + down) == 0) }
 {
     let point = (whole.len() as u128 + up).saturating_sub(down);
     let of_whole = point.min(whole.len() as u128);
@@ -45,7 +47,8 @@ fn amount_before(front: &[u8], more: &[u8], zeros: u128, end: u128) -> Option<u1
     requires more_digits { AllDigits 10 more.now }
     requires some { 0 < end }
     requires end { end ≤ 2 ^ 64 }
-    ensures { result ≡ below end (digits_value_after 10 (digits_value_after 10 0 front.now) more.now * 10 ^ zeros) }
+    ensures { result ≡ below end
+        (digits_value_after 10 (digits_value_after 10 0 front.now) more.now * 10 ^ zeros) }
 {
     let Some(amount) = digits_below(0, front, end) else {
         return None;

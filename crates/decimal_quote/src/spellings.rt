@@ -56,9 +56,11 @@ fn digit_run(text: &[u8]) -> (&[u8], &[u8])
 
 /// The digits behind a point at the front, and what follows them.
 fn fraction_run(text: &[u8]) -> (&[u8], &[u8])
-    ensures front { result.0.now ≡ (if begins 46 text.now then front_digits (drop 1 text.now) else []) }
+    ensures front { result.0.now
+        ≡ (if begins 46 text.now then front_digits (drop 1 text.now) else []) }
     ensures digits { AllDigits 10 result.0.now }
-    ensures behind { result.1.now ≡ (if begins 46 text.now then behind_digits (drop 1 text.now) else text.now) }
+    ensures behind { result.1.now
+        ≡ (if begins 46 text.now then behind_digits (drop 1 text.now) else text.now) }
 {
     if begins_with(text, b'.') {
         digit_run(behind_first(text))

@@ -89,7 +89,8 @@ pub fn count_of(text: &[u8]) -> i64
 
 /// The end of the amounts of numbers of 64 bits with the sign of the text.
 fn end_of_64_bits(text: &[u8]) -> u128
-    ensures fits { (amount : ℕ) → nat_lt amount result ≡ fits_64_bits (is_negative text.now) amount }
+    ensures fits { (amount : ℕ)
+        → nat_lt amount result ≡ fits_64_bits (is_negative text.now) amount }
     ensures some { 0 < result }
     ensures end { result ≤ 2 ^ 64 }
 {
@@ -103,7 +104,9 @@ fn end_of_64_bits(text: &[u8]) -> u128
 /// The number that is meant where nothing is left over, else 0.
 fn count_share(text: &[u8], share: Share) -> i64
     requires { IfSome share.amount (λ amount. fits_64_bits (is_negative text.now) amount ≡ true) }
-    ensures { (n d end : ℕ) → share.amount ≡ below end (n / d) → share.has_rest ≡ not (n % d == 0) → ((amount : ℕ) → nat_lt amount end ≡ fits_64_bits (is_negative text.now) amount) → result ≡ count_by (is_negative text.now) n d }
+    ensures { (n d end : ℕ) → share.amount ≡ below end (n / d) → share.has_rest ≡ not (n % d == 0)
+        → ((amount : ℕ) → nat_lt amount end ≡ fits_64_bits (is_negative text.now) amount)
+        → result ≡ count_by (is_negative text.now) n d }
 {
     if share.has_rest {
         return 0;
@@ -141,7 +144,9 @@ fn whole_amount(text: &[u8], exponent: u128) -> Result<i64, NotWhole>
 }
 
 fn whole_share(text: &[u8], share: Share) -> Result<i64, NotWhole>
-    ensures { (n d : ℕ) → share.amount ≡ below (10 ^ 18) (n / d) → share.has_rest ≡ not (n % d == 0) → result ≡ (if n % d == 0 then at_most_18_digits (is_negative text.now) (n / d) else Err Fraction) }
+    ensures { (n d : ℕ) → share.amount ≡ below (10 ^ 18) (n / d) → share.has_rest ≡ not (n % d == 0)
+        → result ≡ (if n % d == 0 then at_most_18_digits (is_negative text.now) (n / d)
+        else Err Fraction) }
 {
     if share.has_rest {
         return Err(NotWhole::Fraction);
@@ -188,8 +193,10 @@ fn share_of(text: &[u8], exponent: u128, milli: bool, end: u128) -> Share
     requires handy { exponent < 2 ^ 70 }
     requires some { 0 < end }
     requires end { end ≤ 2 ^ 64 }
-    ensures amount { result.amount ≡ below end (numerator text.now * units milli / denominator text.now) }
-    ensures rest { result.has_rest ≡ not (numerator text.now * units milli % denominator text.now == 0) }
+    ensures amount { result.amount
+        ≡ below end (numerator text.now * units milli / denominator text.now) }
+    ensures rest { result.has_rest
+        ≡ not (numerator text.now * units milli % denominator text.now == 0) }
 {
     let spelling = spelling_of(text);
     let places = places(milli);
@@ -212,7 +219,8 @@ fn places(milli: bool) -> u128
 /// to be rounded away from zero.
 fn amount_rounded(amount: u128, has_rest: bool, is_away: bool) -> u128
     requires { amount < 2 ^ 64 }
-    ensures { (n d : ℕ) → amount ≡ n / d → has_rest ≡ not (n % d == 0) → result ≡ rounded is_away n d }
+    ensures { (n d : ℕ) → amount ≡ n / d → has_rest ≡ not (n % d == 0)
+        → result ≡ rounded is_away n d }
 {
     if has_rest && is_away {
         amount + 1

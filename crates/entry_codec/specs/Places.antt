@@ -109,7 +109,8 @@ wish_fields request =
 abbrev pub deed_fields : Deed → List Field
 deed_fields (Hold claims reason) = hold_fields claims reason
 deed_fields (Grant (Asked request) path) =
-    train_fields path.train ++ wish_fields request ++ list_fields 1 (2 ^ 32 - 1) run_fields path.runs
+    train_fields path.train ++ wish_fields request
+    ++ list_fields 1 (2 ^ 32 - 1) run_fields path.runs
 deed_fields (Grant Pinned path) =
     train_fields path.train ++ list_fields 1 MAX_PINNED_RUNS run_fields path.runs
 deed_fields (Free entry) =

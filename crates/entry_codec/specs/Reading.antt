@@ -69,7 +69,8 @@ bytes_field count =
     λ unread.
     if nat_lt (length unread.left) count
     then Err (end_of unread)
-    else Ok (take count unread.left, record { at = unread.at + count; left = drop count unread.left })
+    else Ok
+    (take count unread.left, record { at = unread.at + count; left = drop count unread.left })
 
 unfoldable pub byte_field : Reading ℕ
 byte_field = do
@@ -196,7 +197,14 @@ train_field = do
   accel ← limited_field 1 MAX_ACCEL_MM_S2
   brake ← limited_field 1 MAX_ACCEL_MM_S2
   allowance ← limited_field 0 MAX_ALLOWANCE_PERCENT
-  done (record { name = name; length_m = length_m; speed = speed; accel = accel; brake = brake; allowance = allowance })
+  done (record {
+    name = name;
+    length_m = length_m;
+    speed = speed;
+    accel = accel;
+    brake = brake;
+    allowance = allowance;
+  })
 
 unfoldable pub window_field : Reading Window
 window_field = do
@@ -227,7 +235,14 @@ asked_field = do
   arrive ← window_field
   stops ← list_field 0 MAX_STOPS stop_field
   runs ← list_field 1 (2 ^ 32 - 1) run_field
-  done (Grant (Asked (record { train = train; origin = origin; destination = destination; depart = depart; arrive = arrive; stops = stops })) (record { train = train; runs = runs }))
+  done (Grant (Asked (record {
+    train = train;
+    origin = origin;
+    destination = destination;
+    depart = depart;
+    arrive = arrive;
+    stops = stops;
+  })) (record { train = train; runs = runs }))
 
 unfoldable pub pinned_field : Reading Deed
 pinned_field = do
@@ -295,7 +310,8 @@ Refuses (NotEntry at) body = (entry : Entry) → HasBody entry → body ≡ body
 -- ---- inside: what private calls answer and leave
 
 -- What a call that takes no memory found and left is what reading gives.
-abbrev pub FindsBy : {A B : Type 0} → (A → B) → Unread → Result A Wrong → Result (B × Unread) ℕ → Type 0
+abbrev pub FindsBy : {A B : Type 0} → (A → B) → Unread → Result A Wrong → Result (B × Unread) ℕ
+    → Type 0
 FindsBy view left (Ok value) read = read ≡ Ok (view value, left)
 FindsBy view left (Err wrong) read = read ≡ Err wrong.at
 
@@ -324,4 +340,11 @@ PassesAll (Err wrong) read = read ≡ Err wrong.at
 
 -- the train of its numbers and the bytes of its name
 abbrev pub train_found : FoundTrain → Train
-train_found found = record { name = found.name.now; length_m = found.length_m; speed = found.speed; accel = found.accel; brake = found.brake; allowance = found.allowance }
+train_found found = record {
+  name = found.name.now;
+  length_m = found.length_m;
+  speed = found.speed;
+  accel = found.accel;
+  brake = found.brake;
+  allowance = found.allowance;
+}

@@ -51,7 +51,8 @@ pub fn next_start(pieces: &[Claim], book: &Occupations, within: &Window) -> Opti
     requires pieces { All (IsPiece (length book.now)) pieces.now }
     requires within { IsNearWindow within.now }
     ensures found { IfSome result (IsNextWindow (Fits (held book.now) pieces.now) within.now) }
-    ensures none { IsNone result → (tick : ℤ) → Holds within.now tick → ¬ Fits (held book.now) pieces.now tick }
+    ensures none { IsNone result → (tick : ℤ) → Holds within.now tick
+        → ¬ Fits (held book.now) pieces.now tick }
 {
     let mut rest = *within;
     while rest.from <= rest.to {
@@ -163,7 +164,8 @@ fn first_ending_after(kept: &[(Claim, Owner)], zone: u32, span: &Span) -> usize
     requires { AreInOrder zone kept.now }
     ensures bound { result ≤ length kept.now }
     ensures before { AllWithin (λ one. one.0.span.to ≤ℤ span.now.from) kept.now 0 result }
-    ensures after { AllWithin (λ one. span.now.from <ℤ one.0.span.to) kept.now result (length kept.now) }
+    ensures after { AllWithin (λ one. span.now.from <ℤ one.0.span.to) kept.now result
+        (length kept.now) }
 {
     kept.partition_point(|one| one.0.span.to <= span.from)
 }

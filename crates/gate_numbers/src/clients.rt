@@ -74,7 +74,8 @@ fn split_all(
     requires left { (clients * turns < share pass.old) × (turns_left pass.old ≡ share pass.old) }
     ensures ready { IfOk result (λ v. All (λ c. IsFresh turns gate.now c.pass) v.items) }
     ensures count { IfOk result (λ v. length v.items ≡ clients) }
-    ensures pass { IfOk result (λ _. IsReady gate.now pass.new × (share pass.new + clients * turns ≡ share pass.old)) }
+    ensures pass { IfOk result
+        (λ _. IsReady gate.now pass.new × (share pass.new + clients * turns ≡ share pass.old)) }
     ensures left { IfOk result (λ _. turns_left pass.new + clients * turns ≡ turns_left pass.old) }
     ensures turns { (view pass.new).turns ≡ (view pass.old).turns }
 {
@@ -113,7 +114,8 @@ fn join_all(gate: &Gate<Numbers>, pass: &mut Pass<Numbers>, mut clients: Vec<Cli
     requires added { HasAdded pass.old × All (λ c. HasAdded c.pass) clients.items }
     ensures ready { IsReady gate.now pass.new }
     ensures share { share pass.new ≡ share pass.old + sum_by (λ c. share c.pass) clients.items }
-    ensures left { turns_left pass.new ≡ turns_left pass.old + sum_by (λ c. turns_left c.pass) clients.items }
+    ensures left { turns_left pass.new
+        ≡ turns_left pass.old + sum_by (λ c. turns_left c.pass) clients.items }
     ensures added { HasAdded pass.new }
 {
     while let Some(client) = clients.pop() {

@@ -60,7 +60,8 @@ MayJoin timetable entries owner deed =
     (breaks timetable deed ≡ None) × FitsLive timetable entries deed
 
 -- the live claim that a hold or a grant is told, which breaks no rule
-pub record MeetsClaim (timetable : Timetable) (entries : List Entry) (deed : Deed) (held : HeldClaim) : Type 0 where
+pub record MeetsClaim (timetable : Timetable) (entries : List Entry) (deed : Deed)
+    (held : HeldClaim) : Type 0 where
   pub keeps : breaks timetable deed ≡ None
   pub first : IsFirstClash (live_claims timetable entries) (claims_of timetable deed) held
 

@@ -53,7 +53,11 @@ impl Model for History {
 
     ghost Value = { Register };
 
-    ghost view = { λ a. record { timetable = timetable_of a.net a.base; entries = a.entries.items; spare = a.room } };
+    ghost view = { λ a. record {
+      timetable = timetable_of a.net a.base;
+      entries = a.entries.items;
+      spare = a.room;
+    } };
 
     ghost invariant = { λ a. record {
       planned : IsTimetable (timetable_of a.net a.base);

@@ -23,13 +23,15 @@ pub record IsMoved (timetable : Timetable) (network base : List ℕ) (count : �
   pub gate : ℕ
   pub found : IsFound timetable 1 network base file entries gate
   pub count_is : count ≡ length entries
-  pub reads : (image : List ℕ) → P image → ReadsAs (header_of network base) (bodies_of entries) image
+  pub reads : (image : List ℕ) → P image
+      → ReadsAs (header_of network base) (bodies_of entries) image
   pub exact : (image : List ℕ) → P image
       → image ≡ front_of (header_of network base) (bodies_of entries) ++ 0 ∷ []
 
 -- why a journal isn't moved: the new disk has so many bytes; or it has none, and opening the old
 -- one as version 1 is refused. Want of memory is told in one way alone
-abbrev pub IsMoveRefused : {D E : Type 0} → Ghosts D → Ghosts E → Timetable → List ℕ → List ℕ → D → E → MoveFault → Type 0
+abbrev pub IsMoveRefused : {D E : Type 0} → Ghosts D → Ghosts E → Timetable → List ℕ → List ℕ → D
+    → E → MoveFault → Type 0
 IsMoveRefused new_disk old_disk timetable network base disk from (NotEmpty len) =
     IfSome (new_disk.contents disk) (λ bytes. (len ≡ length bytes) × (bytes ≢ []))
 IsMoveRefused new_disk old_disk timetable network base disk from (From Memory) = ⊥

@@ -16,7 +16,8 @@ use std::alloc::Global;
 
 // All bytes of a disk, after a sync.
 pub(crate) fn read_file<D: Disk>(alloc: Global, disk: &mut D) -> Result<Vec<u8>, OpenFault>
-    ensures bytes { IfOk result (λ file. IfSome (D.contents disk.old) (λ bytes. file.items ≡ bytes)) }
+    ensures bytes { IfOk result
+        (λ file. IfSome (D.contents disk.old) (λ bytes. file.items ≡ bytes)) }
     ensures durable { OnOk result ((image : List ℕ) → D.images disk.new image →
         D.contents disk.old ≡ Some image) }
     ensures read { IsOnlyRead D.Disk disk.old disk.new }

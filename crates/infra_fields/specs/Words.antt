@@ -34,7 +34,8 @@ direction_named text =
     (if_word text (codes "STOP_TO_START") (Some directions.StopToStart) None)
 
 abbrev pub end_named : List ℕ → Option End
-end_named text = if_word text (codes "BEGIN") (Some ends.Begin) (if_word text (codes "END") (Some ends.End) None)
+end_named text =
+    if_word text (codes "BEGIN") (Some ends.Begin) (if_word text (codes "END") (Some ends.End) None)
 
 abbrev pub applies_named : List ℕ → Option Applies
 applies_named text =
@@ -81,7 +82,8 @@ port_within p = codes "ports." ++ port_name p
 -- ---- words of fields
 
 -- what a field's word stands for
-abbrev pub word_at : {A : Type 0} → (List ℕ → Option A) → FilePlace → List ℕ → Data → Result A InfraFault
+abbrev pub word_at : {A : Type 0} → (List ℕ → Option A) → FilePlace → List ℕ → Data
+    → Result A InfraFault
 word_at named place field d = do
   word ← text_at place field d
   or_fault (Kind (spot_of place field)) (named word)

@@ -32,7 +32,8 @@ pub fn direction(
     value: &Value,
     field: &str,
 ) -> Result<Direction, InfraFault>
-    ensures { Gives (λ direction. direction) result (direction_at place.now field.now (view value.now)) }
+    ensures { Gives (λ direction. direction) result
+        (direction_at place.now field.now (view value.now)) }
 {
     let word = text(alloc, place, value, field)?;
     let Some(direction) = direction_named(word) else {

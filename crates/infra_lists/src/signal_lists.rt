@@ -66,7 +66,8 @@ fn read_signal<'a>(
     requires room { length signals.old < MAX_OBJECTS }
     requires within { All (IsSignal (length tracks.now)) signals.old }
     ensures read { GivesNext signals.old signals.new result
-        (signal_at (map id_of_track tracks.now) index (map id_of_signal signals.old) (view value.now)) }
+        (signal_at (map id_of_track tracks.now) index (map id_of_signal signals.old)
+        (view value.now)) }
     ensures within { OnOk result (All (IsSignal (length tracks.now)) signals.new) }
 {
     let place = Place::of_element("signals", index);
@@ -83,7 +84,8 @@ fn push_signal<'a>(
     requires room { length signals.old < MAX_OBJECTS }
     requires within { All (IsSignal (length tracks.now)) signals.old }
     ensures read { GivesNext signals.old signals.new result
-        (signal_in place.now (map id_of_track tracks.now) (map id_of_signal signals.old) (view value.now)) }
+        (signal_in place.now (map id_of_track tracks.now) (map id_of_signal signals.old)
+        (view value.now)) }
     ensures within { OnOk result (All (IsSignal (length tracks.now)) signals.new) }
 {
     object(alloc, place, value)?;
@@ -104,7 +106,8 @@ fn bal_if_any(
     value: &Value,
     tracks: &Listed<Track>,
 ) -> Result<Option<Bal>, InfraFault>
-    ensures read { Gives (λ bal. bal) result (bal_at place.now (map id_of_track tracks.now) (view value.now)) }
+    ensures read { Gives (λ bal. bal) result
+        (bal_at place.now (map id_of_track tracks.now) (view value.now)) }
     ensures within { IfOk result (λ bal. IfSome bal (IsBal (length tracks.now))) }
 {
     if !is_block_signal(value) {
@@ -120,7 +123,8 @@ fn bal(
     value: &Value,
     tracks: &Listed<Track>,
 ) -> Result<Bal, InfraFault>
-    ensures read { Gives (λ bal. bal) result (bal_in place.now (map id_of_track tracks.now) (view value.now)) }
+    ensures read { Gives (λ bal. bal) result
+        (bal_in place.now (map id_of_track tracks.now) (view value.now)) }
     ensures within { IfOk result (IsBal (length tracks.now)) }
 {
     let track = number(alloc, place, value, "track", tracks)?;

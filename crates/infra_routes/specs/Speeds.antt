@@ -22,7 +22,8 @@ use Rattle.infra_fields.specs.Words.{applies_at}
 
 -- a limit in millimetres a second: 0 is none, and a greater one counts as the greatest speed
 abbrev pub counted : ℕ → Result ℕ InfraFault
-counted mm_s = if nat_eq mm_s 0 then Err (Limit what.Speed (pos 0)) else Ok (min mm_s MAX_SPEED_MM_S)
+counted mm_s =
+    if nat_eq mm_s 0 then Err (Limit what.Speed (pos 0)) else Ok (min mm_s MAX_SPEED_MM_S)
 
 -- metres a second as whole millimetres a second, rounded down
 abbrev pub mm_s_at : FilePlace → Data → Result ℕ InfraFault

@@ -30,7 +30,8 @@ pub(crate) fn ways(
     value: &Value,
     switches: &Listed<Switch>,
 ) -> Result<List<Way>, InfraFault>
-    ensures read { Gives (λ ways. ways) result (ways_at place.now (map id_of_switch switches.now) (view value.now)) }
+    ensures read { Gives (λ ways. ways) result
+        (ways_at place.now (map id_of_switch switches.now) (view value.now)) }
     ensures within { IfOk result (AreWays (length switches.now)) }
 {
     let Some(found) = value.get("switches_directions") else {
@@ -46,7 +47,8 @@ fn ways_in(
     found: &Value,
     switches: &Listed<Switch>,
 ) -> Result<List<Way>, InfraFault>
-    ensures read { Gives (λ ways. ways) result (ways_found place.now (map id_of_switch switches.now) (view found.now)) }
+    ensures read { Gives (λ ways. ways) result
+        (ways_found place.now (map id_of_switch switches.now) (view found.now)) }
     ensures within { IfOk result (AreWays (length switches.now)) }
 {
     let Some(members) = found.as_object() else {
@@ -67,8 +69,10 @@ fn read_groups(
     switches: &Listed<Switch>,
 ) -> Result<BTreeMap<u32, Group>, InfraFault>
     ensures read { Gives (λ groups. groups.entries) result
-        (read_ways place.now (map id_of_switch switches.now) [] (members_view members.now.entries)) }
-    ensures within { IfOk result (λ groups. All (λ entry. entry.0 < length switches.now) groups.entries) }
+        (read_ways place.now (map id_of_switch switches.now) []
+        (members_view members.now.entries)) }
+    ensures within { IfOk result
+        (λ groups. All (λ entry. entry.0 < length switches.now) groups.entries) }
 {
     let mut groups = BTreeMap::new(alloc);
     'members: for (key, value) in members.iter() {
@@ -80,7 +84,8 @@ fn read_groups(
 
 /// Puts the group of a switch among the others.
 fn put(groups: &mut BTreeMap<u32, Group>, way: Way) -> Result<(), NoMemory>
-    ensures { OnOk result (groups.new.entries ≡ insert_entry nat_cmp groups.old.entries way.switch way.group) }
+    ensures { OnOk result
+        (groups.new.entries ≡ insert_entry nat_cmp groups.old.entries way.switch way.group) }
 {
     groups.insert(way.switch, way.group)?;
     Ok(())
@@ -93,7 +98,8 @@ fn way(
     value: &Value,
     switches: &Listed<Switch>,
 ) -> Result<Way, InfraFault>
-    ensures read { Gives (λ way. way) result (way_in place.now (map id_of_switch switches.now) (string_bytes key.now) (view value.now)) }
+    ensures read { Gives (λ way. way) result
+        (way_in place.now (map id_of_switch switches.now) (string_bytes key.now) (view value.now)) }
     ensures within { IfOk result (λ way. way.switch < length switches.now) }
 {
     let Some(word) = value.as_str() else {

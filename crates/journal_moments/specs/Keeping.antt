@@ -10,7 +10,8 @@ use Rattle.journal_moments.specs.Timed.{Timed}
 
 -- each image since a moment reads as a prefix of the history, which has the
 -- first entries up to this count
-abbrev pub HasSince : {D : Type 0} → (D → ℕ → List ℕ → Type 0) → D → ℕ → List ℕ → List (List ℕ) → ℕ → Type 0
+abbrev pub HasSince : {D : Type 0} → (D → ℕ → List ℕ → Type 0) → D → ℕ → List ℕ → List (List ℕ) → ℕ
+    → Type 0
 HasSince since disk moment header bodies least =
     (image : List ℕ) → since disk moment image → ReadsAsPrefix header bodies least image
 
@@ -42,8 +43,10 @@ pub record AllAreSettled {D : Type 0} (images : D → List ℕ → Type 0) (jour
 
 -- what is kept: each image of now reads as the history, or, where its last entry is pending, as the
 -- history with it or without; and what the moments tell
-pub record IsKept {D : Type 0} (images : D → List ℕ → Type 0) (clock : D → ℕ) (since : D → ℕ → List ℕ → Type 0)
-    (journal : Gated D) (header : List ℕ) (bodies : List (List ℕ)) (made found : ℕ) (moments : List ℕ) : Type 0 where
+pub record IsKept {D : Type 0} (images : D → List ℕ → Type 0) (clock : D → ℕ)
+    (since : D → ℕ → List ℕ → Type 0)
+    (journal : Gated D) (header : List ℕ) (bodies : List (List ℕ)) (made found : ℕ)
+    (moments : List ℕ) : Type 0 where
   pub now : AllAreSettled images journal header bodies (found + length moments)
       ⊎ LastIsPending images journal header bodies (found + length moments)
   pub short : All (λ body. length body < 2 ^ 32) bodies
@@ -52,7 +55,8 @@ pub record IsKept {D : Type 0} (images : D → List ℕ → Type 0) (clock : D �
 -- the same of a journal with its moments
 abbrev pub Keeps : {D : Type 0} → Ghosts D → Timed D → List ℕ → List (List ℕ) → Type 0
 Keeps disk timed header bodies =
-    IsKept disk.images disk.clock disk.since timed.journal header bodies timed.made timed.found timed.moments
+    IsKept disk.images disk.clock disk.since timed.journal header bodies timed.made timed.found
+    timed.moments
 
 -- a crash at each moment from the old state of a disk to the new one left what has P, the
 -- moment of the old state among them

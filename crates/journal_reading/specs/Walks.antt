@@ -54,7 +54,8 @@ pub record IsReadTo (timetable : Timetable) (version : ℕ) (left : List ℕ) (a
 
 -- behind some entries, at this offset, stands neither a gate that isn't open
 -- nor a whole record of an entry
-pub record IsDamagedAt (timetable : Timetable) (version : ℕ) (left : List ℕ) (at gate : ℕ) : Type 0 where
+pub record IsDamagedAt (timetable : Timetable) (version : ℕ) (left : List ℕ)
+    (at gate : ℕ) : Type 0 where
   pub entries : List Entry
   pub rest : List ℕ
   pub passes : Passes timetable version left entries rest
@@ -64,7 +65,8 @@ pub record IsDamagedAt (timetable : Timetable) (version : ℕ) (left : List ℕ)
   pub place : gate ≡ at + length (opened (bodies_of entries))
 
 -- behind so many entries stands one that doesn't join them
-pub record IsIllegalAt (timetable : Timetable) (version : ℕ) (left : List ℕ) (position : ℕ) : Type 0 where
+pub record IsIllegalAt (timetable : Timetable) (version : ℕ) (left : List ℕ)
+    (position : ℕ) : Type 0 where
   pub entries : List Entry
   pub rest : List ℕ
   pub passes : Passes timetable version left entries rest

@@ -28,7 +28,8 @@ abbrev pub ReadsAsEither : List ℕ → List (List ℕ) → List (List ℕ) → 
 ReadsAsEither header before after file = ReadsAs header before file ⊎ ReadsAs header after file
 
 -- the file reads as a prefix of these bodies, which has the first of them up to this count
-pub record ReadsAsPrefix (header : List ℕ) (bodies : List (List ℕ)) (least : ℕ) (file : List ℕ) : Type 0 where
+pub record ReadsAsPrefix (header : List ℕ) (bodies : List (List ℕ)) (least : ℕ)
+    (file : List ℕ) : Type 0 where
   pub count : ℕ
   pub enough : least ≤ count
   pub within : count ≤ length bodies

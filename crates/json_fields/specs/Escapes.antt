@@ -11,7 +11,8 @@ abbrev pub hex_digit : ℕ → ℕ
 hex_digit n = if nat_lt n 10 then 48 + n else 55 + n
 
 abbrev pub escaped_byte : ℕ → List ℕ
-escaped_byte byte = if is_plain byte then byte ∷ [] else 37 ∷ hex_digit (byte / 16) ∷ hex_digit (byte % 16) ∷ []
+escaped_byte byte =
+    if is_plain byte then byte ∷ [] else 37 ∷ hex_digit (byte / 16) ∷ hex_digit (byte % 16) ∷ []
 
 -- a name as it is written
 abbrev pub escaped : List ℕ → List ℕ

@@ -11,16 +11,19 @@ use Rattle.decimal_quote.specs.declared.values.NotWhole.TheVariants.{Shape, Rang
 -- a number as it stands, in units or thousandths, of at most 18 digits
 abbrev pub in_units : ℤ → Bool → Result ℤ NotWhole
 in_units number milli =
-    if nat_lt (unsigned_abs number) (10 ^ 18 / units milli) then Ok (number *ℤ pos (units milli)) else Err Range
+    if nat_lt (unsigned_abs number) (10 ^ 18 / units milli) then Ok (number *ℤ pos (units milli))
+    else Err Range
 
 -- a number as it stands, else what a text spells
-abbrev pub number_or_text : {A : Type 0} → (ℤ → A) → (List ℕ → A) → A → Option ℤ → Option (List ℕ) → A
+abbrev pub number_or_text : {A : Type 0} → (ℤ → A) → (List ℕ → A) → A → Option ℤ → Option (List ℕ)
+    → A
 number_or_text stands spelled other (Some number) text = stands number
 number_or_text stands spelled other None (Some text) = spelled text
 number_or_text stands spelled other None None = other
 
 abbrev pub of_value : {A : Type 0} → (ℤ → A) → (List ℕ → A) → A → Data → A
-of_value stands spelled other d = number_or_text stands spelled other (option_and_then as_i64 (as_number d)) (as_str d)
+of_value stands spelled other d =
+    number_or_text stands spelled other (option_and_then as_i64 (as_number d)) (as_str d)
 
 -- the whole number that a value is or spells
 abbrev pub whole_value : Data → Result ℤ NotWhole

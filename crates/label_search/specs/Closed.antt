@@ -37,7 +37,8 @@ pub record IsClosed (plan : Plan) (trip : Trip) (book : Book) (members : List Me
       → Admits trip (IsHeld members) (target_of plan place step) (leave_of plan place step)
 
 -- the same of all that may end below a limit, for places and ticks that are held somehow
-pub record IsClosedBelow (plan : Plan) (limits : Limits) (trip : Trip) (book : Book) (Held : ℕ → ℤ → Type 0) : Type 0 where
+pub record IsClosedBelow (plan : Plan) (limits : Limits) (trip : Trip) (book : Book)
+    (Held : ℕ → ℤ → Type 0) : Type 0 where
   pub start : (step : Step) → Holds trip.depart step.enter → IsFreeMove plan book 0 step
       → IsBelow limits (target_of plan 0 step) (leave_of plan 0 step)
       → Admits trip Held (target_of plan 0 step) (leave_of plan 0 step)

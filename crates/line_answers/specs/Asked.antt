@@ -29,7 +29,8 @@ asking after number request = record { after = after; ask = asks.Path number req
 
 -- The reply of a call whose turns so far took the pass from v to u: one turn, in which
 -- the client's number was new.
-abbrev pub AnswersBehind : {D : Type 0} → Shared D → List ℕ → ℕ → ℕ → Request → Reply → Sight → Sight
+abbrev pub AnswersBehind : {D : Type 0} → Shared D → List ℕ → ℕ → ℕ → Request → Reply → Sight
+    → Sight
     → Type 0
 AnswersBehind shared name line_number number request told u w =
     (v : Sight) (after : Option ℕ) → Looks v u → IsReached after u.found.list

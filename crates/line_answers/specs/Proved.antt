@@ -108,7 +108,8 @@ ProvedOr bare known timetable bytes other text v w = bare
 -- where no proofs are wanted. Where they are, what it shows is no older than what the client
 -- had seen, and beside a path it is of what the turn found that stands before that in which
 -- the path's entry was judged.
-abbrev pub IsProvedBetween : Names → Timetable → Bool → List ℕ → Reply → List ℕ → Sight → Sight → Type 0
+abbrev pub IsProvedBetween : Names → Timetable → Bool → List ℕ → Reply → List ℕ → Sight → Sight
+    → Type 0
 IsProvedBetween known timetable false bytes told text v w = text ≡ []
 IsProvedBetween known timetable true bytes told text v w =
     ProvedOr (text ≡ []) known timetable bytes told text v w
@@ -123,20 +124,23 @@ kept_text true (reply.Granted number at front runs) text = text
 kept_text true other text = []
 
 -- what the text shows where proofs are wanted; of the text beside other replies nothing is said
-abbrev pub ShowsBytes : {D : Type 0} → Shared D → Bool → List ℕ → Reply → List ℕ → Sight → Sight → Type 0
+abbrev pub ShowsBytes : {D : Type 0} → Shared D → Bool → List ℕ → Reply → List ℕ → Sight → Sight
+    → Type 0
 ShowsBytes shared proves bytes told text v w =
     proves ≡ true
     → ProvedOr (Unit {0}) shared.known (timetable_at shared.gate) bytes told text v w
 
 -- the same beside the reply to a line, whatever bytes are read as it
-abbrev pub ShowsLine : {D : Type 0} → Shared D → Bool → Line → Reply → List ℕ → Sight → Sight → Type 0
+abbrev pub ShowsLine : {D : Type 0} → Shared D → Bool → Line → Reply → List ℕ → Sight → Sight
+    → Type 0
 ShowsLine shared proves line told text v w =
     (bytes : List ℕ) → IsReadAs shared.known bytes line
     → ShowsBytes shared proves bytes told text v w
 
 -- the same of a call whose turns so far took the pass from v to u: one turn, which added nothing to
 -- what it found, and that is not before the front that the line names
-abbrev pub ShowsBehind : {D : Type 0} → Shared D → Bool → ℕ → Request → Reply → List ℕ → Sight → Sight
+abbrev pub ShowsBehind : {D : Type 0} → Shared D → Bool → ℕ → Request → Reply → List ℕ → Sight
+    → Sight
     → Type 0
 ShowsBehind shared proves number request told text u w =
     (v : Sight) (after : Option ℕ) → Looks v u → IsReachedBy after u.found.list

@@ -27,7 +27,8 @@ struct Step {
 /// The name that a text spells, None where it spells none. Each byte has one spelling, so
 /// that no name is spelled twice.
 pub fn unescaped(alloc: Global, text: &[u8]) -> Result<Option<Vec<u8>>, NoMemory>
-    ensures spelled { IfOk result (λ name. Spells text.now (option_map (λ bytes. bytes.items) name)) }
+    ensures spelled { IfOk result
+        (λ name. Spells text.now (option_map (λ bytes. bytes.items) name)) }
     ensures read { IfOk result (λ name. option_map (λ bytes. bytes.items) name ≡ name_in text.now) }
 {
     names_are_spelled_once();

@@ -161,7 +161,8 @@ fn make_again(
     is_whole: bool,
     tear: Tear,
 ) -> Result<(), NoMemory>
-    ensures { OnOk result (IsMadeAgain tear.choice change piece.now is_whole bytes.old.items bytes.new.items) }
+    ensures { OnOk result
+        (IsMadeAgain tear.choice change piece.now is_whole bytes.old.items bytes.new.items) }
 {
     match change {
         Logged::Wrote { at, count: _ } if is_whole => write_with_room(bytes, at, piece),
@@ -181,9 +182,12 @@ pub(crate) fn replay(
     choice: u64,
 ) -> Result<Vec<u8>, NoMemory>
     requires { bytes_in log.now ≡ length pieces.now }
-    ensures image { IfOk result (λ image. IsImageAfter first.now (changes_behind [] log.now pieces.now) image.items) }
-    ensures last_sync { choice % 8 ≡ 0 → IfOk result (λ image. image.items ≡ contents_synced first.now (changes_behind [] log.now pieces.now)) }
-    ensures as_read { choice % 8 ≡ 1 → IfOk result (λ image. image.items ≡ contents_after first.now (changes_behind [] log.now pieces.now)) }
+    ensures image { IfOk result
+        (λ image. IsImageAfter first.now (changes_behind [] log.now pieces.now) image.items) }
+    ensures last_sync { choice % 8 ≡ 0 → IfOk result
+        (λ image. image.items ≡ contents_synced first.now (changes_behind [] log.now pieces.now)) }
+    ensures as_read { choice % 8 ≡ 1 → IfOk result
+        (λ image. image.items ≡ contents_after first.now (changes_behind [] log.now pieces.now)) }
 {
     let durable = durable_changes(log);
     let mut image = Vec::from_slice(alloc, first)?;

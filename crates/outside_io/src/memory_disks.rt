@@ -40,9 +40,26 @@ impl Model for MemDisk {
 
     ghost use Rattle.outside_io.specs.Logged.{bytes_in, changes_behind};
 
-    ghost view = { λ d. record { first = d.first.items; changes = changes_behind [] d.log.items d.pieces.items; given = d.given; room = d.room; calls = d.calls; fails = d.fails.items; syncs = d.syncs; failing_syncs = d.failing_syncs.items; faults = d.faults } };
+    ghost view = { λ d. record {
+      first = d.first.items;
+      changes = changes_behind [] d.log.items d.pieces.items;
+      given = d.given;
+      room = d.room;
+      calls = d.calls;
+      fails = d.fails.items;
+      syncs = d.syncs;
+      failing_syncs = d.failing_syncs.items;
+      faults = d.faults;
+    } };
 
-    ghost invariant = { λ d. record { contents : d.bytes.items ≡ contents_after d.first.items (changes_behind [] d.log.items d.pieces.items); whole : bytes_in d.log.items ≡ length d.pieces.items; bytes_room : vec_len d.bytes + d.room ≤ vec_capacity d.bytes; log_room : vec_len d.log + d.room ≤ vec_capacity d.log; pieces_room : vec_len d.pieces + d.room ≤ vec_capacity d.pieces } };
+    ghost invariant = { λ d. record {
+      contents : d.bytes.items
+          ≡ contents_after d.first.items (changes_behind [] d.log.items d.pieces.items);
+      whole : bytes_in d.log.items ≡ length d.pieces.items;
+      bytes_room : vec_len d.bytes + d.room ≤ vec_capacity d.bytes;
+      log_room : vec_len d.log + d.room ≤ vec_capacity d.log;
+      pieces_room : vec_len d.pieces + d.room ≤ vec_capacity d.pieces;
+    } };
 }
 
 // The room that a write leaves, None where there is not enough.
@@ -69,7 +86,17 @@ impl MemDisk {
         room: usize,
         fails: Vec<u64>,
     ) -> Result<MemDisk, NoMemory>
-        ensures { IfOk result (λ disk. disk ≡ record { first = bytes.items; changes = []; given = room; room = room; calls = 0; fails = fails.items; syncs = 0; failing_syncs = []; faults = 0 }) }
+        ensures { IfOk result (λ disk. disk ≡ record {
+          first = bytes.items;
+          changes = [];
+          given = room;
+          room = room;
+          calls = 0;
+          fails = fails.items;
+          syncs = 0;
+          failing_syncs = [];
+          faults = 0;
+        }) }
     {
         let none = Vec::new(alloc);
         MemDisk::failing(alloc, bytes, room, fails, none)
@@ -83,7 +110,17 @@ impl MemDisk {
         room: usize,
         syncs: Vec<u64>,
     ) -> Result<MemDisk, NoMemory>
-        ensures { IfOk result (λ disk. disk ≡ record { first = bytes.items; changes = []; given = room; room = room; calls = 0; fails = []; syncs = 0; failing_syncs = syncs.items; faults = 0 }) }
+        ensures { IfOk result (λ disk. disk ≡ record {
+          first = bytes.items;
+          changes = [];
+          given = room;
+          room = room;
+          calls = 0;
+          fails = [];
+          syncs = 0;
+          failing_syncs = syncs.items;
+          faults = 0;
+        }) }
     {
         let none = Vec::new(alloc);
         MemDisk::failing(alloc, bytes, room, none, syncs)
@@ -96,7 +133,17 @@ impl MemDisk {
         fails: Vec<u64>,
         failing_syncs: Vec<u64>,
     ) -> Result<MemDisk, NoMemory>
-        ensures { IfOk result (λ disk. disk ≡ record { first = bytes.items; changes = []; given = room; room = room; calls = 0; fails = fails.items; syncs = 0; failing_syncs = failing_syncs.items; faults = 0 }) }
+        ensures { IfOk result (λ disk. disk ≡ record {
+          first = bytes.items;
+          changes = [];
+          given = room;
+          room = room;
+          calls = 0;
+          fails = fails.items;
+          syncs = 0;
+          failing_syncs = failing_syncs.items;
+          faults = 0;
+        }) }
     {
         let mut bytes = bytes;
         let first = Vec::from_slice(alloc, bytes.as_slice())?;
@@ -130,10 +177,23 @@ impl MemDisk {
     /// piece, from the first on, and 7 fronts and whole pieces in turn. From 2 on the pieces of
     /// failed writes are among them.
     pub fn crash(&self, alloc: Global, choice: u64) -> Result<MemDisk, NoMemory>
-        ensures image { IfOk result (λ left. IsImageAfter self.now.first self.now.changes left.first) }
-        ensures last_sync { choice % 8 ≡ 0 → IfOk result (λ left. left.first ≡ contents_synced self.now.first self.now.changes) }
-        ensures as_read { choice % 8 ≡ 1 → IfOk result (λ left. left.first ≡ contents_after self.now.first self.now.changes) }
-        ensures fresh { IfOk result (λ left. left ≡ record { first = left.first; changes = []; given = self.now.given; room = self.now.given; calls = 0; fails = []; syncs = 0; failing_syncs = []; faults = 0 }) }
+        ensures image { IfOk result
+            (λ left. IsImageAfter self.now.first self.now.changes left.first) }
+        ensures last_sync { choice % 8 ≡ 0
+            → IfOk result (λ left. left.first ≡ contents_synced self.now.first self.now.changes) }
+        ensures as_read { choice % 8 ≡ 1
+            → IfOk result (λ left. left.first ≡ contents_after self.now.first self.now.changes) }
+        ensures fresh { IfOk result (λ left. left ≡ record {
+          first = left.first;
+          changes = [];
+          given = self.now.given;
+          room = self.now.given;
+          calls = 0;
+          fails = [];
+          syncs = 0;
+          failing_syncs = [];
+          faults = 0;
+        }) }
     {
         let image = replay(alloc, &self.first, &self.log, &self.pieces, choice)?;
         MemDisk::new(alloc, image, self.given, Vec::new(alloc))
@@ -177,7 +237,10 @@ impl MemDisk {
     // Uses up room for a write that fails.
     fn lose(&mut self, at: u64, piece: &[u8], room: usize)
         requires { room + length piece.now < self.old.room }
-        ensures { self.new ≡ record self.old { changes = failed_at at (length piece.now) ∷ self.old.changes; room = room } }
+        ensures { self.new ≡ record self.old {
+          changes = failed_at at (length piece.now) ∷ self.old.changes;
+          room = room;
+        } }
     {
         let Ok(()) = self.pieces.extend_from_slice(piece) else {
             unreachable!()
@@ -190,8 +253,12 @@ impl MemDisk {
     }
 
     fn keep(&mut self, at: u64, piece: &[u8], room: usize)
-        requires { room + (at - length (contents_after self.old.first self.old.changes)) + length piece.now + 1 ≡ self.old.room }
-        ensures { self.new ≡ record self.old { changes = wrote at piece.now ∷ self.old.changes; room = room } }
+        requires { room + (at - length (contents_after self.old.first self.old.changes))
+            + length piece.now + 1 ≡ self.old.room }
+        ensures { self.new ≡ record self.old {
+          changes = wrote at piece.now ∷ self.old.changes;
+          room = room;
+        } }
     {
         overwrite(&mut self.bytes, at as usize, piece);
         let Ok(()) = self.pieces.extend_from_slice(piece) else {
@@ -206,7 +273,10 @@ impl MemDisk {
 
     fn settle(&mut self)
         requires { 0 < self.old.room }
-        ensures { self.new ≡ record self.old { changes = synced ∷ self.old.changes; room = self.old.room - 1 } }
+        ensures { self.new ≡ record self.old {
+          changes = synced ∷ self.old.changes;
+          room = self.old.room - 1;
+        } }
     {
         self.log.push_reserved(Logged::Synced);
         self.room -= 1;
@@ -234,16 +304,27 @@ impl Disk for MemDisk {
 
     ghost only_now = { λ d image since. since-only d.first d.changes image since };
 
-    ghost since_earlier = { λ d earlier moment image le since. since-older d.first d.changes earlier moment image le since };
+    ghost since_earlier = { λ d earlier moment image le since.
+        since-older d.first d.changes earlier moment image le since };
 
     fn len(&mut self) -> Result<u64, Failed>
-        ensures length { IfOk result (λ count. IfSome (Some (contents_after self.old.first self.old.changes)) (λ bytes. count ≡ length bytes)) }
-        ensures contents { Some (contents_after self.new.first self.new.changes) ≡ Some (contents_after self.old.first self.old.changes) }
-        ensures time { Looks (length self.old.changes) (length self.new.changes) (IsImageSince self.old.first self.old.changes) (IsImageSince self.new.first self.new.changes) (IsImageAfter self.old.first self.old.changes) (IsImageAfter self.new.first self.new.changes) }
+        ensures length { IfOk result (λ count. IfSome (Some
+            (contents_after self.old.first self.old.changes)) (λ bytes. count ≡ length bytes)) }
+        ensures contents { Some (contents_after self.new.first self.new.changes)
+            ≡ Some (contents_after self.old.first self.old.changes) }
+        ensures time { Looks (length self.old.changes) (length self.new.changes)
+            (IsImageSince self.old.first self.old.changes)
+            (IsImageSince self.new.first self.new.changes)
+            (IsImageAfter self.old.first self.old.changes)
+            (IsImageAfter self.new.first self.new.changes) }
         ensures cause { HasCause self.old.faults self.new.faults result }
         ensures exact { IsErr result ↔ Contains self.old.fails self.old.calls }
-        ensures done { OnOk result (self.new ≡ record self.old { calls = next_count self.old.calls }) }
-        ensures refused { OnErr result (self.new ≡ record self.old { calls = next_count self.old.calls; faults = next_count self.old.faults }) }
+        ensures done { OnOk result
+            (self.new ≡ record self.old { calls = next_count self.old.calls }) }
+        ensures refused { OnErr result (self.new ≡ record self.old {
+          calls = next_count self.old.calls;
+          faults = next_count self.old.faults;
+        }) }
     {
         if self.next_call_fails() {
             self.fail();
@@ -254,13 +335,24 @@ impl Disk for MemDisk {
 
     fn read(&mut self, at: u64, into: &mut [u8]) -> Result<usize, Failed>
         ensures bound { ReadsAtMost result into.new }
-        ensures bytes { IfOk result (λ count. IfSome (Some (contents_after self.old.first self.old.changes)) (λ bytes. take count into.new ≡ take (length into.old) (drop at bytes))) }
-        ensures contents { Some (contents_after self.new.first self.new.changes) ≡ Some (contents_after self.old.first self.old.changes) }
-        ensures time { Looks (length self.old.changes) (length self.new.changes) (IsImageSince self.old.first self.old.changes) (IsImageSince self.new.first self.new.changes) (IsImageAfter self.old.first self.old.changes) (IsImageAfter self.new.first self.new.changes) }
+        ensures bytes { IfOk result
+            (λ count. IfSome (Some (contents_after self.old.first self.old.changes))
+            (λ bytes. take count into.new ≡ take (length into.old) (drop at bytes))) }
+        ensures contents { Some (contents_after self.new.first self.new.changes)
+            ≡ Some (contents_after self.old.first self.old.changes) }
+        ensures time { Looks (length self.old.changes) (length self.new.changes)
+            (IsImageSince self.old.first self.old.changes)
+            (IsImageSince self.new.first self.new.changes)
+            (IsImageAfter self.old.first self.old.changes)
+            (IsImageAfter self.new.first self.new.changes) }
         ensures cause { HasCause self.old.faults self.new.faults result }
         ensures exact { IsErr result ↔ Contains self.old.fails self.old.calls }
-        ensures done { OnOk result (self.new ≡ record self.old { calls = next_count self.old.calls }) }
-        ensures refused { OnErr result (self.new ≡ record self.old { calls = next_count self.old.calls; faults = next_count self.old.faults }) }
+        ensures done { OnOk result
+            (self.new ≡ record self.old { calls = next_count self.old.calls }) }
+        ensures refused { OnErr result (self.new ≡ record self.old {
+          calls = next_count self.old.calls;
+          faults = next_count self.old.faults;
+        }) }
     {
         if self.next_call_fails() {
             self.fail();
@@ -276,16 +368,42 @@ impl Disk for MemDisk {
     }
 
     fn write_at(&mut self, at: u64, piece: &[u8]) -> Result<(), Failed>
-        ensures written { OnOk result (Some (contents_after self.new.first self.new.changes) ≡ option_map (write_over at piece.now) (Some (contents_after self.old.first self.old.changes))) }
-        ensures tells { is_some (Some (contents_after self.new.first self.new.changes)) ≡ is_some (Some (contents_after self.old.first self.old.changes)) }
-        ensures failed { OnErr result (TornWhereTold at (length piece.now) (Some (contents_after self.old.first self.old.changes)) (Some (contents_after self.new.first self.new.changes))) }
-        ensures crash { Follows (Torn at (length piece.now)) (IsImageAfter self.old.first self.old.changes) (IsImageAfter self.new.first self.new.changes) }
-        ensures time { Passes (length self.old.changes) (length self.new.changes) (IsImageSince self.old.first self.old.changes) (IsImageSince self.new.first self.new.changes) (IsImageAfter self.old.first self.old.changes) (IsImageAfter self.new.first self.new.changes) }
+        ensures written { OnOk result
+            (Some (contents_after self.new.first self.new.changes) ≡ option_map
+            (write_over at piece.now) (Some (contents_after self.old.first self.old.changes))) }
+        ensures tells { is_some (Some (contents_after self.new.first self.new.changes))
+            ≡ is_some (Some (contents_after self.old.first self.old.changes)) }
+        ensures failed { OnErr result (TornWhereTold at (length piece.now)
+            (Some (contents_after self.old.first self.old.changes))
+            (Some (contents_after self.new.first self.new.changes))) }
+        ensures crash { Follows (Torn at (length piece.now))
+            (IsImageAfter self.old.first self.old.changes)
+            (IsImageAfter self.new.first self.new.changes) }
+        ensures time { Passes (length self.old.changes) (length self.new.changes)
+            (IsImageSince self.old.first self.old.changes)
+            (IsImageSince self.new.first self.new.changes)
+            (IsImageAfter self.old.first self.old.changes)
+            (IsImageAfter self.new.first self.new.changes) }
         ensures cause { HasCause self.old.faults self.new.faults result }
-        ensures exact { IsErr result ↔ (Contains self.old.fails self.old.calls ⊎ (self.old.room < room_used self.old at (length piece.now))) }
-        ensures done { OnOk result (self.new ≡ record self.old { changes = wrote at piece.now ∷ self.old.changes; room = self.old.room - room_used self.old at (length piece.now); calls = next_count self.old.calls }) }
-        ensures listed { OnErr result (room_used self.old at (length piece.now) ≤ self.old.room → self.new ≡ record self.old { changes = failed_at at (length piece.now) ∷ self.old.changes; room = self.old.room - room_used self.old at (length piece.now); calls = next_count self.old.calls; faults = next_count self.old.faults }) }
-        ensures no_room { OnErr result (self.old.room < room_used self.old at (length piece.now) → self.new ≡ record self.old { calls = next_count self.old.calls; faults = next_count self.old.faults }) }
+        ensures exact { IsErr result ↔ (Contains self.old.fails self.old.calls
+            ⊎ (self.old.room < room_used self.old at (length piece.now))) }
+        ensures done { OnOk result (self.new ≡ record self.old {
+          changes = wrote at piece.now ∷ self.old.changes;
+          room = self.old.room - room_used self.old at (length piece.now);
+          calls = next_count self.old.calls;
+        }) }
+        ensures listed { OnErr result
+            (room_used self.old at (length piece.now) ≤ self.old.room → self.new ≡ record self.old {
+              changes = failed_at at (length piece.now) ∷ self.old.changes;
+              room = self.old.room - room_used self.old at (length piece.now);
+              calls = next_count self.old.calls;
+              faults = next_count self.old.faults;
+            }) }
+        ensures no_room { OnErr result
+            (self.old.room < room_used self.old at (length piece.now) → self.new ≡ record self.old {
+              calls = next_count self.old.calls;
+              faults = next_count self.old.faults;
+            }) }
     {
         let is_listed = self.next_call_fails();
         let Some(room) = room_behind(self.room, self.bytes.len(), at, piece.len()) else {
@@ -302,14 +420,33 @@ impl Disk for MemDisk {
     }
 
     fn sync(&mut self) -> Result<(), Failed>
-        ensures durable { OnOk result ((image : List ℕ) → IsImageAfter self.new.first self.new.changes image → Some (contents_after self.old.first self.old.changes) ≡ Some image) }
-        ensures contents { Some (contents_after self.new.first self.new.changes) ≡ Some (contents_after self.old.first self.old.changes) }
-        ensures crash { (image : List ℕ) → IsImageAfter self.new.first self.new.changes image → IsImageAfter self.old.first self.old.changes image }
-        ensures time { Passes (length self.old.changes) (length self.new.changes) (IsImageSince self.old.first self.old.changes) (IsImageSince self.new.first self.new.changes) (IsImageAfter self.old.first self.old.changes) (IsImageAfter self.new.first self.new.changes) }
+        ensures durable { OnOk result
+            ((image : List ℕ) → IsImageAfter self.new.first self.new.changes image
+            → Some (contents_after self.old.first self.old.changes) ≡ Some image) }
+        ensures contents { Some (contents_after self.new.first self.new.changes)
+            ≡ Some (contents_after self.old.first self.old.changes) }
+        ensures crash { (image : List ℕ) → IsImageAfter self.new.first self.new.changes image
+            → IsImageAfter self.old.first self.old.changes image }
+        ensures time { Passes (length self.old.changes) (length self.new.changes)
+            (IsImageSince self.old.first self.old.changes)
+            (IsImageSince self.new.first self.new.changes)
+            (IsImageAfter self.old.first self.old.changes)
+            (IsImageAfter self.new.first self.new.changes) }
         ensures cause { HasCause self.old.faults self.new.faults result }
-        ensures exact { IsErr result ↔ ((Contains self.old.fails self.old.calls ⊎ Contains self.old.failing_syncs self.old.syncs) ⊎ (self.old.room ≡ 0)) }
-        ensures done { OnOk result (self.new ≡ record self.old { changes = synced ∷ self.old.changes; room = self.old.room - 1; calls = next_count self.old.calls; syncs = next_count self.old.syncs }) }
-        ensures refused { OnErr result (self.new ≡ record self.old { room = self.old.room - 1; calls = next_count self.old.calls; syncs = next_count self.old.syncs; faults = next_count self.old.faults }) }
+        ensures exact { IsErr result ↔ ((Contains self.old.fails self.old.calls
+            ⊎ Contains self.old.failing_syncs self.old.syncs) ⊎ (self.old.room ≡ 0)) }
+        ensures done { OnOk result (self.new ≡ record self.old {
+          changes = synced ∷ self.old.changes;
+          room = self.old.room - 1;
+          calls = next_count self.old.calls;
+          syncs = next_count self.old.syncs;
+        }) }
+        ensures refused { OnErr result (self.new ≡ record self.old {
+          room = self.old.room - 1;
+          calls = next_count self.old.calls;
+          syncs = next_count self.old.syncs;
+          faults = next_count self.old.faults;
+        }) }
     {
         let call_fails = self.next_call_fails();
         let sync_fails = self.next_sync_fails();

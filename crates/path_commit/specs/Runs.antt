@@ -35,7 +35,8 @@ IsTurn {D} disk old new sent answer =
     × Commits disk settled new sent.entry answer)
 
 -- the turns of what was sent, one after another, tell these answers: as many as were sent
-abbrev pub AreTurns : {D : Type 0} → Ghosts D → Ledger D → List Sent → List Committed → Ledger D → Type 0
+abbrev pub AreTurns : {D : Type 0} → Ghosts D → Ledger D → List Sent → List Committed → Ledger D
+    → Type 0
 AreTurns disk old [] [] new = new ≡ old
 AreTurns disk old (one ∷ sent) [] new = ⊥
 AreTurns disk old [] (answer ∷ answers) new = ⊥

@@ -26,7 +26,8 @@ abbrev pub claims_held : List Zone → List Claim
 claims_held book = map (λ one. one.0) (held book)
 
 -- a path that can be granted, and none that can leaves last earlier
-pub record IsEarliest (net : Network) (settings : Settings) (live : List Claim) (request : Request) (path : Path) : Type 0 where
+pub record IsEarliest (net : Network) (settings : Settings) (live : List Claim) (request : Request)
+    (path : Path) : Type 0 where
   pub granted : CanBeGranted net settings live request path
   pub least : (other : Path) → CanBeGranted net settings live request other
       → last_leave path ≤ℤ last_leave other
@@ -43,13 +44,15 @@ before request tick = record {
 }
 
 -- a place of the request, with one tick at least, all of them up to the horizon
-pub record IsMemberOf (net : Network) (settings : Settings) (request : Request) (member : Member) : Type 0 where
+pub record IsMemberOf (net : Network) (settings : Settings) (request : Request)
+    (member : Member) : Type 0 where
   pub place : IsPlace net request member.place
   pub some : member.window.from ≤ℤ member.window.to
   pub ticks : (pos 0 ≤ℤ member.window.from) × (member.window.to ≤ℤ pos settings.horizon)
 
 -- members that show that no path of the request fits
-pub record IsCertificate (net : Network) (settings : Settings) (live : List Claim) (request : Request) (proof : Closed) : Type 0 where
+pub record IsCertificate (net : Network) (settings : Settings) (live : List Claim)
+    (request : Request) (proof : Closed) : Type 0 where
   pub members : All (IsMemberOf net settings request) proof.members
   pub closed : IsClosed net settings request live proof.members
 

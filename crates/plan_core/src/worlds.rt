@@ -142,7 +142,8 @@ impl World {
 
     /// The front that a client searched, if any; None where the world does not have the client.
     pub fn searched(&self, client: u32) -> Option<Option<u64>>
-        ensures { result ≡ option_map (λ party. party.searched) (slice_get self.now.clients client) }
+        ensures { result
+            ≡ option_map (λ party. party.searched) (slice_get self.now.clients client) }
     {
         Some(self.clients.get(client as usize)?.searched())
     }
@@ -177,7 +178,8 @@ impl World {
     }
 
     fn commit(&mut self, client: u32, entry: &Entry) -> Result<bool, NoMemory>
-        ensures does { IfOk result (λ done. Does self.old (does_commit client entry.now) done self.new) }
+        ensures does { IfOk result
+            (λ done. Does self.old (does_commit client entry.now) done self.new) }
         ensures err { OnErr result (self.new ≡ self.old) }
     {
         if !self.may_commit(client, entry)? {
@@ -188,7 +190,8 @@ impl World {
     }
 
     fn free(&mut self, client: u32, entry: &Entry) -> Result<bool, NoMemory>
-        ensures does { IfOk result (λ done. Does self.old (does_free client entry.now) done self.new) }
+        ensures does { IfOk result
+            (λ done. Does self.old (does_free client entry.now) done self.new) }
         ensures err { OnErr result (self.new ≡ self.old) }
     {
         if !self.may_free(client, entry)? {

@@ -34,7 +34,8 @@ abbrev pub IsBefore : Claim → Claim → Type 0
 IsBefore a b = (a.zone < b.zone) ⊎ ((a.zone ≡ b.zone) × (a.span.from <ℤ b.span.from))
 
 -- a held claim that clashes with one of these, and before which no other that clashes comes
-pub record IsFirstClash (held : List HeldClaim) (claims : List Claim) (first : HeldClaim) : Type 0 where
+pub record IsFirstClash (held : List HeldClaim) (claims : List Claim)
+    (first : HeldClaim) : Type 0 where
   pub is_held : Contains held first
   pub clashes : ClashesWith claims first
   pub others : All (λ other. ClashesWith claims other → ¬ IsBefore other.0 first.0) held

@@ -148,7 +148,8 @@ pub fn first_clashes_are_first()
         → first_clash held (claim ∷ claims) ≡ first_clash held claims }
     ensures in_order { (held : List HeldClaim) (claim : claim_type) (claims : List claim_type)
         → (first : HeldClaim) → AreApart held → AreJoined (claim ∷ claims)
-        → first_clash held (claim ∷ []) ≡ Some first → first_clash held (claim ∷ claims) ≡ Some first }
+        → first_clash held (claim ∷ []) ≡ Some first
+        → first_clash held (claim ∷ claims) ≡ Some first }
 {}
 
 /// What the tests of definitions mean.

@@ -67,7 +67,8 @@ lists_in d = do
   Ok (joined landmarks others)
 
 abbrev pub object_of : Data → Result Infra InfraFault
-object_of d = if is_some (as_object d) then lists_in d else Err (Kind (spot_of whole_file (codes "file")))
+object_of d =
+    if is_some (as_object d) then lists_in d else Err (Kind (spot_of whole_file (codes "file")))
 
 abbrev pub text_at : List ℕ → Result Infra InfraFault
 text_at quoted = do

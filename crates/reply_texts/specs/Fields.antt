@@ -46,7 +46,8 @@ run_text run = spaced (run_fields run)
 
 -- What writing a text does to what is written already: it stands behind that, or a part of it where
 -- memory was wanted, which it is not where there is room.
-pub record Writes {E : Type 0} (text : List ℕ) (old new : Buffered) (result : Result (Unit {0}) E) : Type 0 where
+pub record Writes {E : Type 0} (text : List ℕ) (old new : Buffered)
+    (result : Result (Unit {0}) E) : Type 0 where
   pub ok : OnOk result (new.held ≡ old.held ++ text)
   pub kept : StartsWith new.held old.held
   pub room : length text ≤ old.spare → IsOk result

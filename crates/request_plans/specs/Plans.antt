@@ -32,7 +32,8 @@ ticks_within settings ticks = pos (min ticks (settings.horizon + 1))
 abbrev pub ticks_of_step : Network → Settings → Request → Place → Step → ℤ
 ticks_of_step net settings request place step =
     ticks_within settings
-    (run_ticks (block_at net step.block) request.train settings (entry_of net request.train place) step.exit)
+    (run_ticks (block_at net step.block) request.train settings (entry_of net request.train place)
+    step.exit)
 
 -- the start place has the number 0, and each listed place the number behind its own
 abbrev pub target_of : Next → Target
@@ -94,7 +95,8 @@ IsPlannedAt net settings request listed number planned =
     → planned ≡ place_in net settings request place moves
 
 -- the start place is planned, and behind it the first listed places, so many
-pub record AreFirstPlanned (net : Network) (settings : Settings) (request : Request) (listed : Listed) (count : ℕ) (planned : List PlannedPlace) : Type 0 where
+pub record AreFirstPlanned (net : Network) (settings : Settings) (request : Request)
+    (listed : Listed) (count : ℕ) (planned : List PlannedPlace) : Type 0 where
   pub counted : length planned ≡ count + 1
   pub start : planned_at planned 0
       ≡ place_in net settings request start_place listed.starts
@@ -103,6 +105,7 @@ pub record AreFirstPlanned (net : Network) (settings : Settings) (request : Requ
 
 -- the plan of a request: the start place, each listed place at the number
 -- behind its own, and the horizon
-pub record IsPlanOf (net : Network) (settings : Settings) (request : Request) (listed : Listed) (plan : Plan) : Type 0 where
+pub record IsPlanOf (net : Network) (settings : Settings) (request : Request) (listed : Listed)
+    (plan : Plan) : Type 0 where
   pub places : AreFirstPlanned net settings request listed (length listed.members) plan.places
   pub horizon : plan.horizon ≡ pos settings.horizon

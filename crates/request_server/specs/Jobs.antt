@@ -77,7 +77,8 @@ pub record WasServed {D Src Snk Btw L : Type 0} (kind : Rules L) (streams : Stre
   pub seated : IsSeated new.seat
   pub name : new.name ≡ old.name
   pub ends : Ends (AnswersAt kind) streams new.ended
-      (scene old.seat old.source old.sink old.proofs) (scene new.seat new.source new.sink new.proofs)
+      (scene old.seat old.source old.sink old.proofs)
+      (scene new.seat new.source new.sink new.proofs)
 
 -- this passed in the session of that client, whose end its streams show; its rules were told the
 -- entries that its replies print, by a history

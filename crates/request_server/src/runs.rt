@@ -256,7 +256,8 @@ fn join_all<'a, D: Disk, S: Source + Drop, T: Sink + Drop, B: Between + Drop, L:
     ensures joined { (clients : _) (talks : List talk_type) → AreMatched
         (IsDoneJob L.Rule shared.now (streams S.left S.faults T.held T.faults))
         clients (reverse jobs.entry.items) talks
-        → ((history : List entry_type) → All (λ list. StartsWith history list) (view pass.new).joined
+        → ((history : List entry_type)
+        → All (λ list. StartsWith history list) (view pass.new).joined
         → AreMatched (HasPassed L.Rule (streams S.left S.faults T.held T.faults) history)
         clients result.items talks)
         × AreJoined shared.now (view pass.new) talks }

@@ -38,7 +38,8 @@ abbrev pub ReadsBase : {Src Snk Dsk L : Type 0} → Sources Src → Sinks Snk �
 ReadsBase source sink disk kind base trains journal clients proofs rules network old new result =
     Follows (BaseStep source network.named.network.zones base)
     (λ (file : BaseFile).
-    ReadsTrains source sink disk kind trains journal clients proofs rules network file) old new result
+    ReadsTrains source sink disk kind trains journal clients proofs rules network file)
+    old new result
 
 -- the network is read, and then the base timetable
 abbrev pub ReadsNetwork : {Src Snk Dsk L : Type 0} → Sources Src → Sinks Snk → Disks Dsk → Rules L

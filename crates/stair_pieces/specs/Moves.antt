@@ -77,10 +77,12 @@ ArePlaces net request place (run ∷ (next ∷ runs)) =
     × ArePlaces net request (place_after net request.train place (step_of run)) (next ∷ runs)
 
 -- a run from a place takes its running time, within the horizon
-pub record TakesItsTime (net : Network) (settings : Settings) (request : Request) (place : Place) (run : Run) : Type 0 where
+pub record TakesItsTime (net : Network) (settings : Settings) (request : Request) (place : Place)
+    (run : Run) : Type 0 where
   pub timed : run.leave
       ≡ run.enter
-      +ℤ pos (run_ticks (block_at net run.block) request.train settings (entry_of net request.train place) (exit_of run.stops))
+      +ℤ pos (run_ticks (block_at net run.block) request.train settings
+      (entry_of net request.train place) (exit_of run.stops))
   pub begins : pos 0 ≤ℤ run.enter
   pub ends : run.leave ≤ℤ pos settings.horizon
 
@@ -98,7 +100,8 @@ TakeTheirTime net settings request place (run ∷ []) =
     TakesItsTime net settings request place run
 TakeTheirTime net settings request place (run ∷ (next ∷ runs)) =
     TakesItsTime net settings request place run × GoesOnAfter request place.made run.stops run next
-    × TakeTheirTime net settings request (place_after net request.train place (step_of run)) (next ∷ runs)
+    × TakeTheirTime net settings request (place_after net request.train place (step_of run))
+    (next ∷ runs)
 
 -- a tick of a window, which holds both its ends
 abbrev pub IsInside : Window → ℤ → Type 0
@@ -116,7 +119,8 @@ OfLast Said (run ∷ (next ∷ runs)) = OfLast Said (next ∷ runs)
 
 -- the request's train makes moves of the request from the start place, in
 -- their time, within its windows
-pub record IsMadeOfMoves (net : Network) (settings : Settings) (request : Request) (path : Path) : Type 0 where
+pub record IsMadeOfMoves (net : Network) (settings : Settings) (request : Request)
+    (path : Path) : Type 0 where
   pub train : path.train ≡ request.train
   pub moves : AreMoves net request start_place path.runs
   pub times : TakeTheirTime net settings request start_place path.runs

@@ -26,9 +26,11 @@ abbrev pub step_end : Network → Settings → Train → Place → Step → ℕ 
 step_end net settings train place step metres =
     if nat_le metres (block_at net step.block).length_m
     then
-    pos (part_ticks (block_at net step.block) train settings (entry_of net train place) step.exit metres)
+    pos (part_ticks (block_at net step.block) train settings (entry_of net train place)
+    step.exit metres)
     +ℤ pos settings.release
-    else pos (run_ticks (block_at net step.block) train settings (entry_of net train place) step.exit)
+    else pos
+    (run_ticks (block_at net step.block) train settings (entry_of net train place) step.exit)
 
 -- when the route ahead is set for a train that passes the end of this block at tick 0: in
 -- time for the train to see it from the sight distance before the block, or from its

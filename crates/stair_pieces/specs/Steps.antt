@@ -15,7 +15,8 @@ pub record IsTailIn (net : Network) (train : Train) (tail : List ℕ) : Type 0 w
   pub numbers : All (λ block. block < length net.blocks) tail
 
 -- a place of such a train, which stands where no block is under it
-pub record IsPlaceIn (net : Network) (settings : Settings) (train : Train) (place : Place) : Type 0 where
+pub record IsPlaceIn (net : Network) (settings : Settings) (train : Train)
+    (place : Place) : Type 0 where
   pub under : IsTailIn net train place.tail
   pub timetable : IsSettingsWithinLimits settings
   pub entered : IsEnterWithinLimits place.entered

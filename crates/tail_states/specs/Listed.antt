@@ -33,7 +33,8 @@ LeadsTo net request members place step (At number) =
     × (slice_get members number ≡ Some (place_after net request.train place step))
 
 -- a move of the request from a place, with where it leads
-pub record IsListedMove (net : Network) (request : Request) (members : List Place) (place : Place) (one : Move) : Type 0 where
+pub record IsListedMove (net : Network) (request : Request) (members : List Place) (place : Place)
+    (one : Move) : Type 0 where
   pub allowed : IsMove net request place one.step
   pub leads : LeadsTo net request members place one.step one.next
 
@@ -42,7 +43,8 @@ abbrev pub HasStep : List Move → Step → Type 0
 HasStep moves step = (next : Next) × Contains moves (record { step = step; next = next })
 
 -- these are exactly the moves of the request from a place
-pub record AreMovesFrom (net : Network) (request : Request) (members : List Place) (place : Place) (moves : List Move) : Type 0 where
+pub record AreMovesFrom (net : Network) (request : Request) (members : List Place) (place : Place)
+    (moves : List Move) : Type 0 where
   pub sound : All (IsListedMove net request members place) moves
   pub whole : (step : Step) → IsMove net request place step → HasStep moves step
 

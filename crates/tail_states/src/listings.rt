@@ -55,7 +55,8 @@ impl Places {
 
     /// The number of a place, None where it is none of them.
     pub fn number(&self, place: &Place) -> Option<usize>
-        ensures found { IfSome result (λ number. slice_get self.now.members number ≡ Some place.now) }
+        ensures found { IfSome result
+            (λ number. slice_get self.now.members number ≡ Some place.now) }
         ensures none { IfNone result (¬ Contains self.now.members place.now) }
     {
         self.members.find(place)

@@ -10,7 +10,8 @@ use Rattle.track_graph.specs.declared.neighbours.Join.{Join}
 
 -- A join of the list names these two, in either order.
 abbrev pub AreNamed : List Join → ℕ → ℕ → Type 0
-AreNamed joins a b = Contains joins (record { one = a; other = b }) ⊎ Contains joins (record { one = b; other = a })
+AreNamed joins a b =
+    Contains joins (record { one = a; other = b }) ⊎ Contains joins (record { one = b; other = a })
 
 abbrev pub AreWithin : ℕ → List Join → Type 0
 AreWithin pieces joins = All (λ join. (join.one < pieces) × (join.other < pieces)) joins

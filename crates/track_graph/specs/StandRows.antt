@@ -28,7 +28,8 @@ IsNumbered detectors number stand = Stands detectors stand × (stand.number ≡ 
 -- Those so far, by number.
 pub record AreFront (detectors : List Placed) (done : ℕ) (listed : List Stand) : Type 0 where
   pub long : length listed ≡ done
-  pub each : (number : ℕ) (d : Stand) → number < done → IsNumbered detectors number (slice_index_or listed number d)
+  pub each : (number : ℕ) (d : Stand) → number < done
+      → IsNumbered detectors number (slice_index_or listed number d)
 
 -- the rows with one more behind those of its track
 abbrev pub with_stand : List (List Stand) → Stand → List (List Stand)

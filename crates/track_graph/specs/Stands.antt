@@ -14,7 +14,9 @@ pub record Stands (all : List Placed) (stand : Stand) : Type 0 where
 
 -- nearer to the track's begin, or at the same position and earlier in the file
 abbrev pub ComesBefore : Stand → Stand → Type 0
-ComesBefore one other = (one.position < other.position) ⊎ ((one.position ≡ other.position) × (one.number < other.number))
+ComesBefore one other =
+    (one.position < other.position)
+    ⊎ ((one.position ≡ other.position) × (one.number < other.number))
 
 -- Those that stand on a track, from its begin to its end.
 pub record AreStands (all : List Placed) (track : ℕ) (stands : List Stand) : Type 0 where

@@ -48,10 +48,12 @@ port_across (way ∷ rest) port =
 -- the switch of this number has this track end at this port
 abbrev pub HasPort : List Switch → ℕ → ℕ → TrackEnd → Type 0
 HasPort switches number port end =
-    (switch : Switch) × (slice_get switches number ≡ Some switch) × (slice_get switch.ports port ≡ Some end)
+    (switch : Switch) × (slice_get switches number ≡ Some switch)
+    × (slice_get switch.ports port ≡ Some end)
 
 -- A switch has a port at this end, and its group leads from there to the port at the next end.
-pub record LeadsTo (switches : List Switch) (end : TrackEnd) (group : Group) (next : TrackEnd) : Type 0 where
+pub record LeadsTo (switches : List Switch) (end : TrackEnd) (group : Group)
+    (next : TrackEnd) : Type 0 where
   pub number : ℕ
   pub switch : Switch
   pub port : ℕ

@@ -48,9 +48,12 @@ impl Model for Graph {
 
     ghost Value = { Layout };
 
-    ghost view = { λ g. layout_of g.infra.value g.stands.items g.stops.items g.pieces.items g.zones };
+    ghost view = { λ g.
+        layout_of g.infra.value g.stands.items g.stops.items g.pieces.items g.zones };
 
-    ghost invariant = { λ g. IsGraph (layout_of g.infra.value g.stands.items g.stops.items g.pieces.items g.zones) g.firsts.items g.joints.items g.junctions.items };
+    ghost invariant = { λ g.
+        IsGraph (layout_of g.infra.value g.stands.items g.stops.items g.pieces.items g.zones)
+        g.firsts.items g.joints.items g.junctions.items };
 }
 
 impl Graph {
