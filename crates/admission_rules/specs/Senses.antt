@@ -1,5 +1,6 @@
 -- What rules say.
-use Rattle.std.specs.Prelude.{ℕ, ◌-◌, ℤ, ◌≤ℤ◌, ◌<ℤ◌, Bool, not, ◌&&◌, int_le, int_lt, nat_le, nat_lt, List, [], ◌∷◌, slice_index_or}
+use Rattle.std.specs.Prelude.{ℕ, ◌-◌, ℤ, ◌≤ℤ◌, ◌<ℤ◌, Bool, not, ◌&&◌, int_le, int_lt, nat_le}
+use Rattle.std.specs.Prelude.{nat_lt, List, [], ◌∷◌, slice_index_or}
 use Rattle.rail_types.specs.declared.paths.Window.{Window}
 use Rattle.rule_names.specs.declared.RuleName.{RuleName}
 use Rattle.rule_names.specs.declared.RuleName.TheVariants.{Quota, Curfew, Longest}
@@ -7,8 +8,9 @@ use Rattle.admission_rules.specs.declared.rules.Wish.{Wish}
 use Rattle.admission_rules.specs.declared.tallies.Tally.{Tally}
 use Rattle.admission_rules.specs.Tallies.{with_free, with_grant}
 
--- A rule's name, and what follows from the numbers that it keeps: whether a wish is allowed, the numbers once it was told
--- of a grant, or of a grant that was freed, and how often it was told of each.
+-- A rule's name, and what follows from the numbers that it keeps: whether a wish is
+-- allowed, the numbers once it was told of a grant, or of a grant that was freed, and
+-- how often it was told of each.
 pub record Sense : Type 0 where
   pub name : RuleName
   pub allows : List ℕ → Wish → Bool

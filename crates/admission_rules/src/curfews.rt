@@ -17,8 +17,8 @@ pub struct Curfew {
 }
 
 impl Curfew {
-    /// A curfew of the ticks from `from` up to and without `to`, which was told of no path. Where `from` is not less than
-    /// `to` it denies none.
+    /// A curfew of the ticks from `from` up to and without `to`, which was told of no path. Where
+    /// `from` is not less than `to` it denies none.
     pub fn new(from: Tick, to: Tick) -> Curfew
         ensures from { result.from ≡ from }
         ensures to { result.to ≡ to }

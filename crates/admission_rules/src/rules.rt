@@ -7,8 +7,8 @@ use crate::Tally;
 use rail_types::Window;
 use rule_names::RuleName;
 
-/// What is known of a path before it is granted: the train's length in metres, and the windows of ticks in which it may
-/// depart and arrive. Of a path that is given both windows are single ticks.
+/// What is known of a path before it is granted: the train's length in metres, and the windows of
+/// ticks in which it may depart and arrive. Of a path that is given both windows are single ticks.
 #[derive(Clone, Copy, Debug, PartialEq, Eq)]
 pub struct Wish {
     pub length_m: u32,
@@ -16,8 +16,9 @@ pub struct Wish {
     pub arrive: Window,
 }
 
-/// A rule by which the grant of a path may be denied. What it says follows from a few numbers that it keeps and from the
-/// wish; they change by what it is told alone. No call takes memory. Rules of clients that are served at once are `Send`.
+/// A rule by which the grant of a path may be denied. What it says follows from a few numbers that
+/// it keeps and from the wish; they change by what it is told alone. No call takes memory. Rules of
+/// clients that are served at once are `Send`.
 pub trait Rule: Drop {
     /// The rule's name, and what follows from its numbers. No call changes it.
     ghost sense: { Self → Sense };

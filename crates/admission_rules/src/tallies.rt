@@ -3,7 +3,8 @@
 ghost use Rattle.std.specs.Prelude.{◌≡◌, ◌-◌};
 ghost use Rattle.admission_rules.specs.Tallies.{with_free, with_grant};
 
-/// How many paths were granted, and how many of them were freed. A count that is the greatest number stays.
+/// How many paths were granted, and how many of them were freed. A count that
+/// is the greatest number stays.
 #[derive(Clone, Copy, Debug, Default, PartialEq, Eq)]
 pub struct Tally {
     pub granted: u64,

@@ -61,8 +61,8 @@ HasRoomFor text (Again at searched) = Unit {0}
 
 -- ---- inside
 
--- an entry that takes a path which can be granted beside these claims, and leaves last as early as any that can, with its
--- runs
+-- an entry that takes a path which can be granted beside these claims, and leaves last as early
+-- as any that can, with its runs
 pub record Takes (net : Network) (settings : Settings) (live : List Claim) (owner : List ℕ)
     (ask : Ask) (found : Found) (path : Path) : Type 0 where
   pub entry_is : found.entry ≡ entry_for owner ask path

@@ -32,8 +32,8 @@ abbrev pub IsPossibleAt : Timetable → Request → List Entry → Type 0
 IsPossibleAt timetable request entries =
     IsPossible timetable.net timetable.settings (live_in timetable entries) request
 
--- A path that fitted where a search stood was missed at a later history: entries since have live claims that clash with
--- it, the last of them at this position.
+-- A path that fitted where a search stood was missed at a later history: entries since have live
+-- claims that clash with it, the last of them at this position.
 pub record IsMissed (timetable : Timetable) (request : Request) (searched found : List Entry)
     (at : ℕ) : Type 0 where
   pub later : StartsWith found searched
@@ -43,8 +43,8 @@ pub record IsMissed (timetable : Timetable) (request : Request) (searched found 
   pub clash : IsLastClash (live_claims timetable found)
       (claims_of timetable (Grant (Asked request) path)) (length searched) at
 
--- three searches, the first in h, each next one where the one before was missed; the third stood at so many entries, and
--- was missed in g by the entry at this position
+-- three searches, the first in h, each next one where the one before was missed; the third stood at
+-- so many entries, and was missed in g by the entry at this position
 pub record AreMissed (timetable : Timetable) (request : Request) (h g : List Entry)
     (searched at : ℕ) : Type 0 where
   pub second : List Entry

@@ -22,9 +22,9 @@ use Rattle.ask_turns.specs.Finds.{Takes, entry_for}
 use Rattle.ask_turns.specs.Searched.{FitsAt, live_in}
 use Rattle.ask_turns.specs.Tries.{SoFar}
 
--- The text is that of a proof of what is excluded beside the answer to an ask, which is a path or that there is none. It
--- tells this front, and its members pass the check beside these claims. Where a line can ask for the request, the proof can
--- be read from its text.
+-- The text is that of a proof of what is excluded beside the answer to an ask, which is a path or
+-- that there is none. It tells this front, and its members pass the check beside these claims.
+-- Where a line can ask for the request, the proof can be read from its text.
 pub record IsShown (known : Names) (net : Network) (settings : Settings) (live : List Claim)
     (front : ℕ) (ask : Ask) (path : Option Path) (text : List ℕ) : Type 0 where
   pub proof : Proof
@@ -41,9 +41,10 @@ IsShownAt known timetable ask path text searched =
     IsShown known timetable.net timetable.settings (live_in timetable searched) (length searched)
     ask path text
 
--- What the text shows beside what came of an ask. Beside a path: that no path of the request that leaves last earlier could
--- be granted where the path was found, and the path itself could be. Beside the answer that there is none: that none could
--- be where the last search stood. Of the text beside three searches that were missed nothing is said.
+-- What the text shows beside what came of an ask. Beside a path: that no path of the request that
+-- leaves last earlier could be granted where the path was found, and the path itself could be.
+-- Beside the answer that there is none: that none could be where the last search stood. Of the text
+-- beside three searches that were missed nothing is said.
 abbrev pub Shows : Names → Timetable → List ℕ → Ask → Outcome → List ℕ → Sight → Sight → Type 0
 Shows known timetable owner ask (Entered told runs) text v w =
     (u : Sight) × (path : Path) × SoFar timetable owner ask v u × (path.runs ≡ runs)
@@ -58,7 +59,8 @@ Shows known timetable owner ask (Again at searched) text v w = Unit {0}
 -- What the text shows beside what a search found beside a client's copy.
 abbrev pub ShowsBeside : Names → Settings → Client → Ask → List ℕ → Option Found → Type 0
 ShowsBeside known settings client ask text None =
-    IsShown known known.railway.network settings (claims_held client.copy) client.front ask None text
+    IsShown known known.railway.network settings (claims_held client.copy)
+    client.front ask None text
 ShowsBeside known settings client ask text (Some found) =
     (path : Path)
     × Takes known.railway.network settings (claims_held client.copy) client.name ask found path

@@ -18,15 +18,16 @@ use Rattle.ask_turns.specs.declared.asks.Outcome.TheVariants.{Entered, NoPath, A
 use Rattle.ask_turns.specs.Finds.{IsNewNumber, entry_for}
 use Rattle.ask_turns.specs.Searched.{FitsAt, IsEarliestAt, IsMissed, IsPossibleAt}
 
--- A search that stood where the pass had seen u found a path that fitted there, and the turn from u to w found it missed,
--- the last time by the entry at this position; the number was still new.
+-- A search that stood where the pass had seen u found a path that fitted there, and the turn from u
+-- to w found it missed, the last time by the entry at this position; the number was still new.
 pub record Misses (timetable : Timetable) (owner : List ℕ) (ask : Ask) (at : ℕ) (u w : Sight)
     : Type 0 where
   pub looks : Looks u w
   pub missed : IsMissed timetable ask.request u.seen w.found.list at
   pub is_new : IsNewNumber owner ask.number w.found.list
 
--- so many searches were missed one behind another, the last by the entry at this position, from this front
+-- so many searches were missed one behind another, the last by the entry at
+-- this position, from this front
 abbrev pub HaveMissed : Timetable → List ℕ → Ask → ℕ → ℕ → ℕ → Sight → Sight → Type 0
 HaveMissed timetable owner ask zero at front v w = w ≡ v
 HaveMissed timetable owner ask (suc count) at front v w =
@@ -45,8 +46,9 @@ abbrev pub IsRefusedByNumber : Became → Type 0
 IsRefusedByNumber (became.Refused told) = IsOfNumber told
 IsRefusedByNumber other = Unit {0}
 
--- A path with these runs was found where the pass had seen u, the earliest there, and the turn from u to w judged it. Where it
--- joins what the turn found its number is new there, and it fits; it is refused only where the number stands.
+-- A path with these runs was found where the pass had seen u, the earliest there, and the turn from
+-- u to w judged it. Where it joins what the turn found its number is new there, and it fits; it is
+-- refused only where the number stands.
 pub record IsJudged (timetable : Timetable) (owner : List ℕ) (ask : Ask) (told : Became)
     (runs : List Run) (u w : Sight) : Type 0 where
   pub path : Path

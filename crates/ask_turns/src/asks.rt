@@ -4,7 +4,8 @@ use client_turns::Entered;
 use rail_types::{Entry, List, Request, Run};
 use tail_states::Places;
 
-/// A path that is asked for: the client's number for it, the number of its line, the request, and the request's places.
+/// A path that is asked for: the client's number for it, the number of its line, the
+/// request, and the request's places.
 #[derive(Drop)]
 pub struct Ask {
     pub number: u64,

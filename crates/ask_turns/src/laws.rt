@@ -19,8 +19,8 @@ pub(crate) fn found_paths_are_short()
     contents_are_compared();
 }
 
-// A path that was found is refused later by its number alone, missed where entries since then clash, and fits where it
-// joins.
+// A path that was found is refused later by its number alone, missed where entries since then
+// clash, and fits where it joins.
 pub(crate) fn found_paths_are_judged()
     ensures { AreJudged }
 {

@@ -1,5 +1,5 @@
-//! The searches of an ask: each beside the client's own copy of the live claims, outside the gate, and behind each that
-//! found a path a turn in which it is judged and taken in.
+//! The searches of an ask: each beside the client's own copy of the live claims, outside the gate,
+//! and behind each that found a path a turn in which it is judged and taken in.
 #![tactic(auto)]
 
 mod asks;

@@ -19,8 +19,9 @@ use rail_types::{Deed, Entry, MAX_NUMBER, Path, Settings, Wanted};
 use reply_texts::reply_room;
 use std::alloc::Global;
 
-// Searches a path beside the client's copy, and makes room for the reply that tells it. None where no path can be granted
-// there. The buffer of the proof is emptied before, and where one is wanted it has the text of what shows the answer.
+// Searches a path beside the client's copy, and makes room for the reply that tells it. None where
+// no path can be granted there. The buffer of the proof is emptied before, and where one is wanted
+// it has the text of what shows the answer.
 pub(crate) fn find_entry(
     alloc: Global,
     known: &Known,
@@ -54,8 +55,8 @@ pub(crate) fn find_entry(
     Ok(Some(Found { entry, runs }))
 }
 
-// The path of an ask beside the client's copy, or None. The buffer of the proof is emptied before, and where one is wanted
-// it has the text of what shows the answer.
+// The path of an ask beside the client's copy, or None. The buffer of the proof is emptied before,
+// and where one is wanted it has the text of what shows the answer.
 fn seek_path(
     alloc: Global,
     known: &Known,

@@ -23,9 +23,10 @@ use rail_types::Settings;
 use std::alloc::Global;
 use std::sync::Wait;
 
-/// Searches a path beside the client's copy and tries it in a turn, up to three times, until it is not missed by what came
-/// since the search. Room for the text of the reply that tells the path is made before its turn. Where proofs are wanted,
-/// the text of what shows the answer takes the place of what the buffer of the proof held, before the turn too.
+/// Searches a path beside the client's copy and tries it in a turn, up to three times, until it is
+/// not missed by what came since the search. Room for the text of the reply that tells the path is
+/// made before its turn. Where proofs are wanted, the text of what shows the answer takes the place
+/// of what the buffer of the proof held, before the turn too.
 pub fn try_searches<R: Wait, D: Disk, B: Between>(
     rt: &R,
     alloc: Global,

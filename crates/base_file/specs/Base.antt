@@ -1,16 +1,21 @@
--- What the bytes of a base file read as: the settings and the claims of its trains, or the first fault.
-use Rattle.std.specs.Prelude.{◌≡◌, ℕ, ◌+◌, ◌⊎◌, pos, List, codes, length, if◌then◌else◌, nat_le, is_some, AllPairs, Result, Ok, Err}
+-- What the bytes of a base file read as: the settings and the claims of
+-- its trains, or the first fault.
+use Rattle.std.specs.Prelude.{◌≡◌, ℕ, ◌+◌, ◌⊎◌, pos, List, codes, length, if◌then◌else◌, nat_le}
+use Rattle.std.specs.Prelude.{is_some, AllPairs, Result, Ok, Err}
 use Rattle.serde_json.specs.Data.{Data}
 use Rattle.serde_json.specs.Find.{as_object}
 use Rattle.rail_types.specs.declared.bases.Base.{Base}
 use Rattle.rail_types.specs.declared.bases.BaseClaim.{BaseClaim}
 use Rattle.rail_types.specs.declared.entries.Settings.{Settings}
-use Rattle.rail_types.specs.declared.limits.TheConstants.{MAX_TIMETABLE_FILE_BYTES, MAX_TICK_S, MAX_SETTING, MAX_RELEASE, MAX_HORIZON, MIN_JOURNAL_BYTES, MAX_JOURNAL_BYTES}
+use Rattle.rail_types.specs.declared.limits.TheConstants.{MAX_TIMETABLE_FILE_BYTES, MAX_TICK_S}
+use Rattle.rail_types.specs.declared.limits.TheConstants.{MAX_SETTING, MAX_RELEASE, MAX_HORIZON}
+use Rattle.rail_types.specs.declared.limits.TheConstants.{MIN_JOURNAL_BYTES, MAX_JOURNAL_BYTES}
 use Rattle.json_fields.specs.Places.{FilePlace, whole_file, spot_of}
 use Rattle.json_fields.specs.Reading.{◌>>=◌, or_fault}
 use Rattle.json_fields.specs.Texts.{data_of}
 use Rattle.base_file.specs.declared.faults.BaseFault.{BaseFault}
-use Rattle.base_file.specs.declared.faults.BaseFault.TheVariants.{NotJson, Kind, Limit, Memory, Overlap}
+use Rattle.base_file.specs.declared.faults.BaseFault.TheVariants.{NotJson, Kind, Limit, Memory}
+use Rattle.base_file.specs.declared.faults.BaseFault.TheVariants.{Overlap}
 use Rattle.base_file.specs.declared.faults.What.TheVariants as what
 use Rattle.base_file.specs.Claims.{claims_of_trains}
 use Rattle.base_file.specs.Fields.{number_at, flag_at, list_at}
@@ -59,8 +64,8 @@ text_at zones quoted = do
   d ← or_fault NotJson (data_of quoted)
   object_of zones d
 
--- What bytes read as, where `quoted` is their text with its numbers quoted, whether or not trains want one zone at once.
--- The size of a file comes before all else.
+-- What bytes read as, where `quoted` is their text with its numbers quoted, whether or not trains
+-- want one zone at once. The size of a file comes before all else.
 abbrev pub base_at : ℕ → List ℕ → List ℕ → Result Base BaseFault
 base_at zones bytes quoted =
     if nat_le (length bytes) MAX_TIMETABLE_FILE_BYTES then text_at zones quoted
@@ -75,8 +80,8 @@ TellsOverlap claims fault =
 abbrev pub ReadsAsOverlap : Result Base BaseFault → BaseFault → Type 0
 ReadsAsOverlap read fault = (base : Base) × (read ≡ Ok base) × TellsOverlap base.claims fault
 
--- What a call returned: the base that was read, or the first fault of the reading, or, where it has none, the first
--- overlap. That a base has no overlap stands in the call's other clause.
+-- What a call returned: the base that was read, or the first fault of the reading, or, where it has
+-- none, the first overlap. That a base has no overlap stands in the call's other clause.
 abbrev pub GivesBase : Result Base BaseFault → Result Base BaseFault → Type 0
 GivesBase (Ok base) read = read ≡ Ok base
 GivesBase (Err e) read = (e ≡ Memory → ⊥) → (read ≡ Err e) ⊎ ReadsAsOverlap read e

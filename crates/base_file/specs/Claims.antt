@@ -1,5 +1,6 @@
 -- The claims of the trains of a file: what each train's list reads as, joined, train after train.
-use Rattle.std.specs.Prelude.{◌≡◌, ℕ, ◌+◌, ℤ, pos, List, [], ◌∷◌, ◌++◌, codes, length, map, if◌then◌else◌, nat_le, int_lt, Result, Ok, Err}
+use Rattle.std.specs.Prelude.{◌≡◌, ℕ, ◌+◌, ℤ, pos, List, [], ◌∷◌, ◌++◌, codes, length, map}
+use Rattle.std.specs.Prelude.{if◌then◌else◌, nat_le, int_lt, Result, Ok, Err}
 use Rattle.serde_json.specs.Data.{Data}
 use Rattle.rail_types.specs.declared.bases.BaseClaim.{BaseClaim}
 use Rattle.rail_types.specs.declared.limits.TheConstants.{MAX_BASE_CLAIMS, MAX_TIMETABLE_FILE_BYTES}
@@ -42,13 +43,15 @@ read_claims zones place before (d ∷ ds) = do
   claim ← claim_in zones (item_of place (codes "requirements") (length before)) d
   read_claims zones place (before ++ claim ∷ []) ds
 
--- the elements of all lists of requirements so far, this one's among them, are no more than the limit
+-- the elements of all lists of requirements so far, this one's among
+-- them, are no more than the limit
 abbrev pub counted : ℕ → List Data → Result (List Data) BaseFault
 counted elements ds =
     if nat_le (elements + length ds) MAX_BASE_CLAIMS then Ok ds
     else Err (Limit what.List (pos (elements + length ds)))
 
--- the claims of a train as its list has them, where the lists of the trains before it had so many elements
+-- the claims of a train as its list has them, where the lists of the trains
+-- before it had so many elements
 abbrev pub train_at : ℕ → FilePlace → ℕ → Data → Result (List Claim) BaseFault
 train_at zones place elements d = do
   object ← object_at place d
@@ -79,8 +82,8 @@ read_trains zones before (d ∷ ds) = do
 abbrev pub none_planned : Planned
 none_planned = record { trains = 0; elements = 0; claims = [] }
 
--- A list of a file has no more elements than the file may have bytes. No file within its size has such a list, since
--- each element takes a byte at least; it is a limit of the list all the same.
+-- A list of a file has no more elements than the file may have bytes. No file within its size has
+-- such a list, since each element takes a byte at least; it is a limit of the list all the same.
 abbrev pub in_a_file : List Data → Result (List Data) BaseFault
 in_a_file ds =
     if nat_le (length ds) MAX_TIMETABLE_FILE_BYTES then Ok ds
@@ -94,13 +97,15 @@ claims_of_trains zones ds = do
   Ok planned.claims
 
 -- inside: the claim that was read stands behind the others, unless memory was wanted
-abbrev pub GivesNextClaim : List Claim → List Claim → Result (Unit {0}) BaseFault → Result Claim BaseFault → Type 0
+abbrev pub GivesNextClaim : List Claim → List Claim → Result (Unit {0}) BaseFault
+    → Result Claim BaseFault → Type 0
 GivesNextClaim old new (Ok _) read =
     (claim : Claim) × (read ≡ Ok claim) × (new ≡ old ++ claim ∷ [])
 GivesNextClaim old new (Err e) read = (e ≡ Memory → ⊥) → read ≡ Err e
 
 -- inside: what was read stands behind the rest, unless memory was wanted
-abbrev pub GivesNext : Planned → Planned → Result (Unit {0}) BaseFault → Result (List Claim) BaseFault → Type 0
+abbrev pub GivesNext : Planned → Planned → Result (Unit {0}) BaseFault
+    → Result (List Claim) BaseFault → Type 0
 GivesNext old new (Ok _) read =
     (claims : List Claim) × (read ≡ Ok claims) × (new ≡ with_train old claims)
 GivesNext old new (Err e) read = (e ≡ Memory → ⊥) → read ≡ Err e

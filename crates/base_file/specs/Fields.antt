@@ -1,5 +1,7 @@
 -- Fields of an object: what each reads as, or its first fault.
-use Rattle.std.specs.Prelude.{ℕ, ℤ, pos, negsuc, List, [], ◌∷◌, length, Bool, true, false, if◌then◌else◌, ◌==◌, nat_lt, is_some, Option, Some, None, Result, Ok, Err}
+use Rattle.std.specs.Prelude.{ℕ, ℤ, pos, negsuc, List, [], ◌∷◌, length, Bool, true, false}
+use Rattle.std.specs.Prelude.{if◌then◌else◌, ◌==◌, nat_lt, is_some, Option, Some, None, Result, Ok}
+use Rattle.std.specs.Prelude.{Err}
 use Rattle.serde_json.specs.Data.{Data, Items, no_items, item}
 use Rattle.serde_json.specs.Find.{get, as_array, as_object, as_str}
 use Rattle.decimal_quote.specs.declared.values.NotWhole.{NotWhole}
@@ -12,7 +14,8 @@ use Rattle.json_fields.specs.Places.{FilePlace, spot_of}
 use Rattle.json_fields.specs.Reading.{◌>>=◌, or_fault}
 use Rattle.json_fields.specs.Reading as reading
 use Rattle.base_file.specs.declared.faults.BaseFault.{BaseFault}
-use Rattle.base_file.specs.declared.faults.BaseFault.TheVariants.{Missing, Kind, ZoneUnknown, Limit, Memory}
+use Rattle.base_file.specs.declared.faults.BaseFault.TheVariants.{Missing, Kind, ZoneUnknown, Limit}
+use Rattle.base_file.specs.declared.faults.BaseFault.TheVariants.{Memory}
 use Rattle.base_file.specs.declared.faults.What.{What}
 use Rattle.base_file.specs.declared.faults.What.TheVariants as what
 

@@ -1,5 +1,7 @@
 -- The first overlap of two trains: the first clash by zone, then by the later of the two begins.
-use Rattle.std.specs.Prelude.{◌≡◌, ◌⊎◌, ℕ, ◌+◌, ◌<◌, ◌≤◌, ℤ, ◌<ℤ◌, Bool, ◌&&◌, nat_lt, nat_eq, int_lt, if◌then◌else◌, Option, Some, None, List, length, slice_index_or, All, AllPairs, Contains}
+use Rattle.std.specs.Prelude.{◌≡◌, ◌⊎◌, ℕ, ◌+◌, ◌<◌, ◌≤◌, ℤ, ◌<ℤ◌, Bool, ◌&&◌, nat_lt, nat_eq}
+use Rattle.std.specs.Prelude.{int_lt, if◌then◌else◌, Option, Some, None, List, length}
+use Rattle.std.specs.Prelude.{slice_index_or, All, AllPairs, Contains}
 use Rattle.std.specs.List.{AllAdjacentBelow}
 use Rattle.std.specs.Ordering.{int_eq}
 use Rattle.rail_types.specs.declared.bases.BaseClaim.{BaseClaim}
@@ -29,7 +31,8 @@ BeginsBy one other x y =
     (later_begin one other <ℤ later_begin x y)
     ⊎ ((later_begin one other ≡ later_begin x y) × TrainsBy one.train other.train x.train y.train)
 
--- the first overlap comes before the second, or is told alike: by zone, then by the later begin, then by trains
+-- the first overlap comes before the second, or is told alike: by zone, then by
+-- the later begin, then by trains
 abbrev pub IsNoLater : BaseClaim → BaseClaim → BaseClaim → BaseClaim → Type 0
 IsNoLater one other x y =
     (one.claim.zone < x.claim.zone)
@@ -49,7 +52,8 @@ pub record IsFirstOverlap (claims : List BaseClaim) (zone a b : ℕ) : Type 0 wh
   pub a_is : one.train ≡ a
   pub b_is : other.train ≡ b
 
--- a claim of a train before, or of the same train and one that ends before on its zone or is on a lower zone
+-- a claim of a train before, or of the same train and one that ends before on
+-- its zone or is on a lower zone
 abbrev pub StandsBefore : BaseClaim → BaseClaim → Type 0
 StandsBefore one later =
     (one.train < later.train)
@@ -63,7 +67,8 @@ Apart one other = ¬ Clash one.claim other.claim
 abbrev pub ApartAtHome : BaseClaim → BaseClaim → Type 0
 ApartAtHome one other = one.train ≡ other.train → Apart one other
 
--- inside: whether a claim is on a lower zone, begins before on the same, or begins with the other and is of a lower train
+-- inside: whether a claim is on a lower zone, begins before on the same, or begins with the
+-- other and is of a lower train
 abbrev pub comes_first : BaseClaim → BaseClaim → Bool
 comes_first one other =
     if nat_eq one.claim.zone other.claim.zone then
@@ -107,14 +112,16 @@ begins_with one other =
     nat_eq one.claim.zone other.claim.zone
     && int_eq one.claim.span.from other.claim.span.from
 
--- inside: the pair of the claim behind with the lower of the trains of the claim in front and the one that is next
+-- inside: the pair of the claim behind with the lower of the trains of the claim in
+-- front and the one that is next
 abbrev pub pair_behind : BaseClaim → BaseClaim → Option BaseClaim → Pair
 pair_behind left right None = pair_of right left
 pair_behind left right (Some next) =
     if begins_with right next && nat_lt next.train left.train then pair_of right next
     else pair_of right left
 
--- inside: of a claim, one behind it that clashes with it, and the next, the two of the least trains that clash
+-- inside: of a claim, one behind it that clashes with it, and the next, the two
+-- of the least trains that clash
 abbrev pub least_pair : BaseClaim → BaseClaim → Option BaseClaim → Pair
 least_pair left right next =
     if nat_lt left.train right.train then pair_of left right else pair_behind left right next

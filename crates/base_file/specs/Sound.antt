@@ -13,8 +13,8 @@ pub record IsClaimOn (zones : ℕ) (claim : Claim) : Type 0 where
   pub zone : claim.zone < zones
   pub within : IsClaimWithinLimits claim
 
--- Settings within their limits, and no more claims than a base file may have, on so many zones: by train, the claims of
--- each train joined, and no two of any trains clash.
+-- Settings within their limits, and no more claims than a base file may have, on so many zones: by
+-- train, the claims of each train joined, and no two of any trains clash.
 pub record IsBaseOn (zones : ℕ) (base : Base) : Type 0 where
   pub settings : IsSettingsWithinLimits base.settings
   pub count : length base.claims ≤ MAX_BASE_CLAIMS

@@ -4,7 +4,9 @@ use Rattle.std.specs.Fmt.{signed_decimal}
 use Rattle.json_fields.specs.declared.spots.Spot.{Spot}
 use Rattle.json_fields.specs.Spots.{spot_text}
 use Rattle.base_file.specs.declared.faults.BaseFault.{BaseFault}
-use Rattle.base_file.specs.declared.faults.BaseFault.TheVariants.{NotJson, Missing, Kind, ZoneUnknown, EmptySpan, Overlap, Limit, Memory}
+use Rattle.base_file.specs.declared.faults.BaseFault.TheVariants.{NotJson, Missing, Kind}
+use Rattle.base_file.specs.declared.faults.BaseFault.TheVariants.{ZoneUnknown, EmptySpan, Overlap}
+use Rattle.base_file.specs.declared.faults.BaseFault.TheVariants.{Limit, Memory}
 use Rattle.base_file.specs.declared.faults.What.{What}
 use Rattle.base_file.specs.declared.faults.What.TheVariants as what
 

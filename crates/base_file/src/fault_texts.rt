@@ -1,7 +1,8 @@
 //! Faults as reports write them.
 
 ghost use Rattle.std.specs.Prelude.{◌≡◌, IfOk};
-ghost use Rattle.base_file.specs.Texts.{fault_text, spot_fault, zone_fault, overlap_fault, limit_fault, word_of};
+ghost use Rattle.base_file.specs.Texts.{fault_text, spot_fault, zone_fault, overlap_fault};
+ghost use Rattle.base_file.specs.Texts.{limit_fault, word_of};
 
 use crate::{BaseFault, What};
 use itoa::Buffer;

@@ -5,7 +5,9 @@ ghost use Rattle.serde_json.specs.View.{view};
 ghost use Rattle.json_fields.specs.Numbers.{whole_value};
 ghost use Rattle.json_fields.specs.Places.{spot_of};
 ghost use Rattle.rail_types.specs.Limits.{IsTick};
-ghost use Rattle.base_file.specs.Fields.{Gives, object_at, found_at, name_at, limited_name, number_read, within, number_at, whole_at, near, tick_at, zone_among, zone_at, flag, flag_at, list_at, elements_of};
+ghost use Rattle.base_file.specs.Fields.{Gives, object_at, found_at, name_at, limited_name};
+ghost use Rattle.base_file.specs.Fields.{number_read, within, number_at, whole_at, near, tick_at};
+ghost use Rattle.base_file.specs.Fields.{zone_among, zone_at, flag, flag_at, list_at, elements_of};
 
 use crate::faults::{BaseFault, What};
 use decimal_quote::NotWhole;
@@ -33,7 +35,8 @@ fn found<'a>(
     value: &'a Value,
     field: &str,
 ) -> Result<&'a Value, BaseFault>
-    ensures { Gives (λ found. view found.now) result (found_at place.now field.now (view value.now)) }
+    ensures { Gives (λ found. view found.now) result
+        (found_at place.now field.now (view value.now)) }
 {
     let Some(found) = value.get(field) else {
         return Err(BaseFault::Missing {
@@ -127,7 +130,8 @@ fn whole(alloc: Global, place: &Place, value: &Value, field: &str) -> Result<i64
 /// The whole number that a field's value is.
 fn whole_of(alloc: Global, place: &Place, found: &Value, field: &str) -> Result<i64, BaseFault>
     ensures { Gives (λ number. number) result
-        (number_read (spot_of place.now field.now) (view found.now) (whole_value (view found.now))) }
+        (number_read (spot_of place.now field.now) (view found.now)
+        (whole_value (view found.now))) }
 {
     let number = read(alloc, place, found, field, whole_in(found))?;
     Ok(number)

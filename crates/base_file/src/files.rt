@@ -21,10 +21,11 @@ use rail_types::{Base, BaseClaim, List, MAX_TIMETABLE_FILE_BYTES};
 use serde_json::Value;
 use std::alloc::Global;
 
-/// Reads a base file on a network of so many zones: a JSON object with `tick_s`, `setting`, `release`, `horizon`,
-/// `journal_bytes`, `speed_loss` (0 or 1, 0 where it is absent), and `trains`, a list in which each train has a `name`
-/// and `requirements`, a list of `zone`, `from` and `to` in ticks. The claims of a train are joined. Answers the first
-/// fault: the file's size, its form, then field by field in this order and train by train, and last the first overlap of
+/// Reads a base file on a network of so many zones: a JSON object with `tick_s`, `setting`,
+/// `release`, `horizon`, `journal_bytes`, `speed_loss` (0 or 1, 0 where it is absent), and
+/// `trains`, a list in which each train has a `name` and `requirements`, a list of `zone`, `from`
+/// and `to` in ticks. The claims of a train are joined. Answers the first fault: the file's size,
+/// its form, then field by field in this order and train by train, and last the first overlap of
 /// two trains, by zone, then by the later of the two begins; and want of memory.
 pub fn read_base(alloc: Global, bytes: &[u8], zones: u32) -> Result<Base, BaseFault>
     ensures read { (quoted : list_of ℕ) → IsQuoted bytes.now quoted →

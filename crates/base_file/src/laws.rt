@@ -7,7 +7,8 @@ pub fn first_overlaps_are_one()
     ensures { FirstOverlapsAreOne }
 {}
 
-/// A base that was read on the zones of a network without flaws makes a timetable with it: a history can begin on both.
+/// A base that was read on the zones of a network without flaws makes a timetable with it:
+/// a history can begin on both.
 pub fn bases_make_timetables()
     ensures { BasesMakeTimetables }
 {}

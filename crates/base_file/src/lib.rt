@@ -1,4 +1,5 @@
-//! The base file: the bytes of a file of JSON, read to the settings of a timetable and the claims of its trains.
+//! The base file: the bytes of a file of JSON, read to the settings of a timetable
+//! and the claims of its trains.
 #![tactic(auto)]
 
 mod fault_texts;

@@ -1,6 +1,7 @@
 //! The first overlap of two trains, by a sort and a look at neighbours.
 
-ghost use Rattle.std.specs.Prelude.{◌≡◌, ◌+◌, ◌<◌, All, AllPairs, IfOk, IfSome, IsNone, length, option_map, slice_get};
+ghost use Rattle.std.specs.Prelude.{◌≡◌, ◌+◌, ◌<◌, All, AllPairs, IfOk, IfSome, IsNone, length};
+ghost use Rattle.std.specs.Prelude.{option_map, slice_get};
 ghost use Rattle.std.specs.List.{AllAdjacentBelow};
 ghost use Rattle.std.specs.List.Sorted.{IsPermutation};
 ghost use Rattle.std.specs.Ordering.{is_lt};
@@ -98,8 +99,8 @@ fn claim_at(sorted: &[BaseClaim], at: usize) -> Option<&BaseClaim>
     sorted.get(at)
 }
 
-/// The first claim that clashes with the next. While none does, the claims of a zone end one after the other, so that
-/// a claim that clashes with any in front of it clashes with the last of these.
+/// The first claim that clashes with the next. While none does, the claims of a zone end one after
+/// the other, so that a claim that clashes with any in front of it clashes with the last of these.
 fn first_at(sorted: &[BaseClaim]) -> Option<usize>
     ensures none { IsNone result → AllAdjacentBelow Apart sorted.now (length sorted.now) }
     ensures some { IfSome result (λ at. IsFirstAt sorted.now at) }
@@ -112,8 +113,9 @@ fn first_at(sorted: &[BaseClaim]) -> Option<usize>
     None
 }
 
-/// Of a claim, the first that begins with it or behind it and clashes with it, and the one behind that: the pair of the
-/// least trains that clash where the second begins. Claims that begin there stand by their trains.
+/// Of a claim, the first that begins with it or behind it and clashes with it, and the one
+/// behind that: the pair of the least trains that clash where the second begins. Claims that
+/// begin there stand by their trains.
 fn least(left: &BaseClaim, right: &BaseClaim, next: Option<&BaseClaim>) -> Pair
     ensures { result ≡ least_pair left.now right.now (option_map (λ one. one.now) next.entry) }
 {

@@ -3,7 +3,8 @@
 ghost use Rattle.std.specs.Prelude.{◌≡◌, ◌≤◌, IfOk};
 ghost use Rattle.serde_json.specs.View.{view};
 ghost use Rattle.rail_types.specs.Limits.{IsSettingsWithinLimits};
-ghost use Rattle.rail_types.specs.declared.limits.TheConstants.{MAX_JOURNAL_BYTES, MIN_JOURNAL_BYTES};
+ghost use Rattle.rail_types.specs.declared.limits.TheConstants.{MAX_JOURNAL_BYTES};
+ghost use Rattle.rail_types.specs.declared.limits.TheConstants.{MIN_JOURNAL_BYTES};
 ghost use Rattle.base_file.specs.Base.{journal_bytes_in, settings_in};
 ghost use Rattle.base_file.specs.Fields.{Gives};
 

@@ -1,12 +1,15 @@
 //! The trains of a base file, each with its claims joined.
 
-ghost use Rattle.std.specs.Prelude.{◌≡◌, ◌<◌, ◌≤◌, ◌+◌, ◌++◌, [], All, AllPairs, IfOk, OnOk, codes, length, map};
+ghost use Rattle.std.specs.Prelude.{◌≡◌, ◌<◌, ◌≤◌, ◌+◌, ◌++◌, [], All, AllPairs, IfOk, OnOk, codes};
+ghost use Rattle.std.specs.Prelude.{length, map};
 ghost use Rattle.serde_json.specs.View.{view};
 ghost use Rattle.blocking_time.specs.Joined.{joined_claims};
 ghost use Rattle.json_fields.specs.Places.{element};
 ghost use Rattle.rail_types.specs.Occupation.{AreJoined};
-ghost use Rattle.rail_types.specs.declared.limits.TheConstants.{MAX_BASE_CLAIMS, MAX_TIMETABLE_FILE_BYTES};
-ghost use Rattle.base_file.specs.Claims.{GivesNext, claims_of_trains, counted, in_a_file, none_planned, of_train, read_trains, train_at, with_train};
+ghost use Rattle.rail_types.specs.declared.limits.TheConstants.{MAX_BASE_CLAIMS};
+ghost use Rattle.rail_types.specs.declared.limits.TheConstants.{MAX_TIMETABLE_FILE_BYTES};
+ghost use Rattle.base_file.specs.Claims.{GivesNext, claims_of_trains, counted, in_a_file};
+ghost use Rattle.base_file.specs.Claims.{none_planned, of_train, read_trains, train_at, with_train};
 ghost use Rattle.base_file.specs.Fields.{Gives};
 ghost use Rattle.base_file.specs.Sound.{AreClaimsOn, ArePlanned, IsClaimOn};
 
@@ -20,7 +23,8 @@ use rail_types::{BaseClaim, Claim, List, MAX_BASE_CLAIMS, MAX_TIMETABLE_FILE_BYT
 use serde_json::Value;
 use std::alloc::Global;
 
-/// The trains that were read: how many, how many elements their lists have together, and their claims, joined.
+/// The trains that were read: how many, how many elements their lists have
+/// together, and their claims, joined.
 #[derive(Debug, Drop)]
 struct Planned {
     trains: u32,
@@ -94,7 +98,8 @@ fn read_next(
     Ok(())
 }
 
-/// The claims of a train as its list has them, where the lists of the trains before it had so many elements.
+/// The claims of a train as its list has them, where the lists of the trains
+/// before it had so many elements.
 fn read_train(
     alloc: Global,
     place: &Place,
@@ -119,7 +124,8 @@ fn read_train(
 /// Refuses a list with which there are too many elements.
 fn count(items: &[Value], elements: u32) -> Result<&[Value], BaseFault>
     requires { elements ≤ MAX_BASE_CLAIMS }
-    ensures list { Gives (λ items. map view items.now) result (counted elements (map view items.now)) }
+    ensures list { Gives (λ items. map view items.now) result
+        (counted elements (map view items.now)) }
     ensures few { IfOk result (λ items. elements + length items.now ≤ MAX_BASE_CLAIMS) }
 {
     let sum = items.len() + elements as usize;

@@ -11,8 +11,8 @@ use Rattle.list_lines.specs.Numbers.{AreNumbered, first_repeat}
 use Rattle.rail_types.specs.declared.entries.Entry.{Entry}
 use Rattle.worker_numbers.specs.Owners.{AreEnough, IsNeeded}
 
--- Each line of the list asks, and these are the numbers of the lines that are in the form: they differ, and none stands in
--- the history under the name of a worker that is not there.
+-- Each line of the list asks, and these are the numbers of the lines that are in the form: they
+-- differ, and none stands in the history under the name of a worker that is not there.
 pub record IsAsked (known : Names) (batch : List ℕ) (workers : ℕ) (entries : List Entry)
     (lines : List (List ℕ)) (numbers : List (Option ℕ)) : Type 0 where
   pub asks : first_no_ask 1 lines ≡ None

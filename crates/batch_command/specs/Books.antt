@@ -16,7 +16,8 @@ use Rattle.serve_reports.specs.declared.ends.Ends.{Ends}
 use Rattle.served_journals.specs.Rounds.{IsUnserved}
 use Rattle.batch_command.specs.Lists.{IsAnswered, IsRefused}
 
--- the source and the sink of a client were opened, came to this, and were put back, each under its name
+-- the source and the sink of a client were opened, came to this, and were
+-- put back, each under its name
 pub record HadPair {Src Snk Dsk : Type 0} (client : ClientWord) (old new : Scene Src Snk Dsk)
     (src src' : Src) (snk snk' : Snk) : Type 0 where
   pub opens : All (IsOpen old.standing) (pair_calls client)

@@ -17,7 +17,8 @@ use Rattle.path_commit.specs.Ledgers.{Ledger}
 use Rattle.serve_reports.specs.declared.ends.Ends.{Ends}
 use Rattle.served_journals.specs.Files.{known_by}
 use Rattle.served_journals.specs.Journals.{IsFound, Remains}
-use Rattle.served_journals.specs.Rounds.{DiskHalts, DiskRefuses, IsHalted, IsJournalRefused, IsNotOpened}
+use Rattle.served_journals.specs.Rounds.{DiskHalts, DiskRefuses, IsHalted, IsJournalRefused}
+use Rattle.served_journals.specs.Rounds.{IsNotOpened}
 use Rattle.served_journals.specs.declared.files.Files.{Files}
 use Rattle.batch_command.specs.Books.{Answers, Declines}
 
@@ -67,7 +68,8 @@ BatchSays source sink disk kind files name client workers rules old new (Err ref
     Refuses source disk files name client workers old new refusal
     ⊎ Stops disk files name client old new refusal
 
--- The step that answers: the journal's disk is opened, then the client's streams, each once, and all are put back.
+-- The step that answers: the journal's disk is opened, then the client's streams,
+-- each once, and all are put back.
 pub record BatchStep {Src Snk Dsk L : Type 0} (source : Sources Src) (sink : Sinks Snk)
     (disk : Disks Dsk) (kind : Rules L) (files : Files) (name : List ℕ) (client : ClientWord)
     (workers : ℕ) (rules : List (ClientRules L)) (old new : Scene Src Snk Dsk)

@@ -27,7 +27,8 @@ use Rattle.served_journals.specs.Journals.{IsClosed}
 use Rattle.worker_numbers.specs.Owners.{owners_of}
 use Rattle.batch_command.specs.Asked.{HasFlaw, IsAsked}
 
--- the texts of the replies were written, one after another; without texts memory was wanted, and nothing was written
+-- the texts of the replies were written, one after another; without texts memory was
+-- wanted, and nothing was written
 abbrev pub WritesTexts : {Snk : Type 0} → Sinks Snk → Option (List (List ℕ)) → Snk → Snk → Ended
     → Type 0
 WritesTexts sink (Some texts) before after ended = Writes sink texts before after ended
@@ -41,9 +42,10 @@ pub record AreMembers {Btw L : Type 0} (batch : List ℕ) (workers : ℕ)
   pub given : map (λ member. member.rules.items) members
       ≡ map (λ name. rules_named name rules) (worker_names batch workers)
 
--- Lines without a flaw were answered by the workers over the book that was found: a line whose number stands there under the
--- name of a worker by the first such one, before its others. The replies were written in the order of the list, and these are
--- the ends. The workers are told without what happens between searches, on which nothing that is told depends.
+-- Lines without a flaw were answered by the workers over the book that was found: a line whose
+-- number stands there under the name of a worker by the first such one, before its others. The
+-- replies were written in the order of the list, and these are the ends. The workers are told
+-- without what happens between searches, on which nothing that is told depends.
 pub record AreAnswered {Snk Dsk L : Type 0} (sink : Sinks Snk) (disk : Disks Dsk) (kind : Rules L)
     (known : Names) (batch : List ℕ) (workers : ℕ) (rules : List (ClientRules L))
     (lines : List (List ℕ)) (found : Ledger Dsk) (after : Dsk) (snk snk' : Snk) (ends : Ends)
@@ -87,7 +89,8 @@ pub record IsFlawed {Src Dsk : Type 0} (source : Sources Src) (known : Names) (b
   pub read : IsWhole source src src' lines
   pub flaw : HasFlaw known batch workers found.entries lines refusal
 
--- Nobody answered: the list was not read, or it has a flaw, or memory was wanted. Nothing was written.
+-- Nobody answered: the list was not read, or it has a flaw, or memory was
+-- wanted. Nothing was written.
 pub record IsRefused {Src Snk Dsk : Type 0} (source : Sources Src) (known : Names)
     (batch : List ℕ) (workers : ℕ) (found : Ledger Dsk) (after : Dsk) (src src' : Src)
     (snk snk' : Snk) (refusal : Refusal) : Type 0 where

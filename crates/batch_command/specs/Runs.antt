@@ -36,8 +36,8 @@ abbrev pub EndsRun : {Src Snk Dsk : Type 0} → Sinks Snk → Scene Src Snk Dsk 
 EndsRun sink old new (Ok ends) status = EndsSay sink ends old new status
 EndsRun sink old new (Err refusal) status = TellsRefusal sink refusal old new status
 
--- The files were read, the journal was opened, the list was read and answered, and this was reported: in this order, each
--- name opened once, and all put back.
+-- The files were read, the journal was opened, the list was read and answered, and this was
+-- reported: in this order, each name opened once, and all put back.
 pub record RunsBatch {Src Snk Dsk L : Type 0} (source : Sources Src) (sink : Sinks Snk)
     (disk : Disks Dsk) (kind : Rules L) (network trains base journal : List ℕ)
     (client : ClientWord) (workers : ℕ) (rules : List (ClientRules L))
@@ -63,8 +63,9 @@ pub record HasRead {Src Snk Dsk : Type 0} (source : Sources Src) (network trains
       BaseStep source network_file.named.network.zones base second new (Ok base_file)
   pub files_are : files ≡ files_of network_file base_file train_list
 
--- All was done: the files were read, the journal was opened, the list was answered over it, all replies were written in its
--- order, and the lines of the batch, of each worker and of each of its rules were reported.
+-- All was done: the files were read, the journal was opened, the list was answered over it,
+-- all replies were written in its order, and the lines of the batch, of each worker and of
+-- each of its rules were reported.
 pub record IsBatchDone {Src Snk Dsk L : Type 0} (source : Sources Src) (sink : Sinks Snk)
     (disk : Disks Dsk) (kind : Rules L) (network trains base journal : List ℕ)
     (client : ClientWord) (workers : ℕ) (rules : List (ClientRules L))

@@ -1,4 +1,5 @@
--- The work of `batch`: the network, the trains and the base timetable are read, and then a list is answered.
+-- The work of `batch`: the network, the trains and the base timetable are read,
+-- and then a list is answered.
 use Rattle.std.specs.Prelude.{ℕ, List, ◌∷◌, Result}
 use Rattle.admission_rules.specs.declared.rules.Rule.{Ghosts as Rules}
 use Rattle.client_rules.specs.declared.clients.ClientRules.{ClientRules}

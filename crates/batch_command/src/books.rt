@@ -26,8 +26,8 @@ use std::sync::Wait;
 use std::thread::Threads;
 use train_file::Trains;
 
-/// Opens the streams of the client, answers its list over a book by workers, puts the streams back, and hands back the book's
-/// disk.
+/// Opens the streams of the client, answers its list over a book by workers, puts the streams back,
+/// and hands back the book's disk.
 pub(crate) fn serve_book<R: AllocGlobal + Threads + Wait + Sync, O: Outside, L: Rule + Send>(
     rt: &R,
     book: Book<O::Dsk>,

@@ -2,7 +2,8 @@
 
 ghost use Rattle.std.specs.Prelude.{◌≤◌, All, IfErr, IfOk, length};
 ghost use Rattle.batch_command.specs.Asked.{HasFlaw, IsAsked};
-ghost use Rattle.batch_words.specs.declared.clients.TheConstants.{MAX_BATCH_NAME_BYTES, MAX_WORKERS};
+ghost use Rattle.batch_words.specs.declared.clients.TheConstants.{MAX_BATCH_NAME_BYTES};
+ghost use Rattle.batch_words.specs.declared.clients.TheConstants.{MAX_WORKERS};
 ghost use Rattle.client_lines.specs.declared.lines.TheConstants.{MAX_LINE_BYTES};
 ghost use Rattle.line_sessions.specs.declared.sessions.TheConstants.{MAX_LINES};
 
@@ -16,8 +17,9 @@ use rail_types::Name;
 use std::alloc::Global;
 use worker_numbers::needed_worker;
 
-/// The numbers of the lines of a list, each of which asks for a path: they differ, and none stands in the history under the
-/// name of a worker that is not there. A flaw refuses, the first that applies.
+/// The numbers of the lines of a list, each of which asks for a path: they differ, and
+/// none stands in the history under the name of a worker that is not there. A flaw
+/// refuses, the first that applies.
 pub(crate) fn numbers_asked(
     alloc: Global,
     known: &Known,

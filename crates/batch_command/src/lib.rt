@@ -1,5 +1,5 @@
-//! The command `batch`: a list of asks is read as a whole, answered by 1 to 16 workers at once over one journal, and the
-//! replies are written in its order.
+//! The command `batch`: a list of asks is read as a whole, answered by 1 to 16 workers at once over
+//! one journal, and the replies are written in its order.
 #![tactic(auto)]
 
 mod books;

@@ -37,9 +37,10 @@ use std::sync::Wait;
 use std::thread::Threads;
 use worker_numbers::owners_of;
 
-/// Reads a list as a whole, answers it over a book by so many workers, writes the replies in the order of the list, and hands
-/// back the book's disk. A list that is not read, or has a flaw, is refused, and nothing is answered. The outside is asked for
-/// what it has called between the searches of the workers, and for nothing else.
+/// Reads a list as a whole, answers it over a book by so many workers, writes the replies in the
+/// order of the list, and hands back the book's disk. A list that is not read, or has a flaw, is
+/// refused, and nothing is answered. The outside is asked for what it has called between the
+/// searches of the workers, and for nothing else.
 pub(crate) fn serve_list<
     R: AllocGlobal + Threads + Wait + Sync,
     D: Disk + Send,

@@ -2,7 +2,8 @@
 
 ghost use Rattle.std.specs.Prelude.{◌≡◌, ◌≤◌, IfOk};
 ghost use Rattle.batch_command.specs.Lists.{AreMembers};
-ghost use Rattle.batch_words.specs.declared.clients.TheConstants.{MAX_BATCH_NAME_BYTES, MAX_WORKERS};
+ghost use Rattle.batch_words.specs.declared.clients.TheConstants.{MAX_BATCH_NAME_BYTES};
+ghost use Rattle.batch_words.specs.declared.clients.TheConstants.{MAX_WORKERS};
 ghost use Rattle.client_streams.specs.Lending.{IsUnchanged};
 ghost use Rattle.file_rounds.specs.Scenes.{scene};
 
@@ -16,8 +17,9 @@ use outside_io::Outside;
 use rail_types::Name;
 use std::alloc::Global;
 
-/// So many workers of a batch, in order, each with what the outside has called between its searches, and with its rules taken
-/// out of those of all: those in the elements with its name, in order.
+/// So many workers of a batch, in order, each with what the outside has called
+/// between its searches, and with its rules taken out of those of all: those in the
+/// elements with its name, in order.
 pub(crate) fn members_of<O: Outside, L: Rule>(
     alloc: Global,
     batch: &Name,

@@ -19,15 +19,18 @@ use std::alloc::AllocGlobal;
 use std::sync::Wait;
 use std::thread::Threads;
 
-/// Runs `batch` over the names of a network's file, a train file, a base timetable's and a journal, the client whose list it
-/// is, and so many workers, 1 to 16. It reads the files, opens the journal, opens the source and the sink of the client, reads
-/// the list as a whole, has each of its lines answered by one worker, all workers at once, each in a thread where one can be
-/// made, writes the replies in the order of the list, puts all back, and reports how many replies were taken, how many lines
-/// each worker answered and what its rules were told, or what refused. A worker is the client that its name says, with the
-/// rules in the elements with this name, in order; elements with other names are dropped. A line whose number stands in the
-/// journal under the name of a worker is answered by the first such one, before all its others; so a list that is answered again
-/// grants nothing twice. A list with a line that does not ask, with a number that stands twice, or with a number that stands
-/// under the name of a worker that is not there, ends with `No`, the first of these told, and nothing is answered.
+/// Runs `batch` over the names of a network's file, a train file, a base timetable's and a journal,
+/// the client whose list it is, and so many workers, 1 to 16. It reads the files, opens the
+/// journal, opens the source and the sink of the client, reads the list as a whole, has each of its
+/// lines answered by one worker, all workers at once, each in a thread where one can be made,
+/// writes the replies in the order of the list, puts all back, and reports how many replies were
+/// taken, how many lines each worker answered and what its rules were told, or what refused. A
+/// worker is the client that its name says, with the rules in the elements with this name, in
+/// order; elements with other names are dropped. A line whose number stands in the journal under
+/// the name of a worker is answered by the first such one, before all its others; so a list that is
+/// answered again grants nothing twice. A list with a line that does not ask, with a number that
+/// stands twice, or with a number that stands under the name of a worker that is not there, ends
+/// with `No`, the first of these told, and nothing is answered.
 pub fn run_batch<R: AllocGlobal + Threads + Wait + Sync, O: Outside, L: Rule + Send>(
     rt: &R,
     network: &str,

@@ -1,4 +1,5 @@
--- Inside: the rule of the queue that a batch goes through. What was put in was taken or is there still, each place as often.
+-- Inside: the rule of the queue that a batch goes through. What was put in was taken or is
+-- there still, each place as often.
 use Rattle.std.specs.Prelude.{◌≡◌, ℕ, ◌+◌, ◌<◌, ◌≤◌, List, [], ◌∷◌, ◌++◌}
 use mathlib.Core.Option.{some}
 use lib.ListN.{get_elem?}

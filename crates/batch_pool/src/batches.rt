@@ -1,6 +1,7 @@
 //! A batch.
 
-ghost use Rattle.std.specs.Prelude.{◌≡◌, ◌<◌, ◌≤◌, [], All, IfErr, IfOk, IsPermutation, length, vec_capacity};
+ghost use Rattle.std.specs.Prelude.{◌≡◌, ◌<◌, ◌≤◌, [], All, IfErr, IfOk, IsPermutation, length};
+ghost use Rattle.std.specs.Prelude.{vec_capacity};
 ghost use Rattle.crossbeam_queue.specs.Passes.{IsPassOf};
 ghost use Rattle.batch_pool.specs.Batches.{all_places, AreMatched, IsServed};
 ghost use Rattle.batch_pool.specs.Hands.{hand, knows};
@@ -19,9 +20,10 @@ use std::alloc::Global;
 use std::sync::Wait;
 use std::thread::Threads;
 
-/// The lines at the places `todo` of the list, answered by 1 to 16 workers at once, each in a thread where one can be
-/// made. The workers come back in their order, each with what it answered. Where there is no memory for the answers or
-/// for the queue, no line was answered, and the workers are handed back.
+/// The lines at the places `todo` of the list, answered by 1 to 16 workers at once, each in a
+/// thread where one can be made. The workers come back in their order, each with what it
+/// answered. Where there is no memory for the answers or for the queue, no line was answered, and
+/// the workers are handed back.
 pub fn run_batch<R: Threads + Wait + Sync, W: Worker>(
     rt: &R,
     alloc: Global,
@@ -83,7 +85,8 @@ pub fn answer_batch<R: Threads + Wait + Sync, W: Worker>(
     answer_all(rt, &line, lines, todo, pass, workers, answers, jobs, served)
 }
 
-// All that is to do goes into the queue, and then the workers take it out. There is room for all of it.
+// All that is to do goes into the queue, and then the workers take it out.
+// There is room for all of it.
 fn answer_all<R: Threads + Wait + Sync, W: Worker>(
     rt: &R,
     line: &Line,

@@ -1,6 +1,7 @@
 //! The workers come back, and what they took is added up.
 
-ghost use Rattle.std.specs.Prelude.{◌≡◌, ◌+◌, ◌-◌, ◌<◌, ◌≤◌, ◌++◌, ℕ, [], All, length, map, vec_capacity, vec_len};
+ghost use Rattle.std.specs.Prelude.{◌≡◌, ◌+◌, ◌-◌, ◌<◌, ◌≤◌, ◌++◌, ℕ, [], All, length, map};
+ghost use Rattle.std.specs.Prelude.{vec_capacity, vec_len};
 ghost use Rattle.crossbeam_queue.specs.Passes.{IsPassOf};
 ghost use Rattle.batch_pool.specs.Batches.{AreMatched, IsServed, places};
 ghost use Rattle.batch_pool.specs.Hands.{hand, knows, weigh};
@@ -15,8 +16,8 @@ use crossbeam_queue::Pass;
 use rail_types::{List, Name};
 use std::sync::Wait;
 
-/// After the threads: all passes are joined to one, by which the last worker looks once more. It finds the queue empty,
-/// so each place was answered as often as it was to do.
+/// After the threads: all passes are joined to one, by which the last worker looks once more. It
+/// finds the queue empty, so each place was answered as often as it was to do.
 pub(crate) fn finish<R: Wait, W: Worker>(
     rt: &R,
     line: &Line,

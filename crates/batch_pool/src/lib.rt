@@ -1,4 +1,5 @@
-//! A list of lines, answered by several workers at once: each line that is to do goes through a queue to one of them.
+//! A list of lines, answered by several workers at once: each line that is to do goes
+//! through a queue to one of them.
 #![tactic(auto)]
 
 mod batches;

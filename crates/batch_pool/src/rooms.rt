@@ -1,6 +1,8 @@
-//! Room for a batch, which is all that it takes memory for, and lists that are taken apart from their ends.
+//! Room for a batch, which is all that it takes memory for, and lists that are
+//! taken apart from their ends.
 
-ghost use Rattle.std.specs.Prelude.{◌≡◌, ◌≤◌, ◌++◌, ◌∷◌, [], All, IfOk, length, reverse, vec_capacity};
+ghost use Rattle.std.specs.Prelude.{◌≡◌, ◌≤◌, ◌++◌, ◌∷◌, [], All, IfOk, length, reverse};
+ghost use Rattle.std.specs.Prelude.{vec_capacity};
 ghost use Rattle.batch_pool.specs.Rooms.{IsQueueFor, IsRoomFor};
 
 use crate::hands::{Hand, Line};
@@ -27,7 +29,8 @@ pub struct Room<W: Worker> {
     pub(crate) served: Vec<Served<W>>,
 }
 
-/// Room for so many workers and so many places that are to do. Where nothing is to do no queue is made.
+/// Room for so many workers and so many places that are to do. Where
+/// nothing is to do no queue is made.
 pub fn room_for<W: Worker>(
     alloc: Global,
     workers: usize,

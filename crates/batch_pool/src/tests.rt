@@ -10,7 +10,8 @@ use std::sync::atomic::Ordering::SeqCst;
 use std::test::Fail;
 use std::thread;
 
-/// What a clerk replies: who it is, how many lines it had answered before, and the length of the text.
+/// What a clerk replies: who it is, how many lines it had answered
+/// before, and the length of the text.
 #[derive(Clone, Copy, Debug, PartialEq, Eq, Drop)]
 struct Note {
     by: u32,
@@ -18,7 +19,8 @@ struct Note {
     length: usize,
 }
 
-/// A clerk answers at most a thousand lines. The first of all lines is held until another one is asked.
+/// A clerk answers at most a thousand lines. The first of all lines is
+/// held until another one is asked.
 #[derive(Drop)]
 struct Clerk<'a> {
     number: u32,

@@ -9,8 +9,8 @@ use std::sync::Wait;
 pub trait Worker: Send + Drop {
     type Reply: Send + Drop;
 
-    /// The line at this place of the list, with this text, was told this reply, which took the worker from one state to
-    /// the other.
+    /// The line at this place of the list, with this text, was told this reply, which took the
+    /// worker from one state to the other.
     ghost gives: { Self → ℕ → list_of ℕ → Self.Reply → Self → Type 0 };
 
     /// How many lines it may still be asked at least.

@@ -7,7 +7,8 @@ use Rattle.exit_status.specs.declared.Status.TheVariants.{ClientEnd}
 use Rattle.line_sessions.specs.declared.sessions.Why.{Why}
 use Rattle.line_sessions.specs.declared.sessions.Why.TheVariants as why
 use Rattle.list_lines.specs.declared.lists.ListFault.{ListFault}
-use Rattle.list_lines.specs.declared.lists.ListFault.TheVariants.{ReadFault, LongLine, LineCount, Memory}
+use Rattle.list_lines.specs.declared.lists.ListFault.TheVariants.{ReadFault, LongLine, LineCount}
+use Rattle.list_lines.specs.declared.lists.ListFault.TheVariants.{Memory}
 use Rattle.serve_reports.specs.Ends.{end_line}
 
 -- the line of this number, counted from 1, does not ask for a path

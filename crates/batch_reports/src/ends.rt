@@ -11,8 +11,9 @@ use rail_types::{List, Name};
 use serve_reports::{Ends, status_at, status_untold};
 use std::alloc::Global;
 
-/// The end of a batch: the status is `ClientEnd` where the sink failed, `Memory` where memory was wanted, else `Done`. The
-/// report has a line for the batch, and behind it those of the workers in order.
+/// The end of a batch: the status is `ClientEnd` where the sink failed, `Memory` where
+/// memory was wanted, else `Done`. The report has a line for the batch, and behind it
+/// those of the workers in order.
 pub fn ends_of<L: Rule>(alloc: Global, batch: &Name, written: &Ended, worked: &[Worked<L>]) -> Ends
     ensures ends { IsEnds L.Rule batch.now written.now worked.now result }
 {

@@ -1,7 +1,8 @@
 //! Refusals of lists.
 
 ghost use Rattle.std.specs.Prelude.{◌≡◌, ◌++◌, IfOk};
-ghost use Rattle.batch_reports.specs.Flaws.{needed_line, no_ask_line, stop_line, TellsStop, twice_line};
+ghost use Rattle.batch_reports.specs.Flaws.{needed_line, no_ask_line, stop_line, TellsStop};
+ghost use Rattle.batch_reports.specs.Flaws.{twice_line};
 ghost use Rattle.command_reports.specs.Refusals.{IsTold};
 ghost use Rattle.exit_status.specs.declared.Status.TheVariants.{ClientEnd, No};
 

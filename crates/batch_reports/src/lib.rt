@@ -1,4 +1,5 @@
-//! What `batch` reports: how it ended and how many lines each worker answered, and the flaws for which a list is refused.
+//! What `batch` reports: how it ended and how many lines each worker answered, and the flaws
+//! for which a list is refused.
 #![tactic(auto)]
 
 mod ends;

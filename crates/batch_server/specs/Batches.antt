@@ -1,5 +1,6 @@
 -- What the workers of a batch are told.
-use Rattle.std.specs.Prelude.{◌≡◌, ℕ, ◌<◌, IsPermutation, List, [], ◌∷◌, Option, None, Some, filter, flat_map, get_or, length, map, nat_eq, Bool, false}
+use Rattle.std.specs.Prelude.{◌≡◌, ℕ, ◌<◌, IsPermutation, List, [], ◌∷◌, Option, None, Some, filter}
+use Rattle.std.specs.Prelude.{flat_map, get_or, length, map, nat_eq, Bool, false}
 use Rattle.std.specs.List.{range_with_len}
 use Rattle.admission_rules.specs.declared.rules.Rule.{Ghosts as Rules}
 use Rattle.batch_server.specs.declared.members.Member.{Member}
@@ -45,7 +46,8 @@ abbrev pub BeginWithOwn : List (Option ℕ) → List (List ℕ) → Type 0
 BeginWithOwn owners shares = (worker : ℕ) → worker < length shares
     → StartsWith (get_or shares worker []) (own_places owners worker)
 
--- The workers shared the places of a list, in these parts: each place is in one of them, once, and nothing else is.
+-- The workers shared the places of a list, in these parts: each place is in one of
+-- them, once, and nothing else is.
 pub record AreShared (lines : List (List ℕ)) (owners : List (Option ℕ)) (talks : List Talk)
     (shares : List (List ℕ)) : Type 0 where
   pub once : IsPermutation (flat_map (λ share. share) shares)
@@ -80,8 +82,8 @@ AreTexts lines talks shares (Some texts) = AreReplies lines talks shares texts
 
 -- ---- the workers
 
--- This worker was told this, without proofs, and its rules were told its own entries: before its first line those of the
--- history found, and behind its last one those of the history left.
+-- This worker was told this, without proofs, and its rules were told its own entries: before its
+-- first line those of the history found, and behind its last one those of the history left.
 pub record HasWorked {Btw L : Type 0} (kind : Rules L) (found left : List Entry)
     (member : Member Btw L) (worked : Worked L) (talk : Talk) : Type 0 where
   pub name : worked.name ≡ member.name
@@ -92,8 +94,8 @@ pub record HasWorked {Btw L : Type 0} (kind : Rules L) (found left : List Entry)
   pub told : stand kind worked.rules.items
       ≡ told_own left member.name (stand kind member.rules.items)
 
--- The workers shared the lines of a list, of which some were their own before, and were told one history. Without lines all
--- is as it was.
+-- The workers shared the lines of a list, of which some were their own before, and were told one
+-- history. Without lines all is as it was.
 pub record WereAnswered {D Btw L : Type 0} (kind : Rules L) (disk_faults : D → ℕ) (known : Names)
     (lines : List (List ℕ)) (owners : List (Option ℕ)) (found left : Ledger D)
     (members : List (Member Btw L)) (worked : List (Worked L)) (texts : Option (List (List ℕ)))

@@ -1,5 +1,6 @@
 -- *inside*: workers at their seats, and what an answer there says.
-use Rattle.std.specs.Prelude.{◌≡◌, ℕ, ◌+◌, ◌-◌, ◌/◌, ◌<◌, ◌≤◌, false, List, [], filter, get_or, is_none, is_some, length, map, min, Option, None, set}
+use Rattle.std.specs.Prelude.{◌≡◌, ℕ, ◌+◌, ◌-◌, ◌/◌, ◌<◌, ◌≤◌, false, List, [], filter, get_or}
+use Rattle.std.specs.Prelude.{is_none, is_some, length, map, min, Option, None, set}
 use Rattle.std.specs.List.{range_with_len}
 use Rattle.admission_rules.specs.declared.rules.Rule.{Ghosts as Rules}
 use Rattle.batch_server.specs.Batches.{is_of, line_at}
@@ -14,7 +15,8 @@ use Rattle.reply_texts.specs.declared.replies.Reply.{Reply}
 abbrev pub max_number : ℕ
 max_number = 4294967295
 
--- how many lines a worker may still be asked at least: each takes four turns and a number of its own
+-- how many lines a worker may still be asked at least: each takes four
+-- turns and a number of its own
 abbrev pub lines_left : {D Btw L : Type 0} → Clerk D Btw L → ℕ
 lines_left clerk = min (turns_left clerk.seat.pass / 4) (max_number - clerk.asked)
 
@@ -72,7 +74,8 @@ free_places owners =
 
 -- ---- a worker among others
 
--- the worker at a place was asked a line of a list, which was told this reply, and no other worker was asked
+-- the worker at a place was asked a line of a list, which was told this reply,
+-- and no other worker was asked
 pub record WasAsked {W R : Type 0} (gives : W → ℕ → List ℕ → R → W → Type 0) (left : W → ℕ)
     (is_sound : W → Type 0) (worker at : ℕ) (text : List ℕ) (olds : List W) (told : R)
     (news : List W) : Type 0 where

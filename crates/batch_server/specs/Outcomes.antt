@@ -13,8 +13,9 @@ use Rattle.client_turns.specs.Turns.{Sight}
 use Rattle.line_answers.specs.declared.shared.Shared.{Shared}
 use Rattle.rail_types.specs.declared.entries.Entry.{Entry}
 
--- The workers shared the lines of a list, and their passes were taken in by the one that knows v. By a history in which the
--- entries behind those found are those of the replies, each worker's rules were told its own entries. Without lines no turn was taken.
+-- The workers shared the lines of a list, and their passes were taken in by the one that knows v.
+-- By a history in which the entries behind those found are those of the replies, each worker's
+-- rules were told its own entries. Without lines no turn was taken.
 pub record HaveAnswered {D Btw L : Type 0} (kind : Rules L) (shared : Shared D)
     (lines : List (List ℕ)) (owners : List (Option ℕ)) (members : List (Member Btw L))
     (worked : List (Worked L)) (texts : Option (List (List ℕ))) (v : Sight) : Type 0 where

@@ -1,6 +1,7 @@
 //! All lines of a list, answered by workers that sit at their seats.
 
-ghost use Rattle.std.specs.Prelude.{◌≡◌, ◌+◌, ◌*◌, ◌<◌, ◌≤◌, [], List as list_of, All, IfSome, length, option_map};
+ghost use Rattle.std.specs.Prelude.{◌≡◌, ◌+◌, ◌*◌, ◌<◌, ◌≤◌, [], List as list_of, All, IfSome};
+ghost use Rattle.std.specs.Prelude.{length, option_map};
 ghost use Rattle.batch_pool.specs.Batches.{AreMatched};
 ghost use Rattle.batch_server.specs.Clerks.{IsFresh};
 ghost use Rattle.batch_server.specs.Outcomes.{HaveAnswered};
@@ -29,8 +30,9 @@ use std::alloc::Global;
 use std::sync::Wait;
 use std::thread::Threads;
 
-/// Each line that is a worker's own is answered by this one, and then all others, each by one worker. The workers leave their
-/// seats, and the texts of the replies are put into the order of the list, or there are none for want of memory.
+/// Each line that is a worker's own is answered by this one, and then all others, each by one
+/// worker. The workers leave their seats, and the texts of the replies are put into the order of
+/// the list, or there are none for want of memory.
 pub(crate) fn answer_all<
     'a,
     R: Threads + Wait + Sync,

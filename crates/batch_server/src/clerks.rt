@@ -15,8 +15,8 @@ use reply_texts::Reply;
 use std::alloc::Global;
 use std::sync::Wait;
 
-/// A worker at its seat, and how many lines it was asked. The text of its last reply stands in a buffer, and no
-/// proof goes along with it.
+/// A worker at its seat, and how many lines it was asked. The text of its last reply stands in a
+/// buffer, and no proof goes along with it.
 #[derive(Drop)]
 pub(crate) struct Clerk<'a, D: Disk, B: Between, L: Rule> {
     pub(crate) alloc: Global,

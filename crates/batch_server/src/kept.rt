@@ -1,6 +1,7 @@
 //! The lines that are a worker's own already.
 
-ghost use Rattle.std.specs.Prelude.{◌≡◌, ◌+◌, ◌<◌, ◌≤◌, [], All, IfSome, length, slice_index_or, vec_capacity};
+ghost use Rattle.std.specs.Prelude.{◌≡◌, ◌+◌, ◌<◌, ◌≤◌, [], All, IfSome, length, slice_index_or};
+ghost use Rattle.std.specs.Prelude.{vec_capacity};
 ghost use Rattle.list_replies.specs.InOrder.{places};
 ghost use Rattle.batch_server.specs.Clerks.{EachWent, IsSound, lines_left, owned_places, WasAsked};
 ghost use Rattle.client_lines.specs.declared.lines.TheConstants.{MAX_LINE_BYTES};
@@ -14,7 +15,8 @@ use rail_types::Name;
 use reply_texts::Reply;
 use std::sync::Wait;
 
-/// Each line that is a worker's own is answered by this one, in the order of the list. There is room for the answers.
+/// Each line that is a worker's own is answered by this one, in the order of the list.
+/// There is room for the answers.
 pub(crate) fn keep<'a, R: Wait, D: Disk + Send, B: Between + Send + Drop, L: Rule + Send + Drop>(
     rt: &R,
     mut clerks: Vec<Clerk<'a, D, B, L>>,

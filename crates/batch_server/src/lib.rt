@@ -1,5 +1,5 @@
-//! A list of asks, answered by several workers over one book: each is a client with a name of its own, and what all are told
-//! is one history.
+//! A list of asks, answered by several workers over one book: each is a client with a name of its
+//! own, and what all are told is one history.
 #![tactic(auto)]
 
 mod answers;

@@ -1,6 +1,7 @@
 //! A list, answered.
 
-ghost use Rattle.std.specs.Prelude.{◌≡◌, ◌≢◌, ◌<◌, ◌≤◌, All, AllPairs, IfErr, IfOk, IfSome, length, option_map};
+ghost use Rattle.std.specs.Prelude.{◌≡◌, ◌≢◌, ◌<◌, ◌≤◌, All, AllPairs, IfErr, IfOk, IfSome, length};
+ghost use Rattle.std.specs.Prelude.{option_map};
 ghost use Rattle.batch_server.specs.Batches.{WereAnswered};
 ghost use Rattle.client_lines.specs.Within.{AreSound};
 ghost use Rattle.client_lines.specs.declared.lines.TheConstants.{MAX_LINE_BYTES};
@@ -24,8 +25,8 @@ use std::alloc::Global;
 use std::sync::Wait;
 use std::thread::Threads;
 
-/// A list that was answered: the book as it is left, the workers in their order, and the texts of the replies in the order of
-/// the list, or None where memory was wanted.
+/// A list that was answered: the book as it is left, the workers in their order, and the texts of
+/// the replies in the order of the list, or None where memory was wanted.
 #[derive(Drop)]
 pub struct Answered<D: Disk, L: Rule> {
     pub book: Book<D>,
@@ -33,11 +34,12 @@ pub struct Answered<D: Disk, L: Rule> {
     pub texts: Option<Vec<List<u8>>>,
 }
 
-/// The lines of a list, answered by 1 to 16 workers over one book: first each line that is a worker's own already, in the
-/// order of the list, and then all others, each by one worker, at once. The owner of a line is the place of its worker. It
-/// hands back the book, how many lines each worker answered, and the texts of the replies in the order of the list, or none
-/// where memory was wanted for them. Where there is no memory for the workers, nothing was answered, and the book is handed
-/// back.
+/// The lines of a list, answered by 1 to 16 workers over one book: first each line that is a
+/// worker's own already, in the order of the list, and then all others, each by one worker, at
+/// once. The owner of a line is the place of its worker. It hands back the book, how many lines
+/// each worker answered, and the texts of the replies in the order of the list, or none where
+/// memory was wanted for them. Where there is no memory for the workers, nothing was answered,
+/// and the book is handed back.
 pub fn answer_list<
     R: Threads + Wait + Sync,
     D: Disk + Send,

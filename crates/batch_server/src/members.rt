@@ -4,7 +4,8 @@ use admission_rules::Rule;
 use outside_io::Between;
 use rail_types::Name;
 
-/// A worker: its name, what happens between its searches, and the rules by which its paths may be denied.
+/// A worker: its name, what happens between its searches, and the rules by
+/// which its paths may be denied.
 #[derive(Drop)]
 pub struct Member<B: Between, L: Rule> {
     pub name: Name,

@@ -16,8 +16,9 @@ use rail_types::List;
 use reply_texts::Reply;
 use std::alloc::Global;
 
-/// The places of the lines that are no worker's, and room: for the answers to the other lines, for the workers as they are
-/// left, for what each answered of the lines that are no worker's, for the texts of all replies, and for the batch itself.
+/// The places of the lines that are no worker's, and room: for the answers to the other lines, for
+/// the workers as they are left, for what each answered of the lines that are no worker's, for the
+/// texts of all replies, and for the batch itself.
 #[derive(Drop)]
 pub(crate) struct Room<'a, D: Disk + Send, B: Between + Send + Drop, L: Rule + Send + Drop> {
     pub(crate) todo: Vec<u32>,

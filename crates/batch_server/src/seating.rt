@@ -1,6 +1,7 @@
 //! Workers take their seats, and leave them.
 
-ghost use Rattle.std.specs.Prelude.{◌≡◌, ◌+◌, ◌*◌, ◌<◌, ◌≤◌, ◌++◌, ◌∷◌, [], List as list_of, All, IfNone, IfOk, IfSome, length, map, vec_capacity};
+ghost use Rattle.std.specs.Prelude.{◌≡◌, ◌+◌, ◌*◌, ◌<◌, ◌≤◌, ◌++◌, ◌∷◌, [], List as list_of, All};
+ghost use Rattle.std.specs.Prelude.{IfNone, IfOk, IfSome, length, map, vec_capacity};
 ghost use Rattle.batch_pool.specs.Batches.{AreMatched};
 ghost use Rattle.batch_server.specs.Seating.{HaveLeft, IsClerkOf, worked_of};
 ghost use Rattle.book_gate.specs.Passes.{view};
@@ -112,8 +113,8 @@ fn seat<'a, D: Disk, B: Between + Drop, L: Rule>(
     }
 }
 
-/// Takes the passes of workers that come back from a batch in again, and tells how many lines each answered, and what it
-/// answered in the batch.
+/// Takes the passes of workers that come back from a batch in again, and tells how many lines each
+/// answered, and what it answered in the batch.
 pub(crate) fn leave_served<'a, D: Disk + Send, B: Between + Send + Drop, L: Rule + Send + Drop>(
     shared: &Shared<D>,
     pass: &mut Pass<Book<D>>,

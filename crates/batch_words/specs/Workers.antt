@@ -15,7 +15,8 @@ underscore = 95
 abbrev pub two_digits : ℕ → List ℕ
 two_digits number = (48 + number / 10) ∷ (48 + number % 10) ∷ []
 
--- the client that a worker of a batch is: the batch's name, `_` and the worker's number in two digits
+-- the client that a worker of a batch is: the batch's name, `_` and the
+-- worker's number in two digits
 abbrev pub worker_name : (name : List ℕ) (worker : ℕ) → List ℕ
 worker_name name worker = name ++ underscore ∷ two_digits worker
 

@@ -15,7 +15,8 @@ use rail_types::List;
 use rule_words::RuleWord;
 use std::alloc::Global;
 
-/// A batch of the words: its client, how many workers it has, and the rules by which paths may be denied to each of them.
+/// A batch of the words: its client, how many workers it has, and the rules by which paths
+/// may be denied to each of them.
 #[derive(Debug, Drop)]
 pub struct BatchWord {
     pub client: ClientWord,
@@ -23,7 +24,8 @@ pub struct BatchWord {
     pub rules: List<RuleWord>,
 }
 
-/// Reads words as a batch: one for its client, one for the number of its workers, and one for each rule.
+/// Reads words as a batch: one for its client, one for the number of its
+/// workers, and one for each rule.
 pub fn read_batch_word(
     alloc: Global,
     client: &str,

@@ -1,14 +1,16 @@
 //! The names of a batch's workers.
 
 ghost use Rattle.std.specs.Prelude.{◌≡◌, ◌≤◌, IfOk};
-ghost use Rattle.batch_words.specs.Workers.{worker_name as name_of_worker, worker_names as names_of_workers};
+ghost use Rattle.batch_words.specs.Workers.{worker_name as name_of_worker};
+ghost use Rattle.batch_words.specs.Workers.{worker_names as names_of_workers};
 
 use crate::clients::MAX_WORKERS;
 use no_memory::NoMemory;
 use rail_types::{List, Name};
 use std::alloc::Global;
 
-/// The name of the client that a worker is: the batch's name, `_`, and the worker's number in two digits.
+/// The name of the client that a worker is: the batch's name, `_`, and the
+/// worker's number in two digits.
 pub fn worker_name(alloc: Global, name: &Name, worker: u32) -> Result<Name, NoMemory>
     requires few { worker ≤ MAX_WORKERS }
     ensures { IfOk result (λ client. client ≡ name_of_worker name.now worker) }

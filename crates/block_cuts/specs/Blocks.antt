@@ -1,5 +1,6 @@
 -- The blocks of a walk.
-use Rattle.std.specs.Prelude.{◌≡◌, ℕ, ◌+◌, ◌-◌, ◌<◌, ◌^◌, List, length, take, drop, slice_index, slice_index_or, Option}
+use Rattle.std.specs.Prelude.{◌≡◌, ℕ, ◌+◌, ◌-◌, ◌<◌, ◌^◌, List, length, take, drop, slice_index}
+use Rattle.std.specs.Prelude.{slice_index_or, Option}
 use Rattle.rail_types.specs.declared.tracks.Block.{Block}
 use Rattle.block_cuts.specs.Cuts.{point_at, metres_at, sight_at, cut_places}
 use Rattle.block_cuts.specs.Cells.{cells_between, or_number}

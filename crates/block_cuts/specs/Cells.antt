@@ -1,5 +1,6 @@
 -- The cells of a block.
-use Rattle.std.specs.Prelude.{ℕ, ◌-◌, ◌+◌, min, List, Option, Some, None, option_map, slice_index_or, nat_le}
+use Rattle.std.specs.Prelude.{ℕ, ◌-◌, ◌+◌, min, List, Option, Some, None, option_map}
+use Rattle.std.specs.Prelude.{slice_index_or, nat_le}
 use Rattle.std.specs.List.{find, filter_map, range_with_len}
 use Rattle.rail_types.specs.declared.tracks.Cell.{Cell}
 use Rattle.block_cuts.specs.Cuts.{metres_at}

@@ -1,5 +1,6 @@
 -- Where a walk is cut into blocks.
-use Rattle.std.specs.Prelude.{ℕ, ◌-◌, Bool, true, false, ◌||◌, nat_eq, List, length, slice_index_or, Option, Some, None}
+use Rattle.std.specs.Prelude.{ℕ, ◌-◌, Bool, true, false, ◌||◌, nat_eq, List, length, slice_index_or}
+use Rattle.std.specs.Prelude.{Option, Some, None}
 use Rattle.std.specs.List.{filter, range_with_len}
 use Rattle.route_walk.specs.declared.walks.Passed.{Passed}
 use Rattle.route_walk.specs.declared.walks.Walk.{Walk}

@@ -1,13 +1,16 @@
 -- What makes the blocks of a railway no network, in the order in which it is told.
-use Rattle.std.specs.Prelude.{ℕ, ℤ, pos, ◌+◌, ◌-◌, ◌^◌, Bool, false, List, [], ◌∷◌, Option, Some, None, option_map, nat_eq, nat_lt, if◌then◌else◌}
+use Rattle.std.specs.Prelude.{ℕ, ℤ, pos, ◌+◌, ◌-◌, ◌^◌, Bool, false, List, [], ◌∷◌, Option, Some}
+use Rattle.std.specs.Prelude.{None, option_map, nat_eq, nat_lt, if◌then◌else◌}
 use Rattle.std.specs.List.{count_by, sum_by}
-use Rattle.rail_types.specs.declared.limits.TheConstants.{MAX_OBJECTS, MAX_CELLS, MAX_BLOCK_LENGTH_M}
+use Rattle.rail_types.specs.declared.limits.TheConstants.{MAX_OBJECTS, MAX_CELLS}
+use Rattle.rail_types.specs.declared.limits.TheConstants.{MAX_BLOCK_LENGTH_M}
 use Rattle.block_cuts.specs.Cuts.{is_some, metres_at, cut_places, block_count}
 use Rattle.block_cuts.specs.declared.faults.Fault.{Fault}
 use Rattle.block_cuts.specs.declared.faults.Fault.TheVariants.{EmptyBlock, Limit}
 use Rattle.block_cuts.specs.declared.faults.Railway.{Railway}
 use Rattle.block_cuts.specs.declared.faults.What.{What}
-use Rattle.block_cuts.specs.declared.faults.What.TheVariants.{Zones, Points, Blocks, Cells, BlockLength}
+use Rattle.block_cuts.specs.declared.faults.What.TheVariants.{Zones, Points, Blocks, Cells}
+use Rattle.block_cuts.specs.declared.faults.What.TheVariants.{BlockLength}
 use Rattle.route_walk.specs.declared.walks.Passed.{Passed}
 use Rattle.route_walk.specs.declared.walks.Walk.{Walk}
 

@@ -3,7 +3,8 @@
 ghost use Rattle.std.specs.Prelude.{◌≡◌, ◌≤◌, ◌<◌, ◌^◌, ◌-◌, length, IfOk};
 ghost use Rattle.std.specs.List.{All};
 ghost use Rattle.std.specs.List.Sorted.{IsStrictlyIncreasing};
-ghost use Rattle.block_cuts.specs.Blocks.{IsBlock, AreBlocks, AreBlocksOf, stretches_between, sight_from, AreShort};
+ghost use Rattle.block_cuts.specs.Blocks.{IsBlock, AreBlocks, AreBlocksOf, stretches_between};
+ghost use Rattle.block_cuts.specs.Blocks.{sight_from, AreShort};
 ghost use Rattle.block_cuts.specs.Cuts.{metres_at, cut_places};
 ghost use Rattle.route_walk.specs.Sound.{IsWalk};
 

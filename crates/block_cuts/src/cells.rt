@@ -1,6 +1,7 @@
 //! The cells of a block.
 
-ghost use Rattle.std.specs.Prelude.{◌≡◌, ◌≤◌, ◌<◌, ◌^◌, ◌+◌, ◌-◌, length, IfOk, slice_index_or, slice_get, None};
+ghost use Rattle.std.specs.Prelude.{◌≡◌, ◌≤◌, ◌<◌, ◌^◌, ◌+◌, ◌-◌, length, IfOk, slice_index_or};
+ghost use Rattle.std.specs.Prelude.{slice_get, None};
 ghost use Rattle.std.specs.List.Sorted.{IsNonDecreasing};
 ghost use Rattle.block_cuts.specs.Cells.{release_of, cell_at, cells_between, from_end};
 ghost use Rattle.block_cuts.specs.Cuts.{metres_at};
@@ -30,7 +31,8 @@ fn from_end(releases: &[u64], end: u64) -> Option<u64>
     number_at(releases, first)
 }
 
-/// The first release detector at or after the cell's end, or the block's end where that comes first.
+/// The first release detector at or after the cell's end, or the
+/// block's end where that comes first.
 fn release_of(releases: &[u64], end: u64, last: u64) -> u64
     requires { IsNonDecreasing releases.now }
     ensures { result ≡ release_of releases.now end last }

@@ -3,7 +3,8 @@
 ghost use Rattle.std.specs.Prelude.{◌≡◌, ◌↔◌, ◌<◌, length, IfOk, IsTrue};
 ghost use Rattle.std.specs.List.{All};
 ghost use Rattle.std.specs.List.Sorted.{IsStrictlyIncreasing};
-ghost use Rattle.block_cuts.specs.Cuts.{is_cut, block_count, cut_places, point_at, has_signal, metres_at};
+ghost use Rattle.block_cuts.specs.Cuts.{is_cut, block_count, cut_places, point_at, has_signal};
+ghost use Rattle.block_cuts.specs.Cuts.{metres_at};
 
 use no_memory::NoMemory;
 use route_walk::{Passed, Walk};
@@ -63,7 +64,8 @@ fn is_cut(sights: &[Option<u32>], passed: &[Passed], place: usize) -> bool
     place == 0 || place == passed.len() - 1 || has_signal(sights, point_at(passed, place).point)
 }
 
-/// How many blocks a walk has: one between each two neighbouring cuts. The sight distances are those of the points.
+/// How many blocks a walk has: one between each two neighbouring cuts. The sight
+/// distances are those of the points.
 pub fn block_count(alloc: Global, sights: &[Option<u32>], walk: &Walk) -> Result<usize, NoMemory>
     ensures { IfOk result (λ count. count ≡ block_count sights.now walk.now) }
 {

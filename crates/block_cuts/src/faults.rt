@@ -1,8 +1,12 @@
-//! What makes the blocks of a railway no network: blocks without length, and more of something than its limit.
+//! What makes the blocks of a railway no network: blocks without length, and more
+//! of something than its limit.
 
 ghost use Rattle.std.specs.Prelude.{◌≡◌, ◌<◌, ◌^◌, length, IfOk, None};
 ghost use Rattle.std.specs.List.{All, count_by};
-ghost use Rattle.block_cuts.specs.Faults.{lies_at, length_from, empty_behind, empty_in, empty_fault, long_behind, long_in, long_fault, count_blocks, count_cells, cell_count, limit_over, told, count_fault, railway_fault};
+ghost use Rattle.block_cuts.specs.Faults.{lies_at, length_from, empty_behind, empty_in};
+ghost use Rattle.block_cuts.specs.Faults.{empty_fault, long_behind, long_in, long_fault};
+ghost use Rattle.block_cuts.specs.Faults.{count_blocks, count_cells, cell_count, limit_over, told};
+ghost use Rattle.block_cuts.specs.Faults.{count_fault, railway_fault};
 ghost use Rattle.block_cuts.specs.Cuts.{is_some};
 
 use crate::cuts::{block_count, cut_places, metres_at};
@@ -22,16 +26,16 @@ pub enum What {
     BlockLength,
 }
 
-/// Why a railway's blocks are no network: the cuts of a route lie at one metre, or there is too much of something. A
-/// count that is no whole number of 64 bits is told as 0.
+/// Why a railway's blocks are no network: the cuts of a route lie at one metre, or there is too
+/// much of something. A count that is no whole number of 64 bits is told as 0.
 #[derive(Clone, Copy, Debug, PartialEq, Eq)]
 pub enum Fault {
     EmptyBlock { route: u32, at: u64 },
     Limit { what: What, count: i64 },
 }
 
-/// A railway: how many zones, points and operational points it has, what lies along its tracks, and the walks of its
-/// routes.
+/// A railway: how many zones, points and operational points it has, what lies along its tracks,
+/// and the walks of its routes.
 #[derive(Drop)]
 pub struct Railway {
     pub zones: u32,
@@ -230,8 +234,8 @@ fn count_fault(alloc: Global, railway: &Railway) -> Result<Option<Fault>, NoMemo
     Ok(fault)
 }
 
-/// The first fault of a railway's blocks, None where they make a network: a block without length, by route, then by
-/// metre; too many zones, points, blocks, cells; a block that is too long.
+/// The first fault of a railway's blocks, None where they make a network: a block without length,
+/// by route, then by metre; too many zones, points, blocks, cells; a block that is too long.
 pub fn fault_of(alloc: Global, railway: &Railway) -> Result<Option<Fault>, NoMemory>
     requires { length railway.now.walks < 2 ^ 32 }
     ensures { IfOk result (λ fault. fault ≡ railway_fault railway.now) }

@@ -1,5 +1,5 @@
-//! Walks of routes, cut into signal blocks: where a walk is cut, its blocks with their cells, speeds, sight distances and
-//! served operational points, and why walks have none.
+//! Walks of routes, cut into signal blocks: where a walk is cut, its blocks with their cells,
+//! speeds, sight distances and served operational points, and why walks have none.
 #![tactic(auto)]
 
 mod blocks;

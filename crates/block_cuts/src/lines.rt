@@ -34,8 +34,8 @@ impl InRow for StopPart {
     }
 }
 
-/// What lies along the tracks: by point the sight distance in metres of the signal at which trains pass it, None without
-/// one; the ranges of speed limits; the parts of operational points.
+/// What lies along the tracks: by point the sight distance in metres of the signal at which trains
+/// pass it, None without one; the ranges of speed limits; the parts of operational points.
 #[derive(Drop)]
 pub struct Lines {
     pub sights: List<Option<u32>>,

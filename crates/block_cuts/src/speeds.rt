@@ -45,7 +45,8 @@ fn least_in(row: &[SpeedRange], stretch: &Stretch, speed: u32) -> u32
     least
 }
 
-/// The least of a speed and the limits of those ranges that hold on a stretch, looked up by its track.
+/// The least of a speed and the limits of those ranges that hold on a
+/// stretch, looked up by its track.
 fn least_at(ranges: &ByRow<SpeedRange>, stretch: &Stretch, speed: u32) -> u32
     ensures { result ≡ fold min speed (limits_in ranges.now stretch.now) }
 {

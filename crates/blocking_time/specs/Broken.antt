@@ -1,5 +1,7 @@
 -- The first rule that a path breaks, and the run that breaks it.
-use Rattle.std.specs.Prelude.{ℕ, ◌+◌, ◌-◌, ℤ, pos, ◌+ℤ◌, Bool, true, false, not, ◌&&◌, ◌||◌, int_lt, nat_eq, nat_le, nat_lt, List, [], ◌∷◌, length, find, map, flat_map, Option, Some, None, option_map, bytes_eq}
+use Rattle.std.specs.Prelude.{ℕ, ◌+◌, ◌-◌, ℤ, pos, ◌+ℤ◌, Bool, true, false, not, ◌&&◌, ◌||◌, int_lt}
+use Rattle.std.specs.Prelude.{nat_eq, nat_le, nat_lt, List, [], ◌∷◌, length, find, map, flat_map}
+use Rattle.std.specs.Prelude.{Option, Some, None, option_map, bytes_eq}
 use Rattle.std.specs.List.{list_any}
 use Rattle.std.specs.Ordering.{int_eq}
 use Rattle.rail_types.specs.declared.tracks.Network.{Network}
@@ -12,7 +14,9 @@ use Rattle.rail_types.specs.declared.paths.Path.{Path}
 use Rattle.rail_types.specs.declared.paths.Window.{Window}
 use Rattle.blocking_time.specs.declared.rules.Broken.{Broken}
 use Rattle.blocking_time.specs.Runs.{block_of, reached_at, run_at, run_numbers}
-use Rattle.blocking_time.specs.Rules.{AskedRule, RunRule, named_stop, rule_1, rule_2, rule_3, rule_4, rule_5, rule_6, rule_7, rule_8, rule_9, rule_10, rule_11, rule_12, stops_before}
+use Rattle.blocking_time.specs.Rules.{AskedRule, RunRule, named_stop, rule_1, rule_2, rule_3}
+use Rattle.blocking_time.specs.Rules.{rule_4, rule_5, rule_6, rule_7, rule_8, rule_9, rule_10}
+use Rattle.blocking_time.specs.Rules.{rule_11, rule_12, stops_before}
 
 abbrev pub is_last : Path → ℕ → Bool
 is_last path k = nat_eq (k + 1) (length path.runs)
@@ -129,7 +133,8 @@ run_told at = record { run = at.0; rule = run_rule_number at.1 }
 abbrev pub asked_told : ℕ × AskedRule → Broken
 asked_told at = record { run = at.0; rule = asked_rule_number at.1 }
 
--- the rules of runs run by run, and the rules of a request rule by rule, each with the run that may break it
+-- the rules of runs run by run, and the rules of a request rule by rule, each
+-- with the run that may break it
 abbrev pub run_by_run : Path → List (ℕ × RunRule)
 run_by_run path = flat_map (λ k. map (λ rule. (k, rule)) run_rules) (run_numbers path)
 
@@ -152,8 +157,8 @@ abbrev pub or_else : Option Broken → Option Broken → Option Broken
 or_else None other = other
 or_else (Some broken) other = Some broken
 
--- the run and the rule that a path is told to break: run by run the rules of runs, and then, where the path was asked
--- for, those of the request
+-- the run and the rule that a path is told to break: run by run the rules of runs, and then, where
+-- the path was asked for, those of the request
 abbrev pub broken : Network → Settings → Path → Wanted → Option Broken
 broken net settings path Pinned = broken_run net settings path
 broken net settings path (Asked request) =

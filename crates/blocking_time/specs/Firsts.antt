@@ -7,7 +7,8 @@ use Rattle.rail_types.specs.declared.entries.Wanted.{Wanted}
 use Rattle.rail_types.specs.declared.entries.Wanted.TheVariants.{Asked, Pinned}
 use Rattle.rail_types.specs.declared.paths.Path.{Path}
 use Rattle.blocking_time.specs.declared.rules.Broken.{Broken}
-use Rattle.blocking_time.specs.Rules.{AskedRule, Breaks, BreaksRequest, KeepsRequestRules, KeepsRunRules, RunRule}
+use Rattle.blocking_time.specs.Rules.{AskedRule, Breaks, BreaksRequest, KeepsRequestRules}
+use Rattle.blocking_time.specs.Rules.{KeepsRunRules, RunRule}
 use Rattle.blocking_time.specs.Broken.{asked_rule_number, run_rule_number}
 
 -- the run breaks this rule of runs, no earlier run breaks any, and it breaks none before this one
@@ -20,7 +21,8 @@ pub record IsFirstRun
       (other : RunRule) → run_rule_number other < run_rule_number rule
       → ¬ Breaks net settings path other k
 
--- the run breaks this rule of the request, no run breaks an earlier one, and no earlier run breaks this one
+-- the run breaks this rule of the request, no run breaks an earlier one, and
+-- no earlier run breaks this one
 pub record IsFirstAsked
     (net : Network) (request : Request) (path : Path) (k : ℕ) (rule : AskedRule) : Type 0 where
   pub within : k < length path.runs

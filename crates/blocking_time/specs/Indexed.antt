@@ -1,5 +1,6 @@
 -- Inside: the legs of a path by their numbers.
-use Rattle.std.specs.Prelude.{◌≡◌, ℕ, ℤ, ◌-◌, ◌<◌, ◌≤◌, length, Option, Some, None, nat_eq, if◌then◌else◌, drop}
+use Rattle.std.specs.Prelude.{◌≡◌, ℕ, ℤ, ◌-◌, ◌<◌, ◌≤◌, length, Option, Some, None, nat_eq}
+use Rattle.std.specs.Prelude.{if◌then◌else◌, drop}
 use Rattle.rail_types.specs.declared.tracks.Cell.{Cell}
 use Rattle.rail_types.specs.declared.tracks.Network.{Network}
 use Rattle.rail_types.specs.declared.entries.Settings.{Settings}
@@ -39,8 +40,8 @@ abbrev pub gone_behind : Network → Settings → Path → ℕ → ℕ → ℤ
 gone_behind net settings path index metres =
     gone path.train settings (run_at path (index - 1)).leave (drop index (legs_of net path)) metres
 
--- a run, and the metres to its beginning from that of the run of this number: what lies further than these is
--- reached as from there
+-- a run, and the metres to its beginning from that of the run of this number: what lies further
+-- than these is reached as from there
 pub record IsCursor
     (net : Network) (settings : Settings) (path : Path) (index : ℕ) (cursor : Cursor) : Type 0 where
   pub within : cursor.run ≤ length path.runs

@@ -1,5 +1,7 @@
 -- Claims joined: the same ticks of each zone, in order, as few claims as can be.
-use Rattle.std.specs.Prelude.{◌≡◌, ◌⊎◌, ◌↔◌, ◌<◌, ◌≤ℤ◌, ℕ, ℤ, Bool, nat_lt, nat_eq, int_lt, ◌||◌, ◌&&◌, if◌then◌else◌, ◌≤◌, length, slice_index_or, take, List, [], ◌∷◌, ◌++◌, All}
+use Rattle.std.specs.Prelude.{◌≡◌, ◌⊎◌, ◌↔◌, ◌<◌, ◌≤ℤ◌, ℕ, ℤ, Bool, nat_lt, nat_eq, int_lt, ◌||◌}
+use Rattle.std.specs.Prelude.{◌&&◌, if◌then◌else◌, ◌≤◌, length, slice_index_or, take, List, [], ◌∷◌}
+use Rattle.std.specs.Prelude.{◌++◌, All}
 use Rattle.rail_types.specs.declared.tracks.Network.{Network}
 use Rattle.rail_types.specs.declared.entries.Settings.{Settings}
 use Rattle.rail_types.specs.declared.paths.Claim.{Claim}
@@ -27,7 +29,8 @@ hull one other = record {
   };
 }
 
--- joined claims with one more: those that end before it, it with all that it overlaps or touches, those behind
+-- joined claims with one more: those that end before it, it with all that it
+-- overlaps or touches, those behind
 abbrev pub joined_with : Claim → List Claim → List Claim
 joined_with claim [] = claim ∷ []
 joined_with claim (one ∷ others) =
@@ -58,7 +61,8 @@ comes_first one other =
     nat_lt one.zone other.zone
     || (nat_eq one.zone other.zone && int_lt one.span.from other.span.from)
 
--- inside: a claim is on the zone of one that begins by then, and begins before that one ends or where it ends
+-- inside: a claim is on the zone of one that begins by then, and begins before
+-- that one ends or where it ends
 abbrev pub Meets : Claim → Claim → Type 0
 Meets one claim = (one.zone ≡ claim.zone) × (claim.span.from ≤ℤ one.span.to)
 

@@ -30,8 +30,8 @@ pub record JoinedClaimsAreOne : Type 0 where
   pub alone : (claims made : List Claim)
       → AreJoined made → CoverTheSame made claims → made ≡ joined_claims claims
 
--- of claims that all have ticks: joined claims clash with none of these exactly where those that they were joined from
--- do not
+-- of claims that all have ticks: joined claims clash with none of these exactly where those that
+-- they were joined from do not
 abbrev pub JoinedFitAlike : Type 0
 JoinedFitAlike =
     (claims live : List Claim) → All (λ claim. HasTicks claim.span) claims

@@ -1,6 +1,8 @@
--- Inside: the runs of a path as legs, one behind the other, each with its block and with how it is entered. What is
--- said of a path by the numbers of its runs is said again from leg to leg, as a search goes over them.
-use Rattle.std.specs.Prelude.{◌≡◌, ℕ, ◌-◌, ℤ, pos, ◌+ℤ◌, ◌-ℤ◌, ◌≤ℤ◌, Bool, true, false, List, [], ◌∷◌, ◌++◌, map, Option, Some, None, nat_le, if◌then◌else◌}
+-- Inside: the runs of a path as legs, one behind the other, each with its block and with how
+-- it is entered. What is said of a path by the numbers of its runs is said again from leg to
+-- leg, as a search goes over them.
+use Rattle.std.specs.Prelude.{◌≡◌, ℕ, ◌-◌, ℤ, pos, ◌+ℤ◌, ◌-ℤ◌, ◌≤ℤ◌, Bool, true, false, List, []}
+use Rattle.std.specs.Prelude.{◌∷◌, ◌++◌, map, Option, Some, None, nat_le, if◌then◌else◌}
 use Rattle.rail_types.specs.declared.tracks.Block.{Block}
 use Rattle.rail_types.specs.declared.tracks.Network.{Network}
 use Rattle.rail_types.specs.declared.trains.Train.{Train}
@@ -37,7 +39,8 @@ reached train settings leg metres =
     leg.run.enter
     +ℤ pos (part_ticks leg.block train settings leg.entry (exit_of leg.run.stops) metres)
 
--- when the head has gone so many metres from the beginning of these legs; past the last leg, when that was left
+-- when the head has gone so many metres from the beginning of these legs; past the
+-- last leg, when that was left
 abbrev pub gone : Train → Settings → ℤ → List Leg → ℕ → ℤ
 gone train settings leave [] metres = leave
 gone train settings leave (leg ∷ legs) metres =
@@ -54,8 +57,8 @@ claim_until train settings from leave legs passage = record {
   };
 }
 
--- when the route behind a leg that the train passes is set: in time for the train to see it from the sight distance
--- before the leg's block, or from its beginning where it stood there
+-- when the route behind a leg that the train passes is set: in time for the train to see it from
+-- the sight distance before the leg's block, or from its beginning where it stood there
 abbrev pub approach : Train → Settings → Leg → Enter → ℤ
 approach train settings before Still = before.run.enter -ℤ pos settings.setting
 approach train settings before (From speed) =
@@ -105,7 +108,8 @@ StopsWell leg (next ∷ legs) = leg.run.stops ≡ true → ¬ (leg.block.serves 
 
 -- what one leg keeps, behind one and before others
 pub record KeepsRules
-    (train : Train) (settings : Settings) (before : Option Leg) (leg : Leg) (legs : List Leg) : Type 0 where
+    (train : Train) (settings : Settings) (before : Option Leg) (leg : Leg)
+    (legs : List Leg) : Type 0 where
   pub follows : Follows before leg
   pub timed : leg.run.leave ≡ reached train settings leg leg.block.length_m
   pub enters : Enters before leg

@@ -10,7 +10,8 @@ use Rattle.rail_types.specs.Occupation.{Fits}
 use Rattle.blocking_time.specs.Broken.{broken}
 use Rattle.blocking_time.specs.Stairway.{claims_of_path}
 
--- a path through blocks of the network that keeps the request, and whose stairway clashes with no live claim
+-- a path through blocks of the network that keeps the request, and whose
+-- stairway clashes with no live claim
 pub record CanBeGranted
     (net : Network) (settings : Settings) (live : List Claim) (request : Request)
     (path : Path) : Type 0 where

@@ -1,5 +1,6 @@
 -- The rules of paths, and which run breaks them. Runs are numbered from 0, rules from 1.
-use Rattle.std.specs.Prelude.{◌≡◌, ◌≢◌, ◌⊎◌, ℕ, ◌+◌, ◌-◌, ◌<◌, ◌≤◌, ℤ, pos, ◌+ℤ◌, ◌<ℤ◌, Bool, true, false, [], length, take, count_by, slice_index_or, Contains}
+use Rattle.std.specs.Prelude.{◌≡◌, ◌≢◌, ◌⊎◌, ℕ, ◌+◌, ◌-◌, ◌<◌, ◌≤◌, ℤ, pos, ◌+ℤ◌, ◌<ℤ◌, Bool, true}
+use Rattle.std.specs.Prelude.{false, [], length, take, count_by, slice_index_or, Contains}
 use Rattle.rail_types.specs.declared.tracks.Network.{Network}
 use Rattle.rail_types.specs.declared.trains.Request.{Request}
 use Rattle.rail_types.specs.declared.trains.Stop.{Stop}
@@ -39,8 +40,8 @@ abbrev pub IsNotTimed : Network → Settings → Path → ℕ → Type 0
 IsNotTimed net settings path k =
     (run_at path k).leave ≢ reached_at net settings path k (block_of net path k).length_m
 
--- a train that left a block at a tick, and stopped at its end or did not, enters the next at another tick, or earlier
--- where it stopped
+-- a train that left a block at a tick, and stopped at its end or did not, enters the next at
+-- another tick, or earlier where it stopped
 abbrev pub EntersWrongly : ℤ → Bool → ℤ → Type 0
 EntersWrongly left true enter = enter <ℤ left
 EntersWrongly left false enter = enter ≢ left
@@ -75,8 +76,8 @@ stops_before path k = count_by (λ run. run.stops) (take k path.runs)
 abbrev pub named_stop : Request → ℕ → Stop
 named_stop request j = slice_index_or request.stops j (record { stop = 0; dwell = 0 })
 
--- a run ends with the stop of number j that is one too many, on a block that does not serve the named one, or left
--- before its dwell
+-- a run ends with the stop of number j that is one too many, on a block that does not serve the
+-- named one, or left before its dwell
 abbrev pub StopsWrongly : Network → Request → Path → ℕ → ℕ → Type 0
 StopsWrongly net request path k j =
     (length request.stops ≤ j)

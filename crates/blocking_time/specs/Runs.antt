@@ -1,5 +1,6 @@
 -- The runs of a path by their numbers, from 0, with their blocks.
-use Rattle.std.specs.Prelude.{ℕ, ◌-◌, ℤ, pos, ◌+ℤ◌, Bool, true, false, ◌||◌, nat_eq, List, [], length, slice_index_or}
+use Rattle.std.specs.Prelude.{ℕ, ◌-◌, ℤ, pos, ◌+ℤ◌, Bool, true, false, ◌||◌, nat_eq, List, []}
+use Rattle.std.specs.Prelude.{length, slice_index_or}
 use Rattle.std.specs.List.{range_with_len}
 use Rattle.rail_types.specs.declared.tracks.Block.{Block}
 use Rattle.rail_types.specs.declared.tracks.Network.{Network}

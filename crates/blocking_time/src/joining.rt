@@ -103,8 +103,8 @@ fn join_all(alloc: Global, sorted: &[Claim]) -> Result<Vec<Claim>, NoMemory>
     Ok(made)
 }
 
-/// The same ticks of each zone as claims by zone, then by begin, no two of which overlap or touch. A claim without
-/// ticks is left out.
+/// The same ticks of each zone as claims by zone, then by begin, no two of which overlap or touch.
+/// A claim without ticks is left out.
 pub fn joined(alloc: Global, claims: &[Claim]) -> Result<Vec<Claim>, NoMemory>
     ensures { IfOk result (λ made. made.items ≡ joined_claims claims.now) }
 {

@@ -6,7 +6,8 @@ ghost use Rattle.blocking_time.specs.Passages.{passage_of};
 
 use rail_types::{Cell, MAX_BLOCK_LENGTH_M, Train};
 
-/// A passage of a zone that a train has begun, and the metres that its head still goes until it is cleared.
+/// A passage of a zone that a train has begun, and the metres that its head
+/// still goes until it is cleared.
 #[derive(Clone, Copy, Debug, PartialEq, Eq)]
 pub struct Passage {
     pub zone: u32,

@@ -1,6 +1,7 @@
 //! The first rule that a path breaks.
 
-ghost use Rattle.std.specs.Prelude.{◌≡◌, ◌↔◌, ◌+◌, ◌-◌, ◌<◌, ◌≤◌, ◌^◌, length, find, int_lt, pos, ◌+ℤ◌, None};
+ghost use Rattle.std.specs.Prelude.{◌≡◌, ◌↔◌, ◌+◌, ◌-◌, ◌<◌, ◌≤◌, ◌^◌, length, find, int_lt, pos};
+ghost use Rattle.std.specs.Prelude.{◌+ℤ◌, None};
 ghost use Rattle.rail_types.specs.Limits.{IsRunWithinLimits};
 ghost use Rattle.blocking_time.specs.Paths.{IsPathOf};
 ghost use Rattle.blocking_time.specs.Runs.{run_at, run_numbers};
@@ -174,8 +175,8 @@ fn leaves_early(stop: &Stop, run: &Run, next: &Run) -> bool
     next.enter < run.leave + i64::from(stop.dwell)
 }
 
-// Whether the stop of that number, at the end of a run before the last, is not the one named there, or is left before
-// its dwell.
+// Whether the stop of that number, at the end of a run before the last, is not the one named there,
+// or is left before its dwell.
 fn stops_otherwise(
     net: &Network,
     settings: &Settings,
@@ -195,8 +196,8 @@ fn stops_otherwise(
         || leaves_early(&stops[made], &runs[index], &runs[index + 1])
 }
 
-// Whether a run is the first to show that other stops are made than those that are named, as many of which were made
-// before it.
+// Whether a run is the first to show that other stops are made than those that are named, as many
+// of which were made before it.
 fn differs(
     net: &Network,
     settings: &Settings,
@@ -219,8 +220,8 @@ fn differs(
     }
 }
 
-// The first run that ends with another stop than the one named, or leaves it before its dwell; or the last run where
-// stops are missing.
+// The first run that ends with another stop than the one named, or leaves it before its dwell; or
+// the last run where stops are missing.
 fn first_other_stop(
     net: &Network,
     settings: &Settings,
@@ -283,14 +284,16 @@ fn first_of_request(
     None
 }
 
-/// The run that breaks a rule, and the rule; None where the path keeps all that it is held to. Run by run, each path is
-/// held to rules 1 to 6: a block follows the one before (1), a run takes its running time (2), the train enters when it
-/// leaves the block before, or later where it stopped there (3), the last run stops (4), no run is entered before tick 0 or
-/// left behind the horizon (5), others stop only where an operational point is served (6). Then a path that was asked for
-/// is held to rules 7 to 12: its ends serve origin (7) and destination (8), it departs (9) and arrives (10) in the windows,
-/// it makes the named stops in their order and no others before its last run, and leaves none before its dwell (11), with
-/// the train asked for (12). Of 7, 9 and 12 the first run is told, of 8 and 10 the last, and of 11 the first with a stop
-/// that is wrong, or else the last.
+/// The run that breaks a rule, and the rule; None where the path keeps all that it is held to.
+/// Run by run, each path is held to rules 1 to 6: a block follows the one before (1), a run
+/// takes its running time (2), the train enters when it leaves the block before, or later where
+/// it stopped there (3), the last run stops (4), no run is entered before tick 0 or left behind
+/// the horizon (5), others stop only where an operational point is served (6). Then a path that
+/// was asked for is held to rules 7 to 12: its ends serve origin (7) and destination (8), it
+/// departs (9) and arrives (10) in the windows, it makes the named stops in their order and no
+/// others before its last run, and leaves none before its dwell (11), with the train asked for
+/// (12). Of 7, 9 and 12 the first run is told, of 8 and 10 the last, and of 11 the first with a
+/// stop that is wrong, or else the last.
 pub fn keeps(net: &Network, settings: &Settings, path: &Path, wanted: &Wanted) -> Option<Broken>
     requires path { IsPathOf net.now settings.now path.now }
     requires some { 1 ≤ length path.now.runs }

@@ -1,6 +1,7 @@
 //! The stairway of a path.
 
-ghost use Rattle.std.specs.Prelude.{◌≡◌, ◌+◌, ◌<◌, ◌≤◌, ◌^◌, ◌++◌, ◌-◌, pos, ◌-ℤ◌, ◌<ℤ◌, neg_ℤ, length, IfOk, OnOk};
+ghost use Rattle.std.specs.Prelude.{◌≡◌, ◌+◌, ◌<◌, ◌≤◌, ◌^◌, ◌++◌, ◌-◌, pos, ◌-ℤ◌, ◌<ℤ◌, neg_ℤ};
+ghost use Rattle.std.specs.Prelude.{length, IfOk, OnOk};
 ghost use Rattle.running_time.specs.Limits.{IsEnterWithinLimits};
 ghost use Rattle.running_time.specs.Times.{sight_ticks};
 ghost use Rattle.rail_types.specs.Limits.{
@@ -20,7 +21,8 @@ ghost use Rattle.blocking_time.specs.Runs.{
 };
 ghost use Rattle.blocking_time.specs.Paths.{IsPathIn, IsPathOf};
 ghost use Rattle.blocking_time.specs.Rules.{KeepsRunRules};
-ghost use Rattle.blocking_time.specs.Stairway.{blocked_from as begin_at, gone_at, claim_at, claims_of_path, claims_of_run};
+ghost use Rattle.blocking_time.specs.Stairway.{blocked_from as begin_at, gone_at, claim_at};
+ghost use Rattle.blocking_time.specs.Stairway.{claims_of_path, claims_of_run};
 ghost use Rattle.blocking_time.specs.Indexed.{IsCursor, gone_behind};
 
 use crate::Passage;
@@ -145,7 +147,8 @@ fn blocked_from(net: &Network, settings: &Settings, path: &Path, index: usize) -
     }
 }
 
-// The tick at which the head has gone so many metres from a run's beginning, or leaves the last run.
+// The tick at which the head has gone so many metres from a run's
+// beginning, or leaves the last run.
 fn gone_from(net: &Network, settings: &Settings, path: &Path, index: usize, metres: u32) -> Tick
     requires path { IsPathOf net.now settings.now path.now }
     requires some { 0 < length path.now.runs }
@@ -166,9 +169,9 @@ fn gone_from(net: &Network, settings: &Settings, path: &Path, index: usize, metr
     runs[runs.len() - 1].leave
 }
 
-// A run, and the metres to its beginning from that of the run whose cells are looked at. Where release points do not
-// fall, as in each network without flaws, the run in which a train clears cells only goes on, and the path is walked
-// through once.
+// A run, and the metres to its beginning from that of the run whose cells are looked at. Where
+// release points do not fall, as in each network without flaws, the run in which a train clears
+// cells only goes on, and the path is walked through once.
 #[derive(Clone, Copy, Debug)]
 struct Cursor {
     run: usize,
@@ -330,8 +333,8 @@ fn stairway_of(
     Ok(claims)
 }
 
-/// The claims of a path that keeps the rules of runs, by run, then cell: how long each zone is blocked for it
-/// (Pachl, Railway Operation and Control: blocking time).
+/// The claims of a path that keeps the rules of runs, by run, then cell: how long each zone is
+/// blocked for it (Pachl, Railway Operation and Control: blocking time).
 pub fn stairway(
     alloc: Global,
     net: &Network,

@@ -1,4 +1,5 @@
-//! What is measured of a book: how fast it opens, how fast it commits, and how fast a disk takes the same writes.
+//! What is measured of a book: how fast it opens, how fast it commits, and how fast
+//! a disk takes the same writes.
 
 ghost use Rattle.std.specs.Prelude.{IfSome, IsTrue};
 ghost use Rattle.grant_log.specs.Legal.{IsDeedOn};
@@ -129,7 +130,8 @@ fn is_held<D: Disk>(alloc: Global, book: &mut Book<D>, at: u64) -> bool {
     }
 }
 
-/// Begins a journal on an empty disk and commits so many holds, one after another. None where one is not settled.
+/// Begins a journal on an empty disk and commits so many holds, one after another.
+/// None where one is not settled.
 pub(crate) fn commits<D: Disk + Drop>(alloc: Global, disk: D, count: u64) -> Option<u64> {
     let mut disk = disk;
     let Ok(()) = init(&mut disk, &DIGEST, &DIGEST) else {
@@ -163,7 +165,8 @@ fn write_record<D: Disk>(disk: &mut D, at: u64) -> Result<(), Failed> {
     disk.sync()
 }
 
-/// Writes and syncs the records of so many holds as commits do, without a book. None where the disk fails.
+/// Writes and syncs the records of so many holds as commits do, without a
+/// book. None where the disk fails.
 pub(crate) fn writes<D: Disk + Drop>(disk: D, count: u64) -> Option<u64> {
     let mut disk = disk;
     for at in 0..count {

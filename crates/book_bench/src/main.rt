@@ -1,5 +1,6 @@
-//! Measures the book over a file: `open FILE ZONES` opens a journal and prints how many entries it has; `commit FILE N`
-//! begins a journal and commits N holds; `write FILE N` makes the same writes and syncs without a book.
+//! Measures the book over a file: `open FILE ZONES` opens a journal and prints how many entries
+//! it has; `commit FILE N` begins a journal and commits N holds; `write FILE N` makes the same
+//! writes and syncs without a book.
 #![tactic(auto)]
 
 mod books;

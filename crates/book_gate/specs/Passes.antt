@@ -23,15 +23,19 @@ module _ {S E F : Type 0} where
 
   -- the pass has no turn open, and no ticket
   abbrev pub IsIdle : Pass S E F → Type 0
-  IsIdle pass = ((view pass).has_ticket ≡ false) × ((view pass).has_book ≡ false) × (pass.seat.me.1 ≡ [])
+  IsIdle pass =
+      ((view pass).has_ticket ≡ false) × ((view pass).has_book ≡ false) × (pass.seat.me.1 ≡ [])
 
   -- the pass has a turn open
   abbrev pub IsInTurn : Pass S E F → Type 0
-  IsInTurn pass = ((view pass).has_ticket ≡ true) × ((view pass).has_book ≡ true) × (pass.seat.me.1 ≡ (0, None) ∷ [])
+  IsInTurn pass =
+      ((view pass).has_ticket ≡ true) × ((view pass).has_book ≡ true)
+      × (pass.seat.me.1 ≡ (0, None) ∷ [])
 
   -- the pass waits with a ticket
   abbrev pub IsWaiting : Pass S E F → Type 0
-  IsWaiting pass = ((view pass).has_ticket ≡ true) × ((view pass).has_book ≡ false) × (pass.seat.me.1 ≡ [])
+  IsWaiting pass =
+      ((view pass).has_ticket ≡ true) × ((view pass).has_book ≡ false) × (pass.seat.me.1 ≡ [])
 
   -- the pass holds the slot, with that book in it
   abbrev pub HasBook : S → Pass S E F → Type 0
@@ -43,11 +47,19 @@ module _ {S E F : Type 0} where
 
   -- a turn was opened, and else the pass knows what it knew
   abbrev pub OpensTurn : Pass S E F → Pass S E F → Type 0
-  OpensTurn old new = view new ≡ record (view old) { has_ticket = true; ticket = (view new).ticket; has_book = true; found = (view new).found }
+  OpensTurn old new = view new ≡ record (view old) {
+    has_ticket = true;
+    ticket = (view new).ticket;
+    has_book = true;
+    found = (view new).found;
+  }
 
   -- the pass is one of this gate, and its turns, an open one among them, are within its share
   abbrev pub IsOf : (S → F) → Gate S E F → Pass S E F → Type 0
-  IsOf footing gate pass = (pass.seat.table_id ≡ gate.table.shared.table_id) × ((view pass).origin ≡ Some (origin (footing (opened gate)) (turns_given gate))) × IsWithinShare (view pass)
+  IsOf footing gate pass =
+      (pass.seat.table_id ≡ gate.table.shared.table_id)
+      × ((view pass).origin ≡ Some (origin (footing (opened gate)) (turns_given gate)))
+      × IsWithinShare (view pass)
 
   -- the pass was called, and holds the slot with a book that goes on from all that it knew
   abbrev pub IsCalledWith : (S → Statement E) → (S → F) → Pass S E F → Pass S E F → Type 0

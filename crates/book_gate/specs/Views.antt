@@ -1,5 +1,6 @@
 -- What a book stands for, and what a pass knows of it.
-use Rattle.std.specs.Prelude.{◌≡◌, ℕ, zero, suc, ◌-◌, ◌≤◌, ◌<◌, nat_lt, if◌then◌else◌, false, All, AllPairs, List, [], ◌∷◌, ◌++◌, length, sum_by, Some}
+use Rattle.std.specs.Prelude.{◌≡◌, ℕ, zero, suc, ◌-◌, ◌≤◌, ◌<◌, nat_lt, if◌then◌else◌, false, All}
+use Rattle.std.specs.Prelude.{AllPairs, List, [], ◌∷◌, ◌++◌, length, sum_by, Some}
 use Rattle.book_gate.specs.declared.views.Mark.{Mark}
 use Rattle.book_gate.specs.declared.views.Origin.{Origin}
 use Rattle.book_gate.specs.declared.views.Statement.{Statement}
@@ -12,7 +13,11 @@ StartsWith {E} whole part = (rest : List E) × (whole ≡ part ++ rest)
 
 -- what a book stands for
 abbrev pub statement_of : {S E : Type 0} → (S → List E) → (S → ℕ) → (S → ℕ) → S → Statement E
-statement_of list settled count book = record { list = list book; settled = settled book; count = count book }
+statement_of list settled count book = record {
+  list = list book;
+  settled = settled book;
+  count = count book;
+}
 
 abbrev pub mark_of : {E : Type 0} → Statement E → Mark
 mark_of b = record { entries = length b.list; settled = b.settled; count = b.count }
@@ -24,10 +29,12 @@ origin footing turns = record { footing = footing; turns = turns }
 abbrev pub Rises : Turn → Type 0
 Rises t = (t.found.entries ≤ t.left.entries) × (t.found.count ≤ t.left.count)
 
--- turns numbered from n on: the first found that mark, each later one what the turn before it left, and the last left that mark
+-- turns numbered from n on: the first found that mark, each later one what the turn before it
+-- left, and the last left that mark
 abbrev pub IsChain : ℕ → Mark → List Turn → Mark → Type 0
 IsChain n first [] last = first ≡ last
-IsChain n first (t ∷ ts) last = (t.number ≡ n) × (t.found ≡ first) × Rises t × IsChain (suc n) t.left ts last
+IsChain n first (t ∷ ts) last =
+    (t.number ≡ n) × (t.found ≡ first) × Rises t × IsChain (suc n) t.left ts last
 
 -- so many positions, from n on
 abbrev pub positions : ℕ → ℕ → List ℕ
@@ -58,7 +65,18 @@ longer a b = if nat_lt (length a) (length b) then b else a
 
 -- the pass that comes with a new gate
 abbrev pub newcomer : {E F : Type 0} → Origin F → Statement E → View E F
-newcomer o b = record { origin = Some o; seen = b.list; count = b.count; joined = []; turns = []; share = o.turns; has_ticket = false; ticket = 0; has_book = false; found = b }
+newcomer o b = record {
+  origin = Some o;
+  seen = b.list;
+  count = b.count;
+  joined = [];
+  turns = [];
+  share = o.turns;
+  has_ticket = false;
+  ticket = 0;
+  has_book = false;
+  found = b;
+}
 
 -- a turn of that number
 abbrev pub turn : {E : Type 0} → ℕ → Statement E → Statement E → Turn
@@ -78,4 +96,5 @@ AreNumberedBelow turns number = All (λ t. t.number < number) turns
 
 -- the turns ascend by number, and each left at most as many entries as a later one found
 abbrev pub AreAscending : List Turn → Type 0
-AreAscending turns = AllPairs (λ t u. (t.number < u.number) × (t.left.entries ≤ u.found.entries)) turns
+AreAscending turns =
+    AllPairs (λ t u. (t.number < u.number) × (t.left.entries ≤ u.found.entries)) turns

@@ -1,5 +1,6 @@
 //! The gate and its passes.
-ghost use Rattle.std.specs.Prelude.{◌≡◌, ℕ, ◌+◌, ◌-◌, ◌^◌, ◌≤◌, ◌<◌, [], ◌∷◌, ◌++◌, All, IsPermutation, length, IfOk, IfErr, true, false, Some, None};
+ghost use Rattle.std.specs.Prelude.{◌≡◌, ℕ, ◌+◌, ◌-◌, ◌^◌, ◌≤◌, ◌<◌, [], ◌∷◌, ◌++◌, All};
+ghost use Rattle.std.specs.Prelude.{IsPermutation, length, IfOk, IfErr, true, false, Some, None};
 
 use crate::held::Held;
 use crate::plays::{Amount, Give, Meet, TakeIn, Turns};
@@ -31,9 +32,12 @@ pub struct Pass<S: Stands> {
 }
 
 impl<S: Stands> Gate<S> {
-    ghost use Rattle.book_gate.specs.Passes.{view, opened, turns_given, turns_left, IsOf, IsIdle, IsInTurn, IsWaiting, IsCalledWith, OpensTurn};
+    ghost use Rattle.book_gate.specs.Passes.{view, opened, turns_given, turns_left, IsOf, IsIdle};
+    ghost use Rattle.book_gate.specs.Passes.{IsInTurn, IsWaiting, IsCalledWith, OpensTurn};
     ghost use Rattle.book_gate.specs.Steps.{served, giving, given, joining};
-    ghost use Rattle.book_gate.specs.Views.{StartsWith, AreListedWithin, AreCountedWithin, AreNumberedBelow, AreAscending, IsChain, statement_of, newcomer, origin, mark_of, own, positions, rises};
+    ghost use Rattle.book_gate.specs.Views.{StartsWith, AreListedWithin, AreCountedWithin};
+    ghost use Rattle.book_gate.specs.Views.{AreNumberedBelow, AreAscending, IsChain, statement_of};
+    ghost use Rattle.book_gate.specs.Views.{newcomer, origin, mark_of, own, positions, rises};
 
     /// A gate that keeps this book for so many turns, and the pass that may take them all.
     pub fn new(alloc: Global, book: S, turns: u64) -> Result<(Gate<S>, Pass<S>), (S, NoMemory)>
@@ -43,7 +47,8 @@ impl<S: Stands> Gate<S> {
         ensures turns { IfOk result (λ r. turns_given r.0 ≡ turns) }
         ensures own { IfOk result (λ r. IsOf S.footing r.0 r.1) }
         ensures idle { IfOk result (λ r. IsIdle r.1) }
-        ensures fresh { IfOk result (λ r. view r.1 ≡ newcomer (origin (S.footing book) turns) (statement_of S.list S.settled S.count book)) }
+        ensures fresh { IfOk result (λ r. view r.1 ≡ newcomer (origin (S.footing book) turns)
+            (statement_of S.list S.settled S.count book)) }
         ensures refused { IfErr result (λ e. e.0 ≡ book) }
     {
         let opening = Opening {
@@ -95,7 +100,8 @@ impl<S: Stands> Gate<S> {
         requires own { IsOf S.footing self.now pass.old }
         requires waits { IsWaiting pass.old × ((view pass.old).ticket ≡ ticket) }
         ensures own { IsOf S.footing self.now pass.new }
-        ensures called { IsCalledWith (statement_of S.list S.settled S.count) S.footing pass.old pass.new }
+        ensures called { IsCalledWith (statement_of S.list S.settled S.count)
+            S.footing pass.old pass.new }
     {
         let mut looks = 0;
         for _ in rt.forever() {
@@ -115,7 +121,8 @@ impl<S: Stands> Gate<S> {
         unreachable!()
     }
 
-    /// Puts the book back, and ends the turn. Its list is the one that was found, with the entries of this turn behind it.
+    /// Puts the book back, and ends the turn. Its list is the one that was found, with the
+    /// entries of this turn behind it.
     #[tactic(auto, using(crate::proofs::Turns::own_push))]
     pub fn leave(&self, pass: &mut Pass<S>, held: Held<S>)
         requires own { IsOf S.footing self.now pass.old }
@@ -125,9 +132,12 @@ impl<S: Stands> Gate<S> {
         requires count { (view pass.old).found.count ≤ S.count held }
         ensures own { IsOf S.footing self.now pass.new }
         ensures idle { IsIdle pass.new }
-        ensures served { view pass.new ≡ served (view pass.old) (statement_of S.list S.settled S.count held) }
+        ensures served { view pass.new
+            ≡ served (view pass.old) (statement_of S.list S.settled S.count held) }
         ensures budget { turns_left pass.new ≡ turns_left pass.old }
-        ensures own_entries { own (view pass.new).turns ≡ own (view pass.old).turns ++ positions (length (view pass.old).found.list) (length (S.list held) - length (view pass.old).found.list) }
+        ensures own_entries { own (view pass.new).turns
+            ≡ own (view pass.old).turns ++ positions (length (view pass.old).found.list)
+            (length (S.list held) - length (view pass.old).found.list) }
     {
         let Held { book } = held;
         self.put_back(pass, book);
@@ -136,7 +146,8 @@ impl<S: Stands> Gate<S> {
         self.table.shared.wake_all(SERVING);
     }
 
-    /// Gives some of its turns to a new pass, for another thread. That one has seen as much, and has taken no turns.
+    /// Gives some of its turns to a new pass, for another thread. That one has seen as
+    /// much, and has taken no turns.
     pub fn split(&self, pass: &mut Pass<S>, turns: u64) -> Pass<S>
         requires own { IsOf S.footing self.now pass.old }
         requires idle { IsIdle pass.old }
@@ -157,7 +168,8 @@ impl<S: Stands> Gate<S> {
         self.split_by::<Brand>(pass, turns)
     }
 
-    // A cut of a view has no argument, so it reads from a type, in proofs alone, how many turns go over.
+    // A cut of a view has no argument, so it reads from a type, in proofs
+    // alone, how many turns go over.
     fn split_by<A: Amount>(&self, pass: &mut Pass<S>, turns: u64) -> Pass<S>
         requires own { IsOf S.footing self.now pass.old }
         requires idle { IsIdle pass.old }
@@ -185,9 +197,12 @@ impl<S: Stands> Gate<S> {
         ensures own { IsOf S.footing self.now into.new }
         ensures idle { IsIdle into.new }
         ensures joined { view into.new ≡ joining (view into.old) (view other) }
-        ensures turns { IsPermutation ((view into.old).turns ++ (view other).turns) (view into.new).turns }
-        ensures own_entries { IsPermutation (own (view into.old).turns ++ own (view other).turns) (own (view into.new).turns) }
-        ensures rises { rises (view into.new).turns ≡ rises (view into.old).turns + rises (view other).turns }
+        ensures turns { IsPermutation ((view into.old).turns ++ (view other).turns)
+            (view into.new).turns }
+        ensures own_entries { IsPermutation (own (view into.old).turns ++ own (view other).turns)
+            (own (view into.new).turns) }
+        ensures rises { rises (view into.new).turns
+            ≡ rises (view into.old).turns + rises (view other).turns }
         ensures budget { turns_left into.new ≡ turns_left into.old + turns_left other }
         ensures ascend { AreAscending (view into.new).turns }
     {
@@ -197,20 +212,23 @@ impl<S: Stands> Gate<S> {
         self.meet(into);
     }
 
-    /// How many turns were served. The lists that were joined into the pass are beginnings of one list.
+    /// How many turns were served. The lists that were joined into the
+    /// pass are beginnings of one list.
     pub fn meet(&self, pass: &mut Pass<S>) -> u64
         requires own { IsOf S.footing self.now pass.old }
         requires idle { IsIdle pass.old }
         ensures own { IsOf S.footing self.now pass.new }
         ensures idle { IsIdle pass.new }
         ensures same { view pass.new ≡ view pass.old }
-        ensures one_list { All (λ list. StartsWith (view pass.old).seen list) (view pass.old).joined }
+        ensures one_list { All (λ list. StartsWith (view pass.old).seen list)
+            (view pass.old).joined }
         ensures at_least { length (view pass.old).turns ≤ result }
         ensures at_most { result + turns_left pass.old ≤ turns_given self.now }
         ensures within { length (view pass.old).turns ≤ (view pass.old).share }
         ensures numbers { AreNumberedBelow (view pass.old).turns result }
         ensures ascend { AreAscending (view pass.old).turns }
-        ensures all { (view pass.old).share ≡ turns_given self.now → result ≡ length (view pass.old).turns }
+        ensures all { (view pass.old).share ≡ turns_given self.now
+            → result ≡ length (view pass.old).turns }
     {
         self.table.shared.load::<Meet>(&mut pass.seat, SERVING)
     }
@@ -222,11 +240,13 @@ impl<S: Stands> Gate<S> {
         requires whole { (view pass).share ≡ turns_given self }
         ensures footing { S.footing result ≡ S.footing (opened self) }
         ensures untouched { (view pass).turns ≡ [] → result ≡ opened self }
-        ensures chain { IsChain 0 (mark_of (statement_of S.list S.settled S.count (opened self))) (view pass).turns (mark_of (statement_of S.list S.settled S.count result)) }
+        ensures chain { IsChain 0 (mark_of (statement_of S.list S.settled S.count (opened self)))
+            (view pass).turns (mark_of (statement_of S.list S.settled S.count result)) }
         ensures list { StartsWith (S.list result) (S.list (opened self)) }
         ensures seen { StartsWith (S.list result) (view pass).seen }
         ensures joined { All (λ list. StartsWith (S.list result) list) (view pass).joined }
-        ensures own_entries { own (view pass).turns ≡ positions (length (S.list (opened self))) (length (S.list result) - length (S.list (opened self))) }
+        ensures own_entries { own (view pass).turns ≡ positions (length (S.list (opened self)))
+            (length (S.list result) - length (S.list (opened self))) }
         ensures rises { rises (view pass).turns + S.count (opened self) ≡ S.count result }
     {
         let Gate { table } = self;

@@ -3,7 +3,8 @@ ghost use Rattle.std.specs.Prelude.{◌≡◌};
 
 use std::marker::Model;
 
-/// The book, while it is out: clauses see it as the book. It has to be handed back with `Gate::leave`.
+/// The book, while it is out: clauses see it as the book. It has to be
+/// handed back with `Gate::leave`.
 pub struct Held<S> {
     pub(crate) book: S,
 }

@@ -1,6 +1,7 @@
 //! The rule of the gate, and what each step tells.
 ghost use Rattle.book_gate.specs.Rule.{IsKept};
-ghost use Rattle.book_gate.specs.Steps.{Takes, Looks, Advances, Meets, giving, given, joining, spent};
+ghost use Rattle.book_gate.specs.Steps.{Takes, Looks, Advances, Meets, giving, given, joining};
+ghost use Rattle.book_gate.specs.Steps.{spent};
 ghost use Rattle.book_gate.specs.Views.{statement_of, newcomer, origin};
 
 use crate::stands::Stands;
@@ -13,9 +14,11 @@ pub(crate) struct Turns<S> {
 }
 
 impl<S: Stands> TableRule<Option<S>, View<S::Entry, S::Footing>, Opening<S>> for Turns<S> {
-    ghost holds = { λ o. IsKept (statement_of S.list S.settled S.count) S.footing o.turns o.book.value };
+    ghost holds = { λ o.
+        IsKept (statement_of S.list S.settled S.count) S.footing o.turns o.book.value };
 
-    ghost first = { λ o. newcomer (origin (S.footing o.book.value) o.turns) (statement_of S.list S.settled S.count o.book.value) };
+    ghost first = { λ o. newcomer (origin (S.footing o.book.value) o.turns)
+        (statement_of S.list S.settled S.count o.book.value) };
 }
 
 pub(crate) struct Take;

@@ -13,7 +13,8 @@ pub trait Stands {
 
     ghost list: { Self → List Self.Entry };
 
-    // How many of the entries are settled for good, as the book tells it; no clause of the gate constrains it.
+    // How many of the entries are settled for good, as the book tells it; no
+    // clause of the gate constrains it.
     ghost settled: { Self → ℕ };
 
     // How many faults were met, a number that no turn takes down.

@@ -12,7 +12,8 @@ const TICKET: usize = 0;
 pub(crate) const SERVING: usize = 1;
 
 impl<S: Stands> Gate<S> {
-    ghost use Rattle.book_gate.specs.Passes.{view, opened, turns_left, IsOf, IsIdle, IsInTurn, IsWaiting, IsCalledWith, HasBook};
+    ghost use Rattle.book_gate.specs.Passes.{view, opened, turns_left, IsOf, IsIdle, IsInTurn};
+    ghost use Rattle.book_gate.specs.Passes.{IsWaiting, IsCalledWith, HasBook};
     ghost use Rattle.book_gate.specs.Steps.{with_ticket, served};
     ghost use Rattle.book_gate.specs.Views.{StartsWith, statement_of};
 
@@ -33,7 +34,8 @@ impl<S: Stands> Gate<S> {
         requires own { IsOf S.footing self.now pass.old }
         requires waits { IsWaiting pass.old }
         ensures own { IsOf S.footing self.now pass.new }
-        ensures called { result ≡ (view pass.old).ticket → IsCalledWith (statement_of S.list S.settled S.count) S.footing pass.old pass.new }
+        ensures called { result ≡ (view pass.old).ticket
+            → IsCalledWith (statement_of S.list S.settled S.count) S.footing pass.old pass.new }
         ensures not_yet { result ≢ (view pass.old).ticket → pass.new.seat.me ≡ pass.old.seat.me }
     {
         self.table.shared.load::<Look<S>>(&mut pass.seat, SERVING)
@@ -67,10 +69,13 @@ impl<S: Stands> Gate<S> {
     pub(crate) fn advance(&self, pass: &mut Pass<S>)
         requires own { IsOf S.footing self.now pass.old }
         requires turn { ((view pass.old).has_ticket ≡ true) × ((view pass.old).has_book ≡ true) }
-        requires back { (b : S) × HasBook b pass.old × (S.footing b ≡ S.footing (opened self.now)) × StartsWith (S.list b) (view pass.old).found.list × ((view pass.old).found.count ≤ S.count b) }
+        requires back { (b : S) × HasBook b pass.old × (S.footing b ≡ S.footing (opened self.now))
+            × StartsWith (S.list b) (view pass.old).found.list
+            × ((view pass.old).found.count ≤ S.count b) }
         ensures own { IsOf S.footing self.now pass.new }
         ensures idle { IsIdle pass.new }
-        ensures served { (b : S) → HasBook b pass.old → view pass.new ≡ served (view pass.old) (statement_of S.list S.settled S.count b) }
+        ensures served { (b : S) → HasBook b pass.old
+            → view pass.new ≡ served (view pass.old) (statement_of S.list S.settled S.count b) }
     {
         let shared = &self.table.shared;
         shared.fetch_add::<Advance<S>>(&mut pass.seat, SERVING, 1);

@@ -2,7 +2,8 @@
 use std::collections::LinkedList;
 use std::snapshot::Snapshot;
 
-/// What a book stands for at one moment: its entries, how many of them are settled, and its count of faults.
+/// What a book stands for at one moment: its entries, how many of them are
+/// settled, and its count of faults.
 pub struct Statement<E> {
     pub list: LinkedList<E>,
     pub settled: u64,

@@ -5,7 +5,9 @@ use Rattle.admission_rules.specs.Tallies.{no_tally}
 use Rattle.client_rules.specs.Ruled.{Ruled, ruled}
 use Rattle.client_rules.specs.declared.clients.ClientRules.{ClientRules}
 use Rattle.rule_words.specs.declared.kinds.RuleKind.{RuleKind}
-use Rattle.rule_words.specs.declared.kinds.RuleKind.TheVariants.{Quota as QuotaKind, Curfew as CurfewKind, Longest as LongestKind}
+use Rattle.rule_words.specs.declared.kinds.RuleKind.TheVariants.{Quota as QuotaKind}
+use Rattle.rule_words.specs.declared.kinds.RuleKind.TheVariants.{Curfew as CurfewKind}
+use Rattle.rule_words.specs.declared.kinds.RuleKind.TheVariants.{Longest as LongestKind}
 use Rattle.rule_words.specs.declared.reading.RuleWord.{RuleWord}
 use Rattle.built_rules.specs.declared.rules.BuiltRule.{BuiltRule}
 use Rattle.built_rules.specs.declared.rules.BuiltRule.TheVariants.{Quota, Curfew, Longest}

@@ -10,7 +10,8 @@ use no_memory::NoMemory;
 use rule_words::{RuleKind, RuleWord};
 use std::alloc::Global;
 
-/// The rules that words ask for, in the words' order: one of its client for each. None was told of a path.
+/// The rules that words ask for, in the words' order: one of its client for
+/// each. None was told of a path.
 pub fn build_rules(
     alloc: Global,
     words: &[RuleWord],

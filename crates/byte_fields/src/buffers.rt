@@ -1,12 +1,14 @@
 //! A text of bytes that grows.
 
-ghost use Rattle.std.specs.Prelude.{◌≡◌, ◌+◌, ◌≤◌, ◌++◌, ◌↔◌, [], length, take, OnOk, OnErr, IsOk, IsTrue};
+ghost use Rattle.std.specs.Prelude.{◌≡◌, ◌+◌, ◌≤◌, ◌++◌, ◌↔◌, [], length, take, OnOk, OnErr, IsOk};
+ghost use Rattle.std.specs.Prelude.{IsTrue};
 
 use no_memory::NoMemory;
 use std::alloc::Global;
 use std::marker::Model;
 
-/// Bytes that grow at their end, and the room that they have. A call that finds room enough takes no memory.
+/// Bytes that grow at their end, and the room that they have. A call that finds
+/// room enough takes no memory.
 #[derive(Debug, Drop)]
 pub struct Buffer {
     bytes: Vec<u8>,
@@ -18,7 +20,8 @@ impl Model for Buffer {
 
     ghost Value = { Buffered };
 
-    ghost view = { λ b. record { held = b.bytes.items; spare = vec_capacity b.bytes - vec_len b.bytes } };
+    ghost view = { λ b.
+        record { held = b.bytes.items; spare = vec_capacity b.bytes - vec_len b.bytes } };
 }
 
 impl Buffer {

@@ -1,5 +1,5 @@
-//! Bytes as fields: a text that grows, numbers written most significant byte first, and a reader that gives
-//! them back one after another and says where bytes are missing or too many.
+//! Bytes as fields: a text that grows, numbers written most significant byte first, and a reader
+//! that gives them back one after another and says where bytes are missing or too many.
 #![tactic(auto)]
 
 mod buffers;

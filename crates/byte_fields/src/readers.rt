@@ -1,14 +1,15 @@
 //! Fields read one after another from the front of some bytes.
 
-ghost use Rattle.std.specs.Prelude.{◌≡◌, ℕ, ◌+◌, ◌^◌, ◌<◌, ◌++◌, ◌∷◌, ◌↔◌, List, [], length, Ok, IfOk, IfErr, OnOk, OnErr, IsErr, IsOk, ℤ, FitsSigned};
+ghost use Rattle.std.specs.Prelude.{◌≡◌, ℕ, ◌+◌, ◌^◌, ◌<◌, ◌++◌, ◌∷◌, ◌↔◌, List, [], length, Ok};
+ghost use Rattle.std.specs.Prelude.{IfOk, IfErr, OnOk, OnErr, IsErr, IsOk, ℤ, FitsSigned};
 ghost use Rattle.std.specs.Int.{w32, w64, to_be_bytes};
 ghost use Rattle.byte_fields.specs.Unread.{end_of, signed_bytes};
 
 use crate::faults::{Over, Short};
 use std::marker::Model;
 
-/// A reader of the fields that some bytes spell. Offsets count from the start of the bytes given to `new`.
-/// A call that finds too few bytes takes none.
+/// A reader of the fields that some bytes spell. Offsets count from the start of the bytes given to
+/// `new`. A call that finds too few bytes takes none.
 #[derive(Debug, Drop)]
 pub struct Fields<'a> {
     left: &'a [u8],
@@ -73,7 +74,8 @@ impl<'a> Fields<'a> {
     pub fn u8(&mut self) -> Result<u8, Short>
         // What is read is spelled at the front, and what is spelled there is read.
         ensures taken { IfOk result (λ v. self.old.left ≡ (v ∷ []) ++ self.new.left) }
-        ensures back { (v : ℕ) (rest : List ℕ) → v < 2 ^ 8 → self.old.left ≡ (v ∷ []) ++ rest → (result ≡ Ok v) × (self.new.left ≡ rest) }
+        ensures back { (v : ℕ) (rest : List ℕ) → v < 2 ^ 8 → self.old.left ≡ (v ∷ []) ++ rest
+            → (result ≡ Ok v) × (self.new.left ≡ rest) }
         ensures passed { OnOk result (self.new.at ≡ self.old.at + 1) }
 
         ensures short { IsErr result ↔ (length self.old.left < 1) }
@@ -88,7 +90,8 @@ impl<'a> Fields<'a> {
     pub fn u32(&mut self) -> Result<u32, Short>
         // What is read is spelled at the front, and what is spelled there is read.
         ensures taken { IfOk result (λ v. self.old.left ≡ to_be_bytes w32 v ++ self.new.left) }
-        ensures back { (v : ℕ) (rest : List ℕ) → v < 2 ^ 32 → self.old.left ≡ to_be_bytes w32 v ++ rest → (result ≡ Ok v) × (self.new.left ≡ rest) }
+        ensures back { (v : ℕ) (rest : List ℕ) → v < 2 ^ 32
+            → self.old.left ≡ to_be_bytes w32 v ++ rest → (result ≡ Ok v) × (self.new.left ≡ rest) }
         ensures passed { OnOk result (self.new.at ≡ self.old.at + 4) }
 
         ensures short { IsErr result ↔ (length self.old.left < 4) }
@@ -103,7 +106,8 @@ impl<'a> Fields<'a> {
     pub fn u64(&mut self) -> Result<u64, Short>
         // What is read is spelled at the front, and what is spelled there is read.
         ensures taken { IfOk result (λ v. self.old.left ≡ to_be_bytes w64 v ++ self.new.left) }
-        ensures back { (v : ℕ) (rest : List ℕ) → v < 2 ^ 64 → self.old.left ≡ to_be_bytes w64 v ++ rest → (result ≡ Ok v) × (self.new.left ≡ rest) }
+        ensures back { (v : ℕ) (rest : List ℕ) → v < 2 ^ 64
+            → self.old.left ≡ to_be_bytes w64 v ++ rest → (result ≡ Ok v) × (self.new.left ≡ rest) }
         ensures passed { OnOk result (self.new.at ≡ self.old.at + 8) }
 
         ensures short { IsErr result ↔ (length self.old.left < 8) }
@@ -120,7 +124,8 @@ impl<'a> Fields<'a> {
     pub fn i64(&mut self) -> Result<i64, Short>
         // What is read is spelled at the front, and what is spelled there is read.
         ensures taken { IfOk result (λ v. self.old.left ≡ signed_bytes v ++ self.new.left) }
-        ensures back { (v : ℤ) (rest : List ℕ) → FitsSigned w64 v → self.old.left ≡ signed_bytes v ++ rest → (result ≡ Ok v) × (self.new.left ≡ rest) }
+        ensures back { (v : ℤ) (rest : List ℕ) → FitsSigned w64 v
+            → self.old.left ≡ signed_bytes v ++ rest → (result ≡ Ok v) × (self.new.left ≡ rest) }
         ensures passed { OnOk result (self.new.at ≡ self.old.at + 8) }
 
         ensures short { IsErr result ↔ (length self.old.left < 8) }
@@ -143,9 +148,13 @@ impl<'a> Fields<'a> {
     }
 }
 
-/// No spelling of a number begins another of its kind, so what was written is what is read, whatever follows it.
+/// No spelling of a number begins another of its kind, so what was written is what
+/// is read, whatever follows it.
 pub fn one_form()
-    ensures u32 { (v w : ℕ) (x y : List ℕ) → v < 2 ^ 32 → w < 2 ^ 32 → to_be_bytes w32 v ++ x ≡ to_be_bytes w32 w ++ y → (v ≡ w) × (x ≡ y) }
-    ensures u64 { (v w : ℕ) (x y : List ℕ) → v < 2 ^ 64 → w < 2 ^ 64 → to_be_bytes w64 v ++ x ≡ to_be_bytes w64 w ++ y → (v ≡ w) × (x ≡ y) }
-    ensures i64 { (v w : ℤ) (x y : List ℕ) → FitsSigned w64 v → FitsSigned w64 w → signed_bytes v ++ x ≡ signed_bytes w ++ y → (v ≡ w) × (x ≡ y) }
+    ensures u32 { (v w : ℕ) (x y : List ℕ) → v < 2 ^ 32 → w < 2 ^ 32
+        → to_be_bytes w32 v ++ x ≡ to_be_bytes w32 w ++ y → (v ≡ w) × (x ≡ y) }
+    ensures u64 { (v w : ℕ) (x y : List ℕ) → v < 2 ^ 64 → w < 2 ^ 64
+        → to_be_bytes w64 v ++ x ≡ to_be_bytes w64 w ++ y → (v ≡ w) × (x ≡ y) }
+    ensures i64 { (v w : ℤ) (x y : List ℕ) → FitsSigned w64 v → FitsSigned w64 w
+        → signed_bytes v ++ x ≡ signed_bytes w ++ y → (v ≡ w) × (x ≡ y) }
 {}

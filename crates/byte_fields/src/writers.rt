@@ -39,7 +39,8 @@ pub fn put_u64(to: &mut Buffer, v: u64) -> Result<(), NoMemory>
     to.extend(&eight)
 }
 
-/// Appends the signed number's eight bytes, in two's complement. For want of memory nothing changes.
+/// Appends the signed number's eight bytes, in two's complement. For
+/// want of memory nothing changes.
 pub fn put_i64(to: &mut Buffer, v: i64) -> Result<(), NoMemory>
     ensures ok { OnOk result (to.new.held ≡ to.old.held ++ signed_bytes v) }
     ensures err { OnErr result (to.new ≡ to.old) }

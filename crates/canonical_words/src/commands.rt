@@ -2,7 +2,9 @@
 
 ghost use Rattle.std.specs.Prelude.{◌≡◌, IfOk, map, string_bytes};
 ghost use Rattle.clap.specs.Words.{app_of};
-ghost use Rattle.canonical_words.specs.Canonical.{batch_app, canonical_batch, canonical_capacity, capacity_app, check_app, demo_app, journal_app, list_app, move_app, serve_app, stairs_app};
+ghost use Rattle.canonical_words.specs.Canonical.{batch_app, canonical_batch, canonical_capacity};
+ghost use Rattle.canonical_words.specs.Canonical.{capacity_app, check_app, demo_app, journal_app};
+ghost use Rattle.canonical_words.specs.Canonical.{list_app, move_app, serve_app, stairs_app};
 
 use crate::names::{FileNames, StretchWords};
 use crate::parsing::{joined, parse, required, value_of};

@@ -1,4 +1,5 @@
-//! The options of the server's commands that stand once, handed to `clap` in one form and in one order, and taken back.
+//! The options of the server's commands that stand once, handed to `clap` in one form and
+//! in one order, and taken back.
 #![tactic(auto)]
 
 mod commands;

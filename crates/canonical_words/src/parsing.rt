@@ -1,4 +1,5 @@
-//! What commands are parsed by: `clap`, given options that must stand once, and words in one fixed form.
+//! What commands are parsed by: `clap`, given options that must stand once,
+//! and words in one fixed form.
 
 ghost use Rattle.std.specs.Prelude.{◌≡◌, true, false, Some, IfOk, is_some, map, string_bytes};
 ghost use Rattle.option_words.specs.Spelling.{joined as joined_word, setting};

@@ -1,5 +1,6 @@
 -- The capacity of a stretch in a history.
-use Rattle.std.specs.Prelude.{◌≡◌, ◌⊎◌, ℕ, ◌-◌, ◌^◌, ◌<◌, ◌≤◌, List, ◌++◌, Ok, Err, codes, decimal, length, min}
+use Rattle.std.specs.Prelude.{◌≡◌, ◌⊎◌, ℕ, ◌-◌, ◌^◌, ◌<◌, ◌≤◌, List, ◌++◌, Ok, Err, codes, decimal}
+use Rattle.std.specs.Prelude.{length, min}
 use Rattle.outside_io.specs.declared.disks.Disk.{Ghosts as Disks}
 use Rattle.outside_io.specs.declared.sources.Source.{Ghosts as Sources}
 use Rattle.exit_status.specs.declared.Status.TheVariants.{No}
@@ -86,5 +87,6 @@ pub record HasNoCapacity {Src Snk Dsk : Type 0} (source : Sources Src) (disk : D
 -- *inside*: why the capacity of these trains is not told
 abbrev pub AreRefused : List Occupied → Refusal → Type 0
 AreRefused trains refusal =
-    ((MAX_TRAINS < length trains) × IsTold No (many_line (min (length trains) (2 ^ 32 - 1))) refusal)
+    ((MAX_TRAINS < length trains)
+    × IsTold No (many_line (min (length trains) (2 ^ 32 - 1))) refusal)
     ⊎ (refusal ≡ Memory)

@@ -15,10 +15,11 @@ use exit_status::Status;
 use outside_io::Outside;
 use std::alloc::Global;
 
-/// Runs `capacity` over the names of a network's file, a base timetable's and a journal, the first and the last zone of a
-/// stretch, a window of ticks from `from` on and before `to`, and the name of a text: opens and reads the three, writes
-/// the capacity of the stretch, and reports where something refused. A zone that the network doesn't have, and more
-/// trains than one compression takes, end with `No`.
+/// Runs `capacity` over the names of a network's file, a base timetable's and a journal, the
+/// first and the last zone of a stretch, a window of ticks from `from` on and before `to`, and
+/// the name of a text: opens and reads the three, writes the capacity of the stretch, and reports
+/// where something refused. A zone that the network doesn't have, and more trains than one
+/// compression takes, end with `No`.
 pub fn run_capacity<O: Outside>(
     alloc: Global,
     network: &str,
@@ -41,7 +42,8 @@ pub fn run_capacity<O: Outside>(
     ensures done { result ≡ Status.Done → IsPrinted O.Src.Source O.Snk.Sink O.Dsk.Disk network.now
         base.now journal.now out.now (TellsCapacity (stretch_of first last from to))
         (scene O.Outside outside.old) (scene O.Outside outside.new) }
-    // At No the journal was read, and a zone is none of its network, or the trains of the stretch are too many.
+    // At No the journal was read, and a zone is none of its network, or the trains
+    // of the stretch are too many.
     ensures no { result ≡ Status.No → HasNoCapacity O.Src.Source O.Dsk.Disk network.now base.now
         journal.now (stretch_of first last from to) (scene O.Outside outside.old) }
     // At a refusal no sink gained anything.
@@ -49,7 +51,8 @@ pub fn run_capacity<O: Outside>(
         → Untouched (O.sinks outside.old) (O.sinks outside.new) }
     // Names that are given are never refused as words.
     ensures words { result ≢ Status.Words }
-    // Whatever the status, all that was opened is put back, the journal was only read, and no other disk is touched.
+    // Whatever the status, all that was opened is put back, the journal was only read,
+    // and no other disk is touched.
     ensures back { Undisturbed (O.standing outside.old) (O.standing outside.new) }
     ensures read { WasOnlyRead O.Dsk.Disk (O.disks outside.old journal.now)
         (O.disks outside.new journal.now) }

@@ -6,7 +6,9 @@ ghost use Rattle.capacity_406.specs.Report.{IsCapacityText};
 ghost use Rattle.capacity_406.specs.Trains.{AreBeside, AreOwnApart};
 ghost use Rattle.capacity_406.specs.declared.TheConstants.{MAX_TRAINS as max_trains};
 ghost use Rattle.command_reports.specs.Refusals.{IsTold};
-ghost use Rattle.capacity_command.specs.Capacities.{AreKnown, AreRefused, IsCapacityOf, IsFirstUnknown, IsNotTold, many_line, unknown_line};
+ghost use Rattle.capacity_command.specs.Capacities.{AreKnown, AreRefused, IsCapacityOf};
+ghost use Rattle.capacity_command.specs.Capacities.{IsFirstUnknown, IsNotTold, many_line};
+ghost use Rattle.capacity_command.specs.Capacities.{unknown_line};
 
 use capacity_406::{CapacityFault, Occupied, Stretch, capacity_of};
 use command_reports::Refusal;
@@ -17,8 +19,9 @@ use no_memory::NoMemory;
 use std::alloc::Global;
 use stretch_trains::trains_on;
 
-/// The capacity of a stretch, for its trains in a history. The first of its two zones that the network doesn't have
-/// refuses, as `zone Z unknown`; and more trains than one compression takes, as `trains C too many`.
+/// The capacity of a stretch, for its trains in a history. The first of its two zones that the
+/// network doesn't have refuses, as `zone Z unknown`; and more trains than one compression
+/// takes, as `trains C too many`.
 pub(crate) fn text_of(
     alloc: Global,
     history: &History,

@@ -13,9 +13,9 @@ use Rattle.tail_states.specs.declared.certificates.Closed.{Closed}
 use Rattle.tail_states.specs.Listed.{AreTheMoves, AreThePlaces, Listed}
 use Rattle.certificates.specs.declared.searches.Certified.{Certified}
 
--- All that the check asks of a request and of members holds, and they pass: the places are those of the request, which
--- is within its limits, and no more than are searched; each window has a tick, and the members show that no path of the
--- request can be granted.
+-- All that the check asks of a request and of members holds, and they pass: the places are those of
+-- the request, which is within its limits, and no more than are searched; each window has a tick,
+-- and the members show that no path of the request can be granted.
 pub record Passes (net : Network) (settings : Settings) (live : List Claim) (request : Request)
     (places : Listed) (closed : Closed) : Type 0 where
   pub within : IsRequestWithinLimits request
@@ -25,13 +25,14 @@ pub record Passes (net : Network) (settings : Settings) (live : List Claim) (req
   pub windows : All (λ member. member.window.from ≤ℤ member.window.to) closed.members
   pub proves : IsProof net settings live request closed
 
--- the request that is excluded beside an answer: itself where no path was found, and beside a path the request whose
--- window of arrival ends one tick before the path's last leave
+-- the request that is excluded beside an answer: itself where no path was found, and beside a path
+-- the request whose window of arrival ends one tick before the path's last leave
 abbrev pub excluded : Request → Option Path → Request
 excluded request None = request
 excluded request (Some path) = before request (last_leave path)
 
--- The earliest path of a request, or that there is none; and members that pass the check for what is excluded.
+-- The earliest path of a request, or that there is none; and members that pass
+-- the check for what is excluded.
 pub record IsCertified (net : Network) (settings : Settings) (live : List Claim) (request : Request)
     (places : Listed) (found : Certified) : Type 0 where
   pub answer : IsFinding net settings live request found.path

@@ -28,8 +28,8 @@ RefusalsPass =
     → IsAnswer net settings live request (NoPath closed)
     → Passes net settings live request places closed
 
--- The certificate beside a path passes it for the request whose window of arrival ends one tick before the path's last
--- leave.
+-- The certificate beside a path passes it for the request whose window of arrival ends one tick
+-- before the path's last leave.
 abbrev pub EarlierRefusalsPass : Type 0
 EarlierRefusalsPass =
     (net : Network) (settings : Settings) (live : List Claim) (request : Request)

@@ -5,8 +5,9 @@ ghost use Rattle.certificates.specs.Laws.{CertificatesCanBeTold, EarlierRefusals
 use stair_pieces::a_path_is_a_list_of_moves;
 use tail_states::{places_may_be_cut, sound_networks_are_asked, windows_change_no_places};
 
-/// The certificate of the search passes the check: beside the answer that there is no path for the request, and beside a
-/// path for the request whose window of arrival ends one tick before the path's last leave.
+/// The certificate of the search passes the check: beside the answer that there is no path
+/// for the request, and beside a path for the request whose window of arrival ends one tick
+/// before the path's last leave.
 pub fn certificates_pass()
     ensures refused { RefusalsPass }
     ensures earlier { EarlierRefusalsPass }

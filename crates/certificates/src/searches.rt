@@ -18,8 +18,8 @@ use stair_pieces::a_path_is_a_list_of_moves;
 use std::alloc::Global;
 use tail_states::{Closed, Places};
 
-/// What was found: a path that leaves last as early as any, or None; and the request that is excluded beside it, with
-/// members that show it.
+/// What was found: a path that leaves last as early as any, or None; and the request that is
+/// excluded beside it, with members that show it.
 #[derive(Debug, Drop)]
 pub struct Certified {
     pub path: Option<Path>,
@@ -57,8 +57,9 @@ fn earlier(alloc: Global, request: &Request, path: &Path) -> Result<Request, NoM
     })
 }
 
-/// The path of a request that leaves last as early as any that can be granted beside what the book holds, or None where
-/// none can; with members that pass the check for the request that is excluded beside it.
+/// The path of a request that leaves last as early as any that can be granted beside what
+/// the book holds, or None where none can; with members that pass the check for the
+/// request that is excluded beside it.
 pub fn seek_certified(
     alloc: Global,
     net: &Network,

@@ -1,5 +1,6 @@
 -- What a file of proofs comes to, by a history: its timetable and its entries.
-use Rattle.std.specs.Prelude.{◌≡◌, ◌≢◌, ◌⊎◌, ◌≤◌, ℕ, List, [], ◌++◌, length, take, map, All, codes, decimal, flat_map, Result, Ok, Err}
+use Rattle.std.specs.Prelude.{◌≡◌, ◌≢◌, ◌⊎◌, ◌≤◌, ℕ, List, [], ◌++◌, length, take, map, All, codes}
+use Rattle.std.specs.Prelude.{decimal, flat_map, Result, Ok, Err}
 use Rattle.client_lines.specs.Names.{Names}
 use Rattle.command_reports.specs.Refusals.{IsTold, line_with}
 use Rattle.command_reports.specs.declared.refusals.Refusal.{Refusal}
@@ -28,7 +29,8 @@ IsWide timetable proof = HasMoreThan MAX_PLACES timetable.net proof.request
 abbrev pub IsPast : List Entry → Proof → Type 0
 IsPast entries proof = proof.at ≤ length entries
 
--- the members show that no path could be granted at the proof's front, which is at the first entries
+-- the members show that no path could be granted at the proof's front,
+-- which is at the first entries
 abbrev pub Proves : Timetable → List Entry → Proof → Type 0
 Proves timetable entries proof =
     IsProof timetable.net timetable.settings (live_in timetable (take proof.at entries))
@@ -45,12 +47,14 @@ abbrev pub texts_of : Names → List Proof → List ℕ
 texts_of known proofs = flat_map (proof_text known.railway.stops) proofs
 
 -- proofs that can be told, and hold
-pub record AreGood (known : Names) (timetable : Timetable) (entries : List Entry) (proofs : List Proof) : Type 0 where
+pub record AreGood (known : Names) (timetable : Timetable) (entries : List Entry)
+    (proofs : List Proof) : Type 0 where
   pub told : All (IsProofOf known) proofs
   pub hold : All (Holds timetable entries) proofs
 
 -- the bytes are the texts of these proofs, which hold
-pub record AreProofs (known : Names) (timetable : Timetable) (entries : List Entry) (bytes : List ℕ) (proofs : List Proof)
+pub record AreProofs (known : Names) (timetable : Timetable) (entries : List Entry) (bytes : List ℕ)
+    (proofs : List Proof)
     : Type 0 where
   pub good : AreGood known timetable entries proofs
   pub text_is : bytes ≡ texts_of known proofs
@@ -62,19 +66,22 @@ pub record BeginsWith (known : Names) (text : List ℕ) (proof : Proof) : Type 0
   pub parts : text ≡ proof_text known.railway.stops proof ++ rest
 
 -- something stands there, and it begins with no proof of a front that the history had
-pub record IsNotUnderstood (known : Names) (timetable : Timetable) (entries : List Entry) (text : List ℕ) : Type 0 where
+pub record IsNotUnderstood (known : Names) (timetable : Timetable) (entries : List Entry)
+    (text : List ℕ) : Type 0 where
   pub some : text ≢ []
   pub none : (proof : Proof) → BeginsWith known text proof → ¬ IsPast entries proof
 
 -- it begins with a proof whose request has too many places
-pub record IsTooWide (known : Names) (timetable : Timetable) (entries : List Entry) (text : List ℕ) : Type 0 where
+pub record IsTooWide (known : Names) (timetable : Timetable) (entries : List Entry)
+    (text : List ℕ) : Type 0 where
   pub proof : Proof
   pub begins : BeginsWith known text proof
   pub past : IsPast entries proof
   pub wide : IsWide timetable proof
 
 -- it begins with a proof that does not show what it is to show
-pub record IsFailing (known : Names) (timetable : Timetable) (entries : List Entry) (text : List ℕ) : Type 0 where
+pub record IsFailing (known : Names) (timetable : Timetable) (entries : List Entry)
+    (text : List ℕ) : Type 0 where
   pub proof : Proof
   pub begins : BeginsWith known text proof
   pub past : IsPast entries proof
@@ -88,12 +95,14 @@ doubt_line position why = line_with (codes "proof ") (decimal position ++ why)
 -- what is wrong where a text goes on behind so many proofs, by its line
 abbrev pub IsDoubted : Names → Timetable → List Entry → List ℕ → ℕ → List ℕ → Type 0
 IsDoubted known timetable entries text position line =
-    (IsNotUnderstood known timetable entries text × (line ≡ doubt_line position (codes " not understood")))
+    (IsNotUnderstood known timetable entries text
+    × (line ≡ doubt_line position (codes " not understood")))
     ⊎ ((IsTooWide known timetable entries text × (line ≡ doubt_line position (codes " wide")))
     ⊎ (IsFailing known timetable entries text × (line ≡ doubt_line position (codes " fails"))))
 
 -- behind proofs that hold the bytes go on with one that does not, and this is its line
-pub record HasDoubt (known : Names) (timetable : Timetable) (entries : List Entry) (bytes line : List ℕ) : Type 0 where
+pub record HasDoubt (known : Names) (timetable : Timetable) (entries : List Entry)
+    (bytes line : List ℕ) : Type 0 where
   pub proofs : List Proof
   pub rest : List ℕ
   pub good : AreGood known timetable entries proofs
@@ -105,7 +114,8 @@ abbrev pub done_line : ℕ → List ℕ
 done_line count = line_with (codes "proofs ") (decimal count)
 
 -- the bytes are proofs that hold, and this is the line of their number
-pub record IsDone (known : Names) (timetable : Timetable) (entries : List Entry) (bytes line : List ℕ) : Type 0 where
+pub record IsDone (known : Names) (timetable : Timetable) (entries : List Entry)
+    (bytes line : List ℕ) : Type 0 where
   pub proofs : List Proof
   pub are : AreProofs known timetable entries bytes proofs
   pub line_is : line ≡ done_line (length proofs)
@@ -119,9 +129,14 @@ TellsProofs known timetable entries bytes (Err refusal) =
 
 -- bytes come to one line: that of all proofs, or that of the first doubt
 pub record ProofsAreJudgedOnce : Type 0 where
-  pub done : (known : Names) (timetable : Timetable) (entries : List Entry) (bytes line other : List ℕ)
-      → IsDone known timetable entries bytes line → IsDone known timetable entries bytes other → line ≡ other
-  pub doubt : (known : Names) (timetable : Timetable) (entries : List Entry) (bytes line other : List ℕ)
-      → HasDoubt known timetable entries bytes line → HasDoubt known timetable entries bytes other → line ≡ other
-  pub either : (known : Names) (timetable : Timetable) (entries : List Entry) (bytes line other : List ℕ)
+  pub done : (known : Names) (timetable : Timetable) (entries : List Entry)
+      (bytes line other : List ℕ)
+      → IsDone known timetable entries bytes line → IsDone known timetable entries bytes other
+      → line ≡ other
+  pub doubt : (known : Names) (timetable : Timetable) (entries : List Entry)
+      (bytes line other : List ℕ)
+      → HasDoubt known timetable entries bytes line → HasDoubt known timetable entries bytes other
+      → line ≡ other
+  pub either : (known : Names) (timetable : Timetable) (entries : List Entry)
+      (bytes line other : List ℕ)
       → IsDone known timetable entries bytes line → ¬ HasDoubt known timetable entries bytes other

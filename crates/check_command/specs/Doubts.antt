@@ -10,7 +10,8 @@ use Rattle.rail_types.specs.Timetables.{Timetable}
 use Rattle.proof_texts.specs.declared.refusals.Proof.{Proof}
 use Rattle.proof_texts.specs.Texts.{proof_text}
 use Rattle.proof_texts.specs.Told.{IsProofOf}
-use Rattle.check_command.specs.Checks.{AreGood, Holds, IsFailing, IsNotUnderstood, IsTooWide, doubt_line, texts_of}
+use Rattle.check_command.specs.Checks.{AreGood, Holds, IsFailing, IsNotUnderstood, IsTooWide}
+use Rattle.check_command.specs.Checks.{doubt_line, texts_of}
 use Rattle.check_command.specs.declared.doubts.Doubt.{Doubt}
 use Rattle.check_command.specs.declared.doubts.Why.{Why}
 use Rattle.check_command.specs.declared.doubts.Why.TheVariants as why

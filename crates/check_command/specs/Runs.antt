@@ -44,8 +44,8 @@ abbrev pub EndsRun : {Src Snk Dsk : Type 0} → Sinks Snk → Scene Src Snk Dsk 
 EndsRun sink old new (Ok line) status = ReportsLine sink line old new status
 EndsRun sink old new (Err refusal) status = TellsRefusal sink refusal old new status
 
--- The files were read, then the journal and the proofs, and this was reported: in this order, each name opened once, and
--- all put back.
+-- The files were read, then the journal and the proofs, and this was reported: in this order, each
+-- name opened once, and all put back.
 pub record RunsCheck {Src Snk Dsk : Type 0} (source : Sources Src) (sink : Sinks Snk)
     (disk : Disks Dsk) (network trains base journal proof : List ℕ)
     (old new : Scene Src Snk Dsk) (status : Status) : Type 0 where

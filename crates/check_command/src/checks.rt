@@ -76,7 +76,8 @@ fn check_first(
     }
 }
 
-// Judges the proofs of a text, one behind the other, and tells how many there are; or the first that does not hold.
+// Judges the proofs of a text, one behind the other, and tells how many there are; or
+// the first that does not hold.
 fn check_all(
     alloc: Global,
     known: &Known,
@@ -135,10 +136,11 @@ fn check_bytes(
     Ok(judged)
 }
 
-/// What the bytes of a file of proofs come to by a history: the line of how many there are, where each holds; or the
-/// first that does not. The claims that are live at the first entries are kept in one book, which goes on from the front
-/// of one proof to that of the next; where a front lies before the one before it, the book is made anew. So proofs in the
-/// order of their fronts cost one pass over the entries together.
+/// What the bytes of a file of proofs come to by a history: the line of how many there are, where
+/// each holds; or the first that does not. The claims that are live at the first entries are kept
+/// in one book, which goes on from the front of one proof to that of the next; where a front lies
+/// before the one before it, the book is made anew. So proofs in the order of their fronts cost one
+/// pass over the entries together.
 pub(crate) fn tell_proofs(
     alloc: Global,
     known: &Known,

@@ -4,7 +4,9 @@ ghost use Rattle.std.specs.Prelude.{◌≤◌, IfOk, length};
 ghost use Rattle.check_command.specs.Files.{ProofFileStep};
 ghost use Rattle.file_rounds.specs.Reading.{ReadSays};
 ghost use Rattle.file_rounds.specs.Scenes.{ChangesOnlySource, scene};
-ghost use Rattle.proof_texts.specs.declared.reading.TheConstants.{MAX_PROOF_FILE_BYTES as most_bytes};
+ghost use Rattle.proof_texts.specs.declared.reading.TheConstants.{
+  MAX_PROOF_FILE_BYTES as most_bytes,
+};
 
 use command_reports::Refusal;
 use exit_status::Status;
@@ -13,7 +15,8 @@ use outside_io::{AllFault, Outside, read_all};
 use proof_texts::MAX_PROOF_FILE_BYTES;
 use std::alloc::Global;
 
-// Opens a source, reads it to its end, and puts it back; its bytes are no more than a file of proofs may have.
+// Opens a source, reads it to its end, and puts it back; its bytes are no more
+// than a file of proofs may have.
 fn bytes_of<O: Outside>(alloc: Global, name: &str, outside: &mut O) -> Result<Vec<u8>, FileFault>
     ensures says { ReadSays O.Src.Source most_bytes name.now (scene O.Outside outside.old)
         (scene O.Outside outside.new) result }
@@ -34,8 +37,9 @@ fn bytes_of<O: Outside>(alloc: Global, name: &str, outside: &mut O) -> Result<Ve
     }
 }
 
-/// Opens a file of proofs, reads it as a whole, and puts it back. A name that could not be opened refuses as `open: NAME`,
-/// one that failed as `read: NAME`, and a file of too many bytes as `proof file too long`.
+/// Opens a file of proofs, reads it as a whole, and puts it back. A name that could not be
+/// opened refuses as `open: NAME`, one that failed as `read: NAME`, and a file of too many
+/// bytes as `proof file too long`.
 pub(crate) fn read_proof_file<O: Outside>(
     alloc: Global,
     name: &str,

@@ -5,7 +5,8 @@ ghost use Rattle.client_lines.specs.Within.{AreSound};
 ghost use Rattle.file_rounds.specs.Scenes.{scene};
 ghost use Rattle.proof_texts.specs.declared.reading.TheConstants.{MAX_PROOF_FILE_BYTES};
 ghost use Rattle.check_command.specs.Checks.{TellsProofs};
-ghost use Rattle.check_command.specs.Works.{IsBaseRead, ReadsJournal, ReadsProofs, named_by, names_of, plain_of};
+ghost use Rattle.check_command.specs.Works.{IsBaseRead, ReadsJournal, ReadsProofs, named_by};
+ghost use Rattle.check_command.specs.Works.{names_of, plain_of};
 
 use crate::checks::tell_proofs;
 use crate::files::read_proof_file;
@@ -31,8 +32,8 @@ pub(crate) struct Parts {
     trains: Trains,
 }
 
-// A network's file without the names, since a history judges by numbers alone; and the names, which the texts of proofs
-// have.
+// A network's file without the names, since a history judges by numbers alone; and the names,
+// which the texts of proofs have.
 fn parted(alloc: Global, network: NetworkFile, trains: Trains) -> (NetworkFile, Parts)
     ensures plain { result.0 ≡ plain_of network }
     ensures parts { named_by network.named.network result.1 ≡ names_of network trains }

@@ -1,4 +1,5 @@
-//! The command `check`: proofs that requests could not be granted, judged by the history of a journal.
+//! The command `check`: proofs that requests could not be granted, judged
+//! by the history of a journal.
 #![tactic(auto)]
 
 mod checks;

@@ -1,4 +1,5 @@
-//! A history that is gone through, forward and back, with a book of the claims that are live where it stands.
+//! A history that is gone through, forward and back, with a book of the claims
+//! that are live where it stands.
 
 ghost use Rattle.std.specs.Prelude.{◌≡◌, ◌≤◌, length, IfOk, OnOk};
 ghost use Rattle.grant_log.specs.Legal.{IsLegal};
@@ -11,8 +12,8 @@ use occupation_book::Occupations;
 use rail_types::Entry;
 use std::alloc::Global;
 
-/// A history that stands at its first entries; those behind them, the last first; and a book of the claims that are live
-/// at the first ones.
+/// A history that stands at its first entries; those behind them, the last first; and a book of the
+/// claims that are live at the first ones.
 #[derive(Drop)]
 pub(crate) struct Replay {
     pub(crate) history: History,
@@ -59,8 +60,8 @@ fn go_on(history: &mut History, ahead: &mut Vec<Entry>, front: u64) -> Result<()
     Ok(())
 }
 
-/// A replay that stands before the first entry. Its work goes by the number of entries, which are moved, and by the claims
-/// of the base timetable.
+/// A replay that stands before the first entry. Its work goes by the number of entries, which are
+/// moved, and by the claims of the base timetable.
 pub(crate) fn begin(alloc: Global, history: History) -> Result<Replay, NoMemory>
     ensures timetable { IfOk result (λ replay. replay.history.timetable ≡ history.timetable) }
     ensures all { IfOk result (λ replay. entries_of replay ≡ history.entries) }
@@ -107,8 +108,9 @@ fn go_ahead(alloc: Global, replay: &mut Replay, front: u64) -> Result<(), NoMemo
     Ok(())
 }
 
-/// Makes a replay stand at so many entries. Its work goes by the entries between where it stood and where it stands then;
-/// and where it goes back, by all entries before, since the book is made anew.
+/// Makes a replay stand at so many entries. Its work goes by the entries between where
+/// it stood and where it stands then; and where it goes back, by all entries before,
+/// since the book is made anew.
 pub(crate) fn go_to(alloc: Global, replay: &mut Replay, front: u64) -> Result<(), NoMemory>
     requires legal { IsLegal replay.old.history.timetable (entries_of replay.old) }
     requires within { front ≤ length (entries_of replay.old) }

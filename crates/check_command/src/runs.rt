@@ -15,10 +15,11 @@ use outside_io::Outside;
 use rail_types::List;
 use std::alloc::Global;
 
-/// Runs `check` over the names of a network's file, a train file, a base timetable's, a journal and a file of proofs: opens
-/// and reads them, judges each proof at the first entries of the journal's history that it names, and reports how many
-/// proofs there are, where each holds; or what refused. A proof that is not understood, one whose request has too many
-/// places and one that fails end with `No`, the first of them told, and so does a file of proofs that is too long.
+/// Runs `check` over the names of a network's file, a train file, a base timetable's, a journal and
+/// a file of proofs: opens and reads them, judges each proof at the first entries of the journal's
+/// history that it names, and reports how many proofs there are, where each holds; or what refused.
+/// A proof that is not understood, one whose request has too many places and one that fails end
+/// with `No`, the first of them told, and so does a file of proofs that is too long.
 pub fn run_check<O: Outside>(
     alloc: Global,
     network: &str,
@@ -42,7 +43,8 @@ pub fn run_check<O: Outside>(
     ensures clean { Untouched (O.sinks outside.old) (O.sinks outside.new) }
     // Names that are given are never refused as words.
     ensures words { result ≢ Status.Words }
-    // Whatever the status, all that was opened is put back, the journal was only read, and no other disk is touched.
+    // Whatever the status, all that was opened is put back, the journal was only read,
+    // and no other disk is touched.
     ensures back { Undisturbed (O.standing outside.old) (O.standing outside.new) }
     ensures read { WasOnlyRead O.Dsk.Disk (O.disks outside.old journal.now)
         (O.disks outside.new journal.now) }

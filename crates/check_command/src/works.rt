@@ -12,7 +12,8 @@ use rail_types::List;
 use std::alloc::Global;
 use train_file::Trains;
 
-/// Reads all that the command names, in order, and tells the line that is reported where all proofs hold.
+/// Reads all that the command names, in order, and tells the line that is
+/// reported where all proofs hold.
 pub(crate) fn work<O: Outside>(
     alloc: Global,
     network: &str,

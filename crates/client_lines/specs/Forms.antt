@@ -1,19 +1,22 @@
 -- The form of a line: which fields it has, one after another, and what they say together.
-use Rattle.std.specs.Prelude.{◌≡◌, ℕ, ◌+◌, ◌^◌, ◌<◌, ◌≤◌, ◌⊎◌, ℤ, ◌<ℤ◌, List, [], ◌∷◌, ◌++◌, length, take, Option, Some, None, decimal}
+use Rattle.std.specs.Prelude.{◌≡◌, ℕ, ◌+◌, ◌^◌, ◌<◌, ◌≤◌, ◌⊎◌, ℤ, ◌<ℤ◌, List, [], ◌∷◌, ◌++◌, length}
+use Rattle.std.specs.Prelude.{take, Option, Some, None, decimal}
 use Rattle.std.specs.Fmt.{signed_decimal}
 use Rattle.json_fields.specs.Escapes.{escaped}
 use Rattle.name_text.specs.Spellings.{AreBytes}
 use Rattle.rail_types.specs.Limits.{IsTick}
 
--- The kinds of fields, by what a field of the kind says: a number of 64 bits, from the first of two on and below the
--- second; a tick, later than the one given where one is; what a text stands for; what a name stands for.
+-- The kinds of fields, by what a field of the kind says: a number of 64 bits, from the first of
+-- two on and below the second; a tick, later than the one given where one is; what a text stands
+-- for; what a name stands for.
 pub data Kind : Type 0 → Type 1 where
   a_number : ℕ → ℕ → Kind ℕ
   a_tick : Option ℤ → Kind ℤ
   a_word : {A : Type 0} → (List ℕ → Option A) → Kind A
   a_name : {A : Type 0} → (List ℕ → Option A) → Kind A
 
--- The forms: no field at all; one field; one form, and behind it another that depends on what the first said.
+-- The forms: no field at all; one field; one form, and behind it another that
+-- depends on what the first said.
 pub data Form : Type 0 → Type 1 where
   done : {A : Type 0} → A → Form A
   one : {A : Type 0} → Kind A → Form A
@@ -60,9 +63,10 @@ Begins (chain {A} form next) fields =
     ⊎ ((first : A) × (front : List (List ℕ)) × (back : List (List ℕ)) × (fields ≡ front ++ back)
     × Spells form front first × Begins (next first) back)
 
--- The first wrong field, counted from 1: those before it are as the form wants them; with it they are not, or they end
--- before it and say nothing yet.
-pub record IsFirstWrong {A : Type 0} (form : Form A) (fields : List (List ℕ)) (at : ℕ) : Type 0 where
+-- The first wrong field, counted from 1: those before it are as the form wants them; with it they
+-- are not, or they end before it and say nothing yet.
+pub record IsFirstWrong {A : Type 0} (form : Form A) (fields : List (List ℕ))
+    (at : ℕ) : Type 0 where
   pub before : ℕ
   pub next : at ≡ before + 1
   pub there : before ≤ length fields

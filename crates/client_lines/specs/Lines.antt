@@ -1,7 +1,10 @@
 -- The forms of clients' lines: which fields each has, and what it asks for.
-use Rattle.std.specs.Prelude.{ℕ, zero, suc, ◌+◌, ℤ, Bool, List, [], ◌∷◌, length, Option, Some, None, nat_eq, nat_le, option_map, codes, bytes_eq, if◌then◌else◌}
+use Rattle.std.specs.Prelude.{ℕ, zero, suc, ◌+◌, ℤ, Bool, List, [], ◌∷◌, length, Option, Some, None}
+use Rattle.std.specs.Prelude.{nat_eq, nat_le, option_map, codes, bytes_eq, if◌then◌else◌}
 use Rattle.id_lists.specs.Ids.{number_of}
-use Rattle.rail_types.specs.declared.limits.TheConstants.{MAX_NUMBER, MAX_STOPS, MAX_DWELL, MAX_PINNED_RUNS, MAX_HOLD_CLAIMS, MAX_REASON_BYTES}
+use Rattle.rail_types.specs.declared.limits.TheConstants.{MAX_NUMBER, MAX_STOPS, MAX_DWELL}
+use Rattle.rail_types.specs.declared.limits.TheConstants.{MAX_PINNED_RUNS, MAX_HOLD_CLAIMS}
+use Rattle.rail_types.specs.declared.limits.TheConstants.{MAX_REASON_BYTES}
 use Rattle.rail_types.specs.declared.paths.Claim.{Claim}
 use Rattle.rail_types.specs.declared.paths.Run.{Run}
 use Rattle.rail_types.specs.declared.paths.Window.{Window}
@@ -119,7 +122,8 @@ a_pin known = do
   runs ← groups (a_run known) None count
   done (asks.Pin number (record { train = train; runs = runs }))
 
--- TRAIN ORIGIN DESTINATION DEPART_FROM DEPART_TO ARRIVE_FROM ARRIVE_TO COUNT, then COUNT times STOP DWELL
+-- TRAIN ORIGIN DESTINATION DEPART_FROM DEPART_TO ARRIVE_FROM ARRIVE_TO
+-- COUNT, then COUNT times STOP DWELL
 unfoldable pub a_request : Names → Form Request
 a_request known = do
   train ← a_train known

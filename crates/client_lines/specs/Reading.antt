@@ -1,5 +1,9 @@
--- Inside: a line read field by field from the left, with the number of the first field that is wrong.
-use Rattle.std.specs.Prelude.{◌≡◌, ℕ, zero, suc, ◌+◌, ◌^◌, ℤ, pos, negsuc, Bool, true, false, ◌&&◌, ◌||◌, not, List, [], ◌∷◌, length, drop, slice_get, Option, Some, None, Result, Ok, Err, nat_eq, nat_le, nat_lt, int_lt, option_map, option_and_then, if◌then◌else◌}
+-- Inside: a line read field by field from the left, with the number of
+-- the first field that is wrong.
+use Rattle.std.specs.Prelude.{◌≡◌, ℕ, zero, suc, ◌+◌, ◌^◌, ℤ, pos, negsuc, Bool, true, false, ◌&&◌}
+use Rattle.std.specs.Prelude.{◌||◌, not, List, [], ◌∷◌, length, drop, slice_get, Option, Some, None}
+use Rattle.std.specs.Prelude.{Result, Ok, Err, nat_eq, nat_le, nat_lt, int_lt, option_map}
+use Rattle.std.specs.Prelude.{option_and_then, if◌then◌else◌}
 use Rattle.std.specs.Char.{is_ascii_digit}
 use Rattle.std.specs.Int.{int_gap}
 use Rattle.std.specs.List.{list_all}
@@ -8,7 +12,8 @@ use Rattle.name_text.specs.Reading.{name_in}
 use Rattle.rail_types.specs.declared.limits.TheConstants.{MAX_TICK}
 use Rattle.client_lines.specs.declared.faults.LineFault.{LineFault}
 use Rattle.client_lines.specs.declared.faults.LineFault.TheVariants.{Bad, Memory}
-use Rattle.client_lines.specs.Forms.{IsFirstWrong, Kind, a_number, a_tick, a_word, a_name, Form, done, one, chain}
+use Rattle.client_lines.specs.Forms.{IsFirstWrong, Kind, a_number, a_tick, a_word, a_name, Form}
+use Rattle.client_lines.specs.Forms.{done, one, chain}
 
 -- ---- what a field says, worked out from its bytes
 

@@ -4,7 +4,8 @@ use Rattle.named_network.specs.Named.{IsNamed}
 use Rattle.rail_types.specs.declared.limits.TheConstants.{MAX_NUMBER, MAX_PINNED_RUNS}
 use Rattle.rail_types.specs.declared.tracks.Network.{Network}
 use Rattle.rail_types.specs.declared.trains.Request.{Request}
-use Rattle.rail_types.specs.Limits.{IsHoldWithinLimits, IsPathWithinLimits, IsRequestWithinLimits, IsTrainWithinLimits}
+use Rattle.rail_types.specs.Limits.{IsHoldWithinLimits, IsPathWithinLimits, IsRequestWithinLimits}
+use Rattle.rail_types.specs.Limits.{IsTrainWithinLimits}
 use Rattle.client_lines.specs.declared.asks.Ask.{Ask}
 use Rattle.client_lines.specs.declared.asks.Ask.TheVariants as asks
 use Rattle.client_lines.specs.declared.asks.Line.{Line}

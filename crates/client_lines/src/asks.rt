@@ -2,9 +2,10 @@
 
 use rail_types::{Claim, List, Name, Path, Request};
 
-/// What a line asks for, behind the client's own number for it, which `show` and `front` do not have: 1 to 64 claims to
-/// be held for a reason, by zone and then by begin, where a line without a reason has one claim and an empty reason; a
-/// path that the client gives; a path that is sought; an entry to be freed; an entry to be shown; the front.
+/// What a line asks for, behind the client's own number for it, which `show` and `front` do not
+/// have: 1 to 64 claims to be held for a reason, by zone and then by begin, where a line without a
+/// reason has one claim and an empty reason; a path that the client gives; a path that is sought;
+/// an entry to be freed; an entry to be shown; the front.
 #[derive(Debug, Drop)]
 pub enum Ask {
     Hold(u64, List<Claim>, Name),
@@ -15,7 +16,8 @@ pub enum Ask {
     Front,
 }
 
-/// A line of a client: the front that it is to be answered at or behind, if it names one, and what it asks for.
+/// A line of a client: the front that it is to be answered at or behind, if it
+/// names one, and what it asks for.
 #[derive(Debug, Drop)]
 pub struct Line {
     pub after: Option<u64>,

@@ -1,6 +1,7 @@
 //! A line cut into its fields.
 
-ghost use Rattle.std.specs.Prelude.{◌≡◌, ◌<◌, ◌+◌, ◌^◌, false, length, option_map, slice_get, drop, option_and_then, IfNone, IfOk, IfSome, OnOk};
+ghost use Rattle.std.specs.Prelude.{◌≡◌, ◌<◌, ◌+◌, ◌^◌, false, length, option_map, slice_get, drop};
+ghost use Rattle.std.specs.Prelude.{option_and_then, IfNone, IfOk, IfSome, OnOk};
 ghost use Rattle.client_lines.specs.Cuts.{fields_of, IsCutAt, Lacks};
 ghost use Rattle.client_lines.specs.Forms.{a_number, a_tick, one};
 ghost use Rattle.client_lines.specs.Reading.{Gives, field_name, read};

@@ -1,7 +1,8 @@
 //! The fields that lines have in common, one by one and in groups.
 
 ghost use Rattle.std.specs.Prelude.{◌≡◌};
-ghost use Rattle.client_lines.specs.Lines.{end_before, least_zone, a_flag, a_point, a_position, a_reason, a_train, a_window};
+ghost use Rattle.client_lines.specs.Lines.{end_before, least_zone, a_flag, a_point, a_position};
+ghost use Rattle.client_lines.specs.Lines.{a_reason, a_train, a_window};
 ghost use Rattle.client_lines.specs.Reading.{Gives, read};
 
 use crate::cuts::Fields;

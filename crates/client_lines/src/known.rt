@@ -14,8 +14,9 @@ use std::alloc::Global;
 use std::marker::Model;
 use train_file::Trains;
 
-/// What lines may name: the zones, blocks and operational points of a network, and the trains of a file. Points and
-/// trains are found by their names without a search. Contracts see the network and the trains.
+/// What lines may name: the zones, blocks and operational points of a network, and the
+/// trains of a file. Points and trains are found by their names without a search. Contracts
+/// see the network and the trains.
 #[derive(Drop)]
 pub struct Known {
     railway: Named,

@@ -5,7 +5,8 @@ ghost use Rattle.client_lines.specs.Cuts.{fields_of};
 ghost use Rattle.client_lines.specs.declared.asks.Line.{Line as line_type};
 ghost use Rattle.client_lines.specs.declared.lines.TheConstants.{MAX_LINE_BYTES};
 ghost use Rattle.client_lines.specs.Forms.{IsFirstWrong, Spells};
-ghost use Rattle.client_lines.specs.Lines.{a_free, a_hold, a_holds, a_line, a_pin, a_request, a_show, an_ask, behind, behind_first};
+ghost use Rattle.client_lines.specs.Lines.{a_free, a_hold, a_holds, a_line, a_pin, a_request};
+ghost use Rattle.client_lines.specs.Lines.{a_show, an_ask, behind, behind_first};
 ghost use Rattle.client_lines.specs.Reading.{Gives, GivesAll, line_reading, read, RefusesFirst};
 
 use crate::asks::{Ask, Line, Word};
@@ -168,8 +169,9 @@ fn read_all(alloc: Global, line: &[u8], known: &Known) -> Result<Line, LineFault
     }
 }
 
-/// Reads a line of a client. One that asks for nothing is told its first wrong field, counted from 1: the first that is
-/// not in its form or range, names what is not there, is missing, or is one too many. Else memory was wanted.
+/// Reads a line of a client. One that asks for nothing is told its first wrong field, counted from
+/// 1: the first that is not in its form or range, names what is not there, is missing, or is one
+/// too many. Else memory was wanted.
 pub fn read_line(alloc: Global, line: &[u8], known: &Known) -> Result<Line, LineFault>
     requires { length line.now ≤ MAX_LINE_BYTES }
     // What is read is what the line spells.

@@ -1,5 +1,6 @@
 -- Clients that are served together, and the files where their proofs go.
-use Rattle.std.specs.Prelude.{◌≢◌, ◌≤◌, ⊤, List, [], ◌∷◌, ◌++◌, All, AllPairs, length, Option, None, Some}
+use Rattle.std.specs.Prelude.{◌≢◌, ◌≤◌, ⊤, List, [], ◌∷◌, ◌++◌, All, AllPairs, length, Option, None}
+use Rattle.std.specs.Prelude.{Some}
 use Rattle.outside_io.specs.Openings.{Opening}
 use Rattle.rail_types.specs.Limits.{IsClientName}
 use Rattle.client_streams.specs.Clients.{AreDistinct, IsFit, stream_calls, stream_loans}
@@ -13,14 +14,15 @@ use Rattle.proof_words.specs.declared.proofs.ProofWord.{ProofWord}
 use Rattle.request_server.specs.declared.plans.Plan.{Plan}
 use Rattle.request_server.specs.declared.plans.Session.{Session}
 
--- the opening calls of clients, in order: of each its source, then its sink, and then the file of its proofs if it has one
+-- the opening calls of clients, in order: of each its source, then its sink, and then the
+-- file of its proofs if it has one
 abbrev pub client_calls : List ClientWord → List ProofWord → List Opening
 client_calls [] proofs = []
 client_calls (client ∷ clients) proofs =
     stream_calls client (proof_of proofs client.client) ++ client_calls clients proofs
 
--- 1 to 16 clients, with names of clients, whose names are distinct, and so are the names of all that is opened for them:
--- their inputs, and their outputs and files together
+-- 1 to 16 clients, with names of clients, whose names are distinct, and so are the names of all
+-- that is opened for them: their inputs, and their outputs and files together
 pub record AreClients (clients : List ClientWord) (proofs : List ProofWord) : Type 0 where
   pub some : 1 ≤ length clients
   pub few : length clients ≤ 16
@@ -50,7 +52,8 @@ client_loans (client ∷ clients) proofs [] = []
 client_loans (client ∷ clients) proofs (one ∷ streams) =
     stream_loans client (proof_of proofs client.client) one ++ client_loans clients proofs streams
 
--- there are streams for each of these clients, with a sink of proofs exactly where it has a file for them
+-- there are streams for each of these clients, with a sink of proofs exactly
+-- where it has a file for them
 abbrev pub AreFit : {Src Snk : Type 0} → List ClientWord → List ProofWord
     → List (ClientStreams Src Snk) → Type 0
 AreFit [] proofs [] = ⊤

@@ -1,4 +1,5 @@
-//! The clients of a run: their streams opened in the order of their words and put back, and their rules.
+//! The clients of a run: their streams opened in the order of their words
+//! and put back, and their rules.
 #![tactic(auto)]
 
 mod opening;

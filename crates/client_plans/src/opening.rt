@@ -2,7 +2,8 @@
 
 ghost use Rattle.std.specs.Prelude.{◌≡◌, ◌≢◌, ℕ, List, map, IfErr, IfOk};
 ghost use Rattle.file_rounds.specs.Scenes.{scene};
-ghost use Rattle.client_plans.specs.Clients.{AreClients, AreFit, client_calls, client_loans, sink_in, streams_of};
+ghost use Rattle.client_plans.specs.Clients.{AreClients, AreFit, client_calls, client_loans};
+ghost use Rattle.client_plans.specs.Clients.{sink_in, streams_of};
 ghost use Rattle.client_rules.specs.Clients.{rules_named};
 ghost use Rattle.client_streams.specs.Clients.{AreDistinct, IsFit, stream_calls, stream_loans};
 ghost use Rattle.client_streams.specs.Lending.{AreOut};
@@ -21,11 +22,11 @@ use proof_words::{ProofWord, proof_of};
 use request_server::Plan;
 use std::alloc::Global;
 
-/// Opens the source and the sink of each client, and the file of its proofs if it has one, in the order of the clients, takes
-/// what the outside has called between its searches, and takes its rules out of those of all: those in the elements with its
-/// name, in order. Where a name cannot be
-/// opened, or memory is wanted, all that was opened is put back as it was; a name that cannot be opened refuses, as
-/// `open: NAME`.
+/// Opens the source and the sink of each client, and the file of its proofs if it has one, in the
+/// order of the clients, takes what the outside has called between its searches, and takes its
+/// rules out of those of all: those in the elements with its name, in order. Where a name cannot be
+/// opened, or memory is wanted, all that was opened is put back as it was; a name that cannot be
+/// opened refuses, as `open: NAME`.
 pub fn open_clients<O: Outside, L: Rule>(
     alloc: Global,
     clients: &[ClientWord],

@@ -1,5 +1,6 @@
 -- Rules as they stand, what they say, and what they are told.
-use Rattle.std.specs.Prelude.{ℕ, if◌then◌else◌, List, [], ◌∷◌, map, Option, Some, None, option_and_then}
+use Rattle.std.specs.Prelude.{ℕ, if◌then◌else◌, List, [], ◌∷◌, map, Option, Some, None}
+use Rattle.std.specs.Prelude.{option_and_then}
 use Rattle.admission_rules.specs.Senses.{Sense}
 use Rattle.admission_rules.specs.declared.rules.Rule.{Ghosts}
 use Rattle.admission_rules.specs.declared.rules.Wish.{Wish}

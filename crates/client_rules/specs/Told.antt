@@ -1,5 +1,6 @@
 -- What rules are told by the entries of a history.
-use Rattle.std.specs.Prelude.{ℕ, List, [], ◌∷◌, take, Option, Some, None, option_and_then, slice_get}
+use Rattle.std.specs.Prelude.{ℕ, List, [], ◌∷◌, take, Option, Some, None, option_and_then}
+use Rattle.std.specs.Prelude.{slice_get}
 use Rattle.admission_rules.specs.declared.rules.Wish.{Wish}
 use Rattle.rail_types.specs.declared.entries.Deed.{Deed}
 use Rattle.rail_types.specs.declared.entries.Deed.TheVariants.{Hold, Grant, Free}
@@ -11,8 +12,8 @@ use Rattle.client_rules.specs.Wishes.{wish_of}
 abbrev pub wish_at : List Entry → ℕ → Option Wish
 wish_at entries at = option_and_then (λ entry. wish_of entry.deed) (slice_get entries at)
 
--- rules, once they were told of a deed behind these entries: of a grant that it was granted, and of a Free of a grant that
--- this one was freed; of other deeds they are told nothing
+-- rules, once they were told of a deed behind these entries: of a grant that it was granted, and of
+-- a Free of a grant that this one was freed; of other deeds they are told nothing
 abbrev pub told_deed : List Entry → Deed → List Ruled → List Ruled
 told_deed before (Grant wanted path) rules = granted (wish_of (Grant wanted path)) rules
 told_deed before (Free at) rules = freed (wish_at before at) rules

@@ -1,5 +1,6 @@
 -- What rules are asked, by requests, paths and deeds.
-use Rattle.std.specs.Prelude.{◌-◌, ℤ, Option, Some, None, length, option_and_then, option_map, slice_get}
+use Rattle.std.specs.Prelude.{◌-◌, ℤ, Option, Some, None, length, option_and_then, option_map}
+use Rattle.std.specs.Prelude.{slice_get}
 use Rattle.admission_rules.specs.declared.rules.Wish.{Wish}
 use Rattle.rail_types.specs.declared.entries.Deed.{Deed}
 use Rattle.rail_types.specs.declared.entries.Deed.TheVariants.{Hold, Grant, Free}
@@ -36,7 +37,8 @@ given_wish path =
     option_and_then (λ first. option_map (wish_between path.train first)
     (slice_get path.runs (length path.runs - 1))) (slice_get path.runs 0)
 
--- what was wished by a deed: by a grant, what its request asks for or its path gives; by others nothing
+-- what was wished by a deed: by a grant, what its request asks for or its
+-- path gives; by others nothing
 abbrev pub wish_of : Deed → Option Wish
 wish_of (Grant (Asked request) path) = Some (asked_wish request)
 wish_of (Grant Pinned path) = given_wish path

@@ -14,8 +14,8 @@ pub struct ClientRules<L> {
     pub rules: Vec<L>,
 }
 
-/// Takes the rules of a client out of those of all: those in the elements with its name, in order. For want of memory a
-/// part of them is lost.
+/// Takes the rules of a client out of those of all: those in the elements with its name, in order.
+/// For want of memory a part of them is lost.
 pub fn take_rules<L: Drop>(
     alloc: Global,
     client: &Name,

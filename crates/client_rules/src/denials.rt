@@ -6,8 +6,8 @@ ghost use Rattle.client_rules.specs.Ruled.{denied_by, first_no, stand};
 use admission_rules::{Rule, Wish};
 use rule_names::RuleName;
 
-/// The name of the first of the rules that does not allow what is wished, None where each allows it. Where nothing is
-/// wished, none is asked.
+/// The name of the first of the rules that does not allow what is wished, None where each allows
+/// it. Where nothing is wished, none is asked.
 pub fn first_denial<L: Rule>(rules: &[L], wish: &Option<Wish>) -> Option<RuleName>
     ensures { result ≡ denied_by (stand L.Rule rules.now) wish.now }
 {

@@ -5,7 +5,8 @@ ghost use Rattle.client_rules.specs.Ruled.{freed, granted, stand, with_free, wit
 
 use admission_rules::{Rule, Wish};
 
-/// Tells each of the rules that what was wished was granted. Where nothing was wished, none is told.
+/// Tells each of the rules that what was wished was granted. Where
+/// nothing was wished, none is told.
 pub fn tell_granted<L: Rule>(rules: &mut [L], wish: &Option<Wish>)
     ensures { stand L.Rule rules.new ≡ granted wish.now (stand L.Rule rules.old) }
 {
@@ -14,8 +15,8 @@ pub fn tell_granted<L: Rule>(rules: &mut [L], wish: &Option<Wish>)
     }
 }
 
-/// Tells each of the rules that what was wished was freed, once it had been granted. Where nothing was wished, none is
-/// told.
+/// Tells each of the rules that what was wished was freed, once it had been granted. Where
+/// nothing was wished, none is told.
 pub fn tell_freed<L: Rule>(rules: &mut [L], wish: &Option<Wish>)
     ensures { stand L.Rule rules.new ≡ freed wish.now (stand L.Rule rules.old) }
 {

@@ -17,8 +17,8 @@ pub fn asked_wish(request: &Request) -> Wish
     }
 }
 
-/// What is wished by a path that is given: the train's length, and the single ticks of its departure and its arrival.
-/// None where it has no runs.
+/// What is wished by a path that is given: the train's length, and the single ticks of its
+/// departure and its arrival. None where it has no runs.
 pub fn given_wish(path: &Path) -> Option<Wish>
     ensures { result ≡ given_wish path.now }
 {
@@ -48,7 +48,8 @@ fn wish_between(train: &Train, first: &Run, last: &Run) -> Wish
     }
 }
 
-/// What was wished by a deed: by a grant, what its request asks for or its path gives; by others nothing.
+/// What was wished by a deed: by a grant, what its request asks for or its
+/// path gives; by others nothing.
 pub fn wish_of(deed: &Deed) -> Option<Wish>
     ensures { result ≡ wish_of deed.now }
 {

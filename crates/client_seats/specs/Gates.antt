@@ -34,7 +34,8 @@ pub record IsOpened {D : Type 0} (book : Ledger D) (known : Names) (clients : �
   pub host : IsHost shared pass
   pub share : (view pass).share ≡ clients * 400000 + 1
 
--- a client of this name that knows the entries of a book, and what its rules are told of its own ones there
+-- a client of this name that knows the entries of a book, and what its rules
+-- are told of its own ones there
 pub record IsNewcomer (timetable : Timetable) (entries : List Entry) (name : List ℕ)
     (newcomer : Newcomer) : Type 0 where
   pub name_is : newcomer.client.name ≡ name

@@ -6,7 +6,8 @@ use Rattle.line_answers.specs.Calls.{IsToldIn}
 use Rattle.line_answers.specs.declared.shared.Shared.{Shared}
 use Rattle.rail_types.specs.declared.entries.Entry.{Entry}
 use Rattle.client_seats.specs.Seats.{callers_at, found_at}
-use Rattle.client_seats.specs.Talks.{AreBelowEnd, AreProved, AreSettledWithin, faults, IsTalk, IsWithinSettled, printed, Talk, unsettled}
+use Rattle.client_seats.specs.Talks.{AreBelowEnd, AreProved, AreSettledWithin, faults, IsTalk}
+use Rattle.client_seats.specs.Talks.{IsWithinSettled, printed, Talk, unsettled}
 
 -- what a history gives to one of the clients, by no fewer entries than were found
 abbrev pub IsTalkOf : {D : Type 0} → Shared D → List Entry → Talk → Type 0
@@ -14,8 +15,8 @@ IsTalkOf shared history talk =
     IsTalk history (callers_at shared talk.name) (length (found_at shared.gate)) talk.rules
     talk.traffic.told
 
--- the proofs that go along with the replies to one of the clients are what a history gives, by no fewer entries than were
--- found
+-- the proofs that go along with the replies to one of the clients are what a history gives, by no
+-- fewer entries than were found
 abbrev pub AreProofsOf : {D : Type 0} → Shared D → List Entry → Talk → Type 0
 AreProofsOf shared history talk =
     AreProved history shared.known (timetable_at shared.gate) talk.proves

@@ -1,5 +1,7 @@
 -- What many clients at once are told.
-use Rattle.std.specs.Prelude.{◌≡◌, ◌⊎◌, ℕ, ◌+◌, ◌-◌, ◌^◌, ◌≤◌, Bool, false, bytes_eq, All, Any, Contains, Option, Some, None, List, [], ◌∷◌, filter, flat_map, drop, length, slice_get, sum_by}
+use Rattle.std.specs.Prelude.{◌≡◌, ◌⊎◌, ℕ, ◌+◌, ◌-◌, ◌^◌, ◌≤◌, Bool, false, bytes_eq, All, Any}
+use Rattle.std.specs.Prelude.{Contains, Option, Some, None, List, [], ◌∷◌, filter, flat_map, drop}
+use Rattle.std.specs.Prelude.{length, slice_get, sum_by}
 use Rattle.book_gate.specs.Views.{StartsWith, positions}
 use Rattle.client_lines.specs.Names.{Names}
 use Rattle.client_rules.specs.Ruled.{Ruled}
@@ -10,7 +12,8 @@ use Rattle.line_answers.specs.Rules.{denial}
 use Rattle.path_commit.specs.Ledgers.{Ledger, settled_of}
 use Rattle.rail_types.specs.declared.entries.Entry.{Entry}
 use Rattle.rail_types.specs.Timetables.{Timetable}
-use Rattle.client_seats.specs.Talks.{AreProved, Callers, faults, IsTalk, IsWithinSettled, printed, Talk, unsettled}
+use Rattle.client_seats.specs.Talks.{AreProved, Callers, faults, IsTalk, IsWithinSettled, printed}
+use Rattle.client_seats.specs.Talks.{Talk, unsettled}
 
 -- the callers of the lines of a client of this name: its rules, as they stand then, may deny a line
 abbrev pub callers_of : Names → Timetable → List ℕ → Callers
@@ -46,12 +49,12 @@ pub record IsRun {D : Type 0} (disk_faults : D → ℕ) (known : Names) (found l
     (talks : List Talk) : Type 0 where
   pub begins : StartsWith left.entries found.entries
   pub legal : IsLegal found.timetable left.entries
-  -- each reply is what a beginning of the history gives, with no fewer entries than were found or this client had been
-  -- printed, at fronts that do not fall along a session
+  -- each reply is what a beginning of the history gives, with no fewer entries than were found or
+  -- this client had been printed, at fronts that do not fall along a session
   pub replies : All (λ talk. IsTalk left.entries (callers_of known found.timetable talk.name)
       (length found.entries) talk.rules talk.traffic.told) talks
-  -- the proof that goes along with a reply is what a beginning of the history gives, with no fewer entries than were found
-  -- or this client had been printed
+  -- the proof that goes along with a reply is what a beginning of the history gives, with no fewer
+  -- entries than were found or this client had been printed
   pub proved : All (λ talk. AreProved left.entries known found.timetable talk.proves
       (length found.entries) talk.traffic.told) talks
   -- the entries behind those found are those of the replies, each once, owner by owner
@@ -59,7 +62,8 @@ pub record IsRun {D : Type 0} (disk_faults : D → ℕ) (known : Names) (found l
       ≡ printed talk.traffic.told) talks
   pub owners : All (λ e. Any (λ talk. e.owner ≡ talk.name) talks)
       (drop (length found.entries) left.entries)
-  -- the faults that replies tell are within the rise of the disk's count, unless that stands at its end
+  -- the faults that replies tell are within the rise of the disk's count,
+  -- unless that stands at its end
   pub count : (2 ^ 64 - 1 ≤ disk_faults left.disk)
       ⊎ (disk_faults found.disk + sum_by (λ talk. faults talk.traffic.told) talks
       ≤ disk_faults left.disk)
@@ -67,8 +71,10 @@ pub record IsRun {D : Type 0} (disk_faults : D → ℕ) (known : Names) (found l
   pub settled_left : (settled_of left ≡ length left.entries)
       ⊎ ((settled_of left + 1 ≡ length left.entries)
       × Contains (flat_map (λ talk. unsettled talk.traffic.told) talks) (settled_of left))
-  -- all before a front that is printed is settled, but for the entry that this reply told as unsettled
-  pub settled_replies : All (λ talk. All (IsWithinSettled (settled_of left)) talk.traffic.told) talks
+  -- all before a front that is printed is settled, but for the entry that
+  -- this reply told as unsettled
+  pub settled_replies : All (λ talk. All (IsWithinSettled (settled_of left)) talk.traffic.told)
+      talks
 
 -- ---- lists side by side
 

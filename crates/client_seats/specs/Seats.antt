@@ -21,7 +21,8 @@ use Rattle.rail_types.specs.declared.entries.Entry.{Entry}
 use Rattle.reply_texts.specs.declared.replies.Reply.{Reply}
 use Rattle.client_seats.specs.declared.seats.Seat.{Seat}
 use Rattle.client_seats.specs.Runs.{callers_of}
-use Rattle.client_seats.specs.Talks.{AreBelowEnd, AreProved, AreSettledWithin, Callers, faults, IsTalk, IsWithinSettled, printed, Talk, unsettled}
+use Rattle.client_seats.specs.Talks.{AreBelowEnd, AreProved, AreSettledWithin, Callers, faults}
+use Rattle.client_seats.specs.Talks.{IsTalk, IsWithinSettled, printed, Talk, unsettled}
 
 -- the client may take its turns at the gate
 pub record IsSeated {D Btw L : Type 0} (seat : Seat D Btw L) : Type 0 where
@@ -30,8 +31,9 @@ pub record IsSeated {D Btw L : Type 0} (seat : Seat D Btw L) : Type 0 where
   pub knows : Knows (timetable_at seat.shared.now.gate) seat.client (view seat.pass).seen
   pub name : IsClientName seat.client.name
 
--- a line of this number was told this reply by the rules as they stand, in turns that the pass has taken since, this proof
--- goes along with it where the client wants proofs, and the rules were told of the own entry that the reply tells
+-- a line of this number was told this reply by the rules as they stand, in turns that the pass has
+-- taken since, this proof goes along with it where the client wants proofs, and the rules were told
+-- of the own entry that the reply tells
 pub record AnswersAt {D Btw L : Type 0} (kind : Rules L) (old : Seat D Btw L) (number : ℕ)
     (line : List ℕ) (told : Reply) (proof : List ℕ) (new : Seat D Btw L) : Type 0 where
   pub shared : new.shared ≡ old.shared
@@ -55,8 +57,8 @@ found_at gate = (opened gate).entries
 abbrev pub callers_at : {D : Type 0} → Shared D → List ℕ → Callers
 callers_at shared = callers_of shared.known (timetable_at shared.gate)
 
--- nothing was answered yet: the client has the turns that its lines may take, none of them was taken, and its pass has
--- seen the entries that were found
+-- nothing was answered yet: the client has the turns that its lines may take, none of them was
+-- taken, and its pass has seen the entries that were found
 pub record IsTaken {D Btw L : Type 0} (shared : Shared D) (seat : Seat D Btw L) : Type 0 where
   pub shared_is : seat.shared.now ≡ shared
   pub seated : IsSeated seat

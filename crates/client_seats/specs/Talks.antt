@@ -1,5 +1,6 @@
 -- What one client was told, over a history.
-use Rattle.std.specs.Prelude.{◌≡◌, ℕ, ◌+◌, ◌-◌, ◌^◌, ◌≤◌, ◌<◌, Bool, true, false, All, AllPairs, List, ◌++◌, [], ◌∷◌, flat_map, length, sum_by, Option, Some, None}
+use Rattle.std.specs.Prelude.{◌≡◌, ℕ, ◌+◌, ◌-◌, ◌^◌, ◌≤◌, ◌<◌, Bool, true, false, All, AllPairs}
+use Rattle.std.specs.Prelude.{List, ◌++◌, [], ◌∷◌, flat_map, length, sum_by, Option, Some, None}
 use Rattle.book_gate.specs.declared.views.Turn.{Turn}
 use Rattle.book_gate.specs.Views.{StartsWith, own, rises}
 use Rattle.client_lines.specs.Names.{Names}
@@ -17,8 +18,8 @@ use Rattle.rail_types.specs.Timetables.{Timetable}
 use Rattle.reply_texts.specs.declared.replies.Reply.{Reply}
 use Rattle.reply_texts.specs.declared.replies.Reply.TheVariants as reply
 
--- a client's name, its rules as they stood before its first line, whether the proofs that go along with its replies are
--- wanted, and what passed in its session
+-- a client's name, its rules as they stood before its first line, whether the proofs that go along
+-- with its replies are wanted, and what passed in its session
 pub record Talk : Type 0 where
   pub name : List ℕ
   pub rules : List Ruled
@@ -29,13 +30,14 @@ pub record Talk : Type 0 where
 abbrev pub Callers : Type 0
 Callers = ℕ → List Ruled → Caller
 
--- the least front at which the next reply may be, behind one that prints this: the last front that was printed
+-- the least front at which the next reply may be, behind one that prints this:
+-- the last front that was printed
 abbrev pub next_least : ℕ → Option ℕ → ℕ
 next_least least None = least
 next_least least (Some front) = front
 
--- the reply is what the history gives to the line, between a beginning of it that the first turn of the call found, with
--- no fewer entries than this, and one that the call left
+-- the reply is what the history gives to the line, between a beginning of it that the first turn of
+-- the call found, with no fewer entries than this, and one that the call left
 pub record IsAnswer (history : List Entry) (caller : Caller) (least : ℕ) (one : Told)
     : Type 0 where
   pub h : List Entry
@@ -46,8 +48,9 @@ pub record IsAnswer (history : List Entry) (caller : Caller) (least : ℕ) (one 
   pub within : StartsWith history left
   pub fresh : least ≤ length h
 
--- each reply is what the history gives to its line, the first of which has this number, and this is the least front for
--- it; the rules stand as these before it, and each reply tells them of the own entry that it tells
+-- each reply is what the history gives to its line, the first of which has this number, and
+-- this is the least front for it; the rules stand as these before it, and each reply tells them
+-- of the own entry that it tells
 abbrev pub AreGiven : List Entry → Callers → ℕ → ℕ → List Ruled → List Told → Type 0
 AreGiven history callers number least rules [] = Unit {0}
 AreGiven history callers number least rules (one ∷ told) =
@@ -71,8 +74,8 @@ faults told = sum_by (λ one. fault one.reply) told
 abbrev pub unsettled : List Told → List ℕ
 unsettled told = flat_map (λ one. unsettled_by one.reply) told
 
--- the front before which a reply says that all is settled: the one that it prints, or the position of its own entry where
--- it tells that as unsettled
+-- the front before which a reply says that all is settled: the one that it prints, or the position
+-- of its own entry where it tells that as unsettled
 abbrev pub settled_point : Reply → Option ℕ
 settled_point (reply.Unsettled number at front) = Some at
 settled_point other = point other
@@ -81,15 +84,16 @@ settled_point other = point other
 abbrev pub IsWithinSettled : ℕ → Told → Type 0
 IsWithinSettled settled one = (front : ℕ) → settled_point one.reply ≡ Some front → front ≤ settled
 
--- each line, the first of which is 1, has the reply that the history gives, by no fewer entries than this or than the
--- client was printed before, at fronts that do not fall; the rules stand as these before the first line
+-- each line, the first of which is 1, has the reply that the history gives, by no fewer entries
+-- than this or than the client was printed before, at fronts that do not fall; the rules stand
+-- as these before the first line
 pub record IsTalk (history : List Entry) (callers : Callers) (least : ℕ) (rules : List Ruled)
     (told : List Told) : Type 0 where
   pub given : AreGiven history callers 1 least rules told
   pub points : AllPairs IsNoOlder told
 
--- the proof that goes along with the reply is what the history gives, by no fewer entries than this, where proofs are
--- wanted, and else there is none
+-- the proof that goes along with the reply is what the history gives, by no fewer entries than
+-- this, where proofs are wanted, and else there is none
 abbrev pub IsProvedIn : List Entry → Names → Timetable → Bool → ℕ → Told → Type 0
 IsProvedIn history known timetable false least one = one.proof ≡ []
 IsProvedIn history known timetable true least one =
@@ -112,7 +116,8 @@ AreBelowEnd turns = All (λ t. t.left.count < 2 ^ 64 - 1) turns
 abbrev pub AreSettledWithin : List Turn → ℕ → Type 0
 AreSettledWithin turns settled = All (λ t. t.left.settled ≤ settled) turns
 
--- the pass, from v to w, added the entries of these replies, met their faults, and settled what they say is settled
+-- the pass, from v to w, added the entries of these replies, met their faults, and
+-- settled what they say is settled
 pub record Serves (v w : Sight) (told : List Told) : Type 0 where
   pub share : w.share ≡ v.share
   pub goes_on : StartsWith w.seen v.seen

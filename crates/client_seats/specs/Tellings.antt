@@ -1,5 +1,6 @@
 -- *inside*: what a client's rules are told of the entries that were found.
-use Rattle.std.specs.Prelude.{ℕ, List, [], ◌∷◌, Option, Some, None, flat_map, if◌then◌else◌, length, option_map, option_to_list, slice_get, take}
+use Rattle.std.specs.Prelude.{ℕ, List, [], ◌∷◌, Option, Some, None, flat_map, if◌then◌else◌, length}
+use Rattle.std.specs.Prelude.{option_map, option_to_list, slice_get, take}
 use Rattle.book_gate.specs.Views.{positions}
 use Rattle.client_rules.specs.Ruled.{Ruled, freed, granted}
 use Rattle.client_rules.specs.Told.{wish_at}

@@ -1,6 +1,7 @@
 //! The gate of clients: opened for a book, seats taken and left, and closed.
 
-ghost use Rattle.std.specs.Prelude.{◌≡◌, ◌≢◌, ◌+◌, ◌*◌, ◌<◌, ◌≤◌, ◌++◌, ◌∷◌, [], List, All, AllPairs, IfErr, IfOk, length};
+ghost use Rattle.std.specs.Prelude.{◌≡◌, ◌≢◌, ◌+◌, ◌*◌, ◌<◌, ◌≤◌, ◌++◌, ◌∷◌, [], List, All};
+ghost use Rattle.std.specs.Prelude.{AllPairs, IfErr, IfOk, length};
 ghost use Rattle.book_gate.specs.Passes.{opened, turns_given, turns_left, view};
 ghost use Rattle.book_gate.specs.Views.{StartsWith};
 ghost use Rattle.client_lines.specs.Within.{AreSound};
@@ -34,8 +35,8 @@ use tail_states::Followers;
 // Each line takes at most four turns, and a client has at most 100,000 lines.
 const TURNS: u64 = 400_000;
 
-/// Gives a book to a gate with seats for so many clients, at most 16, and hands out the pass from which they get theirs.
-/// For want of memory the book is handed back.
+/// Gives a book to a gate with seats for so many clients, at most 16, and hands out the pass from
+/// which they get theirs. For want of memory the book is handed back.
 pub fn open_gate<D: Disk>(
     alloc: Global,
     book: Book<D>,
@@ -77,8 +78,9 @@ fn followers_of(alloc: Global, known: &Known) -> Result<Followers, NoMemory>
     Ok(followers)
 }
 
-/// Gives a client a pass, with the turns that its lines may take, and tells its rules of its entries that were found. Where
-/// it wants proofs, one goes along with each of its replies that has one.
+/// Gives a client a pass, with the turns that its lines may take, and tells its
+/// rules of its entries that were found. Where it wants proofs, one goes along with
+/// each of its replies that has one.
 pub fn take_seat<'a, D: Disk, B: Between + Drop, L: Rule>(
     shared: &'a Shared<D>,
     pass: &mut Pass<Book<D>>,

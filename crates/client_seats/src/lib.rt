@@ -1,4 +1,5 @@
-//! Clients at one gate: each has a seat, where its lines are answered, and what all clients are told is one history.
+//! Clients at one gate: each has a seat, where its lines are answered, and what all
+//! clients are told is one history.
 #![tactic(auto)]
 
 mod gates;

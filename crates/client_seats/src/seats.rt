@@ -17,8 +17,8 @@ use reply_texts::Reply;
 use std::alloc::Global;
 use std::sync::Wait;
 
-/// A client with its pass at the gate that it shares, what happens between its searches, its rules, and whether it wants the
-/// proofs that go along with its replies.
+/// A client with its pass at the gate that it shares, what happens between its searches, its rules,
+/// and whether it wants the proofs that go along with its replies.
 #[derive(Drop)]
 pub struct Seat<'a, D: Disk, B: Between, L: Rule> {
     #[doc(hidden)]

@@ -3,7 +3,8 @@
 ghost use Rattle.std.specs.Prelude.{◌≡◌, IfOk, take};
 ghost use Rattle.client_rules.specs.Ruled.{stand};
 ghost use Rattle.client_rules.specs.Told.{wish_at};
-ghost use Rattle.client_seats.specs.Tellings.{own_telling, own_tellings, telling_of, told_each, told_once};
+ghost use Rattle.client_seats.specs.Tellings.{own_telling, own_tellings, telling_of, told_each};
+ghost use Rattle.client_seats.specs.Tellings.{told_once};
 
 use admission_rules::{Rule, Wish};
 use client_rules::{tell_freed, tell_granted, wish_of};
@@ -12,7 +13,8 @@ use no_memory::NoMemory;
 use rail_types::{Deed, Name};
 use std::alloc::Global;
 
-/// What rules are told of an entry: that a path was granted, or that one was freed, which was wished so.
+/// What rules are told of an entry: that a path was granted, or that one
+/// was freed, which was wished so.
 #[derive(Clone, Copy, Debug, PartialEq, Eq)]
 pub enum Telling {
     Granted(Wish),

@@ -1,6 +1,7 @@
 -- Sources and sinks that are out, and that come in again.
 use Rattle.std.specs.Prelude.{◌≡◌, ℕ, List, [], ◌∷◌, Ok}
-use Rattle.outside_io.specs.Openings.{Answers, Opening, source_at, sink_at, StandsAgain, Undisturbed}
+use Rattle.outside_io.specs.Openings.{Answers, Opening, source_at, sink_at, StandsAgain}
+use Rattle.outside_io.specs.Openings.{Undisturbed}
 use Rattle.outside_io.specs.Openings.{Opens as CallsOf}
 use Rattle.outside_io.specs.Places.{HandsOut, TakesBack, Untouched}
 use Rattle.outside_io.specs.declared.failures.Failed.{Failed}

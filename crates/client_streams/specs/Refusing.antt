@@ -26,8 +26,8 @@ abbrev pub AreMade : {Src Snk Dsk : Type 0} → Scene Src Snk Dsk → Scene Src 
     → List Opening → Type 0
 AreMade old new calls = CallsOf calls old.opened new.opened
 
--- Of these calls the first ones succeeded, and then one failed, behind which none was made: it is told not to succeed, a
--- fault was counted, and its name is reported.
+-- Of these calls the first ones succeeded, and then one failed, behind which none was made: it is
+-- told not to succeed, a fault was counted, and its name is reported.
 pub record CannotOpen (calls : List Opening) (made : List Opening → Type 0)
     (standing : Opening → Standing) (faults faults' : ℕ) (refusal : Refusal) : Type 0 where
   pub before : List Opening
@@ -46,7 +46,8 @@ abbrev pub WhyStopped : List Opening → (List Opening → Type 0) → (Opening 
 WhyStopped calls made standing faults faults' refusal =
     CannotOpen calls made standing faults faults' refusal ⊎ (refusal ≡ Memory)
 
--- Not all of these calls succeeded, or memory was wanted: the first so many of them were made, and all is as it was before.
+-- Not all of these calls succeeded, or memory was wanted: the first so many of them were made,
+-- and all is as it was before.
 pub record IsStopped {Src Snk Dsk : Type 0} (calls : List Opening)
     (old new : Scene Src Snk Dsk) (refusal : Refusal) : Type 0 where
   pub count : ℕ

@@ -1,5 +1,5 @@
-//! The source and the sink of a client, and the sink of its proofs: opened under their names, and put back; and what is called
-//! between its searches.
+//! The source and the sink of a client, and the sink of its proofs: opened under their names, and
+//! put back; and what is called between its searches.
 #![tactic(auto)]
 
 mod betweens;

@@ -5,7 +5,8 @@ ghost use Rattle.exit_status.specs.declared.Status.TheVariants.{Opening};
 ghost use Rattle.file_rounds.specs.Scenes.{scene};
 ghost use Rattle.command_reports.specs.Refusals.{IsTold, line_with};
 ghost use Rattle.outside_io.specs.Openings.{source_at, sink_at};
-ghost use Rattle.client_streams.specs.Clients.{AreDistinct, file_calls, file_loans, IsFit, pair_calls, pair_loans, stream_calls, stream_loans};
+ghost use Rattle.client_streams.specs.Clients.{AreDistinct, file_calls, file_loans, IsFit};
+ghost use Rattle.client_streams.specs.Clients.{pair_calls, pair_loans, stream_calls, stream_loans};
 ghost use Rattle.client_streams.specs.Lending.{AreOut, SinkIsOut, SourceIsOut};
 ghost use Rattle.client_streams.specs.Refusing.{IsStopped};
 
@@ -18,8 +19,9 @@ use option_words::Text;
 use outside_io::Outside;
 use std::alloc::Global;
 
-/// Opens the source and the sink of a client, and the file of its proofs, if there is one. Where a name cannot be opened, all
-/// that was opened is put back as it was, and this name refuses, as `open: NAME`.
+/// Opens the source and the sink of a client, and the file of its proofs, if there is
+/// one. Where a name cannot be opened, all that was opened is put back as it was, and
+/// this name refuses, as `open: NAME`.
 pub fn open_served<O: Outside>(
     alloc: Global,
     client: &ClientWord,
@@ -63,7 +65,8 @@ fn open_file<O: Outside>(
         AreOut (file_loans (option_map (λ text. text.now) file.entry) proof)
         (scene O.Outside outside.old) (scene O.Outside outside.new)) }
     ensures fit { IfOk result (IsFit (option_map (λ text. text.now) file.entry)) }
-    ensures stopped { IfErr result (IsStopped (file_calls (option_map (λ text. text.now) file.entry))
+    ensures stopped { IfErr result
+        (IsStopped (file_calls (option_map (λ text. text.now) file.entry))
         (scene O.Outside outside.old) (scene O.Outside outside.new)) }
 {
     match file {
@@ -75,8 +78,8 @@ fn open_file<O: Outside>(
     }
 }
 
-/// Opens the source and the sink of a client. Where the sink cannot be opened, the source is put back as it was; a name that
-/// cannot be opened refuses, as `open: NAME`.
+/// Opens the source and the sink of a client. Where the sink cannot be opened, the source is put
+/// back as it was; a name that cannot be opened refuses, as `open: NAME`.
 pub fn open_streams<O: Outside>(
     alloc: Global,
     client: &ClientWord,

@@ -17,7 +17,8 @@ pub fn put_back_served<O: Outside>(
     streams: ClientStreams<O::Src, O::Snk>,
     outside: &mut O,
 )
-    ensures back { AreIn (stream_loans client.now (option_map (λ text. text.now) file.entry) streams)
+    ensures back { AreIn
+        (stream_loans client.now (option_map (λ text. text.now) file.entry) streams)
         (scene O.Outside outside.old) (scene O.Outside outside.new) }
 {
     let ClientStreams {

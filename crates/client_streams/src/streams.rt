@@ -2,7 +2,8 @@
 
 use outside_io::{Sink, Source};
 
-/// Where a client's lines come from, where its replies go, and where its proofs go where they are wanted.
+/// Where a client's lines come from, where its replies go, and where its
+/// proofs go where they are wanted.
 #[derive(Drop)]
 pub struct ClientStreams<S: Source, T: Sink> {
     pub source: S,

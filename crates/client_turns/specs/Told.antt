@@ -1,5 +1,6 @@
 -- What is told of entries.
-use Rattle.std.specs.Prelude.{◌≡◌, ◌≢◌, ℕ, ◌+◌, ◌<◌, ◌≤◌, List, Option, Some, None, length, slice_get}
+use Rattle.std.specs.Prelude.{◌≡◌, ◌≢◌, ℕ, ◌+◌, ◌<◌, ◌≤◌, List, Option, Some, None, length}
+use Rattle.std.specs.Prelude.{slice_get}
 use Rattle.outside_io.specs.Faults.{Rose}
 use Rattle.rail_types.specs.declared.entries.Deed.{Deed}
 use Rattle.rail_types.specs.declared.entries.Entry.{Entry}
@@ -40,7 +41,8 @@ IsRefusal entries told (Kept at deed) =
     × ((entry : Entry) × (slice_get entries at ≡ Some entry) × (entry.deed ≡ deed))
 IsRefusal entries told (Other verdict) = (told ≡ verdict) × IsNotKept verdict
 
--- what is told of an owner's number that stands in these entries, by the deed that is sent with it; None where it is new
+-- what is told of an owner's number that stands in these entries, by the deed that is sent
+-- with it; None where it is new
 abbrev pub IsFoundAgain : List Entry → List ℕ → ℕ → Deed → Option Refusal → Type 0
 IsFoundAgain entries owner number deed None = place_of entries owner number ≡ None
 IsFoundAgain entries owner number deed (Some told) =
@@ -58,7 +60,8 @@ IsTakenBefore timetable entries entry searched =
     IsTaken (verdict_on timetable entries entry)
     → NoneClashesFrom (live_claims timetable entries) (claims_of timetable entry.deed) searched
 
--- a claim of the entry is taken, and the last entry from the searched position on that has one which clashes stands here
+-- a claim of the entry is taken, and the last entry from the searched position on that has
+-- one which clashes stands here
 pub record IsTakenSince (timetable : Timetable) (entries : List Entry) (entry : Entry)
     (searched at : ℕ) : Type 0 where
   pub taken : IsTaken (verdict_on timetable entries entry)

@@ -1,5 +1,6 @@
 -- The turns that a client takes, and what they leave.
-use Rattle.std.specs.Prelude.{◌≡◌, ◌≢◌, ◌⊎◌, ℕ, ◌+◌, ◌<◌, ◌≤◌, List, [], ◌∷◌, ◌++◌, length, Option, Some}
+use Rattle.std.specs.Prelude.{◌≡◌, ◌≢◌, ◌⊎◌, ℕ, ◌+◌, ◌<◌, ◌≤◌, List, [], ◌∷◌, ◌++◌, length, Option}
+use Rattle.std.specs.Prelude.{Some}
 use Rattle.book_gate.specs.declared.gates.Gate.{Gate}
 use Rattle.book_gate.specs.declared.gates.Pass.{Pass}
 use Rattle.book_gate.specs.declared.views.View.{View}
@@ -39,8 +40,8 @@ abbrev pub IsReady : {D : Type 0} → Gate (Ledger D) Entry Footing → Pass (Le
     → Type 0
 IsReady gate pass = IsOf footing_of gate pass × IsIdle pass
 
--- The pass took one turn, which left so many entries settled. What it found goes on from all that the pass had seen, and
--- what it left from what it found; the count did not fall.
+-- The pass took one turn, which left so many entries settled. What it found goes on from all that
+-- the pass had seen, and what it left from what it found; the count did not fall.
 pub record TakesTurn (v w : Sight) (settled : ℕ) : Type 0 where
   pub turns : w.turns ≡ v.turns
       ++ turn w.ticket w.found (record { list = w.seen; settled = settled; count = w.count }) ∷ []
@@ -105,7 +106,8 @@ pub record IsFullIn (timetable : Timetable) (entry : Entry) (v w : Sight) : Type
   pub joins : Joins timetable w.found.list entry
   pub no_room : timetable.settings.journal_bytes < bytes_with w.found.list entry
 
--- a turn that judged an entry by what it found, and took it in where it is fresh and its record has room
+-- a turn that judged an entry by what it found, and took it in where it is
+-- fresh and its record has room
 abbrev pub HasEntered : Timetable → Entry → Entered → Sight → Sight → Type 0
 HasEntered timetable entry (Settled at front) v w =
     TakesTurn v w (length w.seen) × IsAdded timetable entry at front w
@@ -115,7 +117,8 @@ HasEntered timetable entry (Unsettled at front) v w =
 HasEntered timetable entry (Refused told) v w = IsRefusedIn timetable entry told v w
 HasEntered timetable entry Full v w = IsFullIn timetable entry v w
 
--- a turn in which entries from the searched position on clash with an entry, the last of them at this position
+-- a turn in which entries from the searched position on clash with an entry, the
+-- last of them at this position
 pub record IsMissedIn (timetable : Timetable) (entry : Entry) (searched at : ℕ) (v w : Sight)
     : Type 0 where
   pub looks : Looks v w

@@ -1,5 +1,5 @@
-//! What a client of a book knows, and the turns that it takes: each is whole, from the gate and back, and leaves the book
-//! settled or tells why not.
+//! What a client of a book knows, and the turns that it takes: each is whole, from the gate and
+//! back, and leaves the book settled or tells why not.
 #![tactic(auto)]
 
 mod clients;

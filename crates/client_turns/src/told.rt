@@ -5,7 +5,8 @@ ghost use Rattle.book_gate.specs.Views.{StartsWith};
 ghost use Rattle.grant_log.specs.Legal.{IsInRange};
 ghost use Rattle.path_commit.specs.Footings.{footing_of};
 ghost use Rattle.path_commit.specs.Ledgers.{settled_of};
-ghost use Rattle.client_turns.specs.Told.{EntersIn, IsFoundAgain, IsRefusal, IsStanding, Stands, StopsIn, TriesIn};
+ghost use Rattle.client_turns.specs.Told.{EntersIn, IsFoundAgain, IsRefusal, IsStanding, Stands};
+ghost use Rattle.client_turns.specs.Told.{StopsIn, TriesIn};
 
 use crate::halts::Halt;
 use crate::laws::{kept_entries_stand, none_clashes_behind};
@@ -19,7 +20,8 @@ use std::alloc::Global;
 /// What is told of an entry that the history does not take.
 #[derive(Debug, Drop)]
 pub enum Refusal {
-    /// The owner's number stands with the same content at this position, with this deed, and is not freed.
+    /// The owner's number stands with the same content at this position, with
+    /// this deed, and is not freed.
     Kept(u64, Deed),
     /// Another verdict.
     Other(Verdict),
@@ -30,7 +32,8 @@ pub enum Refusal {
 pub enum Entered {
     /// It is settled at this position; the front is behind it.
     Settled { at: u64, front: u64 },
-    /// The disk failed after it was begun: it stands at this position, before the front, and is not settled.
+    /// The disk failed after it was begun: it stands at this position, before
+    /// the front, and is not settled.
     Unsettled { at: u64, front: u64 },
     /// The history does not take it.
     Refused(Refusal),
@@ -43,7 +46,8 @@ pub enum Entered {
 pub enum Tried {
     /// It was judged by all that stands.
     Entered(Entered),
-    /// Entries from the searched front on have live claims that clash with it; the last of them stands at this position.
+    /// Entries from the searched front on have live claims that clash with it; the last of
+    /// them stands at this position.
     Missed(u64),
 }
 
@@ -91,7 +95,8 @@ pub(crate) fn told_by(
     }
 }
 
-// What is told of an owner's number that stands already, by the deed that is sent with it; None where it is new.
+// What is told of an owner's number that stands already, by the deed that is sent
+// with it; None where it is new.
 pub(crate) fn told_again(
     alloc: Global,
     history: &History,
@@ -133,8 +138,8 @@ pub(crate) fn enter_in<D: Disk>(
     }
 }
 
-// Judges an entry whose path was searched for where the book had so many entries, and takes it into a book with nothing
-// pending.
+// Judges an entry whose path was searched for where the book had so many entries, and takes it into
+// a book with nothing pending.
 pub(crate) fn try_in<D: Disk>(
     alloc: Global,
     book: &mut Book<D>,

@@ -1,11 +1,13 @@
 //! The turns that a client takes, each whole.
-ghost use Rattle.std.specs.Prelude.{◌≡◌, ℕ, ◌+◌, ◌<◌, ◌≤◌, IfErr, IfOk, IfSome, IsNone, None, Some, length};
+ghost use Rattle.std.specs.Prelude.{◌≡◌, ℕ, ◌+◌, ◌<◌, ◌≤◌, IfErr, IfOk, IfSome, IsNone, None, Some};
+ghost use Rattle.std.specs.Prelude.{length};
 ghost use Rattle.rail_types.specs.declared.limits.TheConstants.{MAX_OWNER_BYTES};
 ghost use Rattle.book_gate.specs.Passes.{turns_left, view};
 ghost use Rattle.grant_log.specs.Legal.{IsInRange};
 ghost use Rattle.client_turns.specs.Clients.{IsCopyOf, Knows};
 ghost use Rattle.client_turns.specs.Told.{IsFoundAgain, IsStanding};
-ghost use Rattle.client_turns.specs.Turns.{HasEntered, HasTried, IsHalted, IsOpen, IsReached, IsReady, IsStopped, Looks, timetable_at};
+ghost use Rattle.client_turns.specs.Turns.{HasEntered, HasTried, IsHalted, IsOpen, IsReached};
+ghost use Rattle.client_turns.specs.Turns.{IsReady, IsStopped, Looks, timetable_at};
 
 use crate::clients::Client;
 use crate::halts::Halt;
@@ -18,8 +20,8 @@ use rail_types::{Deed, Entry};
 use std::alloc::Global;
 use std::sync::Wait;
 
-// Opens a turn: what is not settled is settled first, the client's copy is brought up, and the front that is named, if
-// one is, must not be beyond the front of now.
+// Opens a turn: what is not settled is settled first, the client's copy is brought up, and the
+// front that is named, if one is, must not be beyond the front of now.
 fn open_turn<R: Wait, D: Disk>(
     rt: &R,
     gate: &Gate<Book<D>>,
@@ -123,8 +125,9 @@ pub fn show<R: Wait, D: Disk>(
     Ok(standing)
 }
 
-/// A turn that tells of the client's number, where it stands already, by the deed that is sent with it; None where it is
-/// new. Of a path that is asked for the request alone counts, so the path may be any.
+/// A turn that tells of the client's number, where it stands already, by the deed that is
+/// sent with it; None where it is new. Of a path that is asked for the request alone
+/// counts, so the path may be any.
 pub fn find_again<R: Wait, D: Disk>(
     rt: &R,
     alloc: Global,
@@ -159,7 +162,8 @@ pub fn find_again<R: Wait, D: Disk>(
     Ok(again)
 }
 
-/// A turn that judges an entry by what it found, and takes it in where it is fresh and its record has room.
+/// A turn that judges an entry by what it found, and takes it in where it is
+/// fresh and its record has room.
 pub fn enter_entry<R: Wait, D: Disk>(
     rt: &R,
     alloc: Global,
@@ -192,8 +196,9 @@ pub fn enter_entry<R: Wait, D: Disk>(
     Ok(entered)
 }
 
-/// A turn that judges an entry whose path was searched for beside the client's copy, and takes it in where it is fresh and
-/// its record has room. What came since the copy's front is told apart where it clashes.
+/// A turn that judges an entry whose path was searched for beside the client's copy, and
+/// takes it in where it is fresh and its record has room. What came since the copy's front is
+/// told apart where it clashes.
 pub fn try_entry<R: Wait, D: Disk>(
     rt: &R,
     alloc: Global,

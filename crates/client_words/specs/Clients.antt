@@ -36,7 +36,8 @@ pub record AreApart (one other : ClientWord) : Type 0 where
   pub outputs : one.output ≢ other.output
   pub crossed : (one.input ≢ other.output) × (one.output ≢ other.input)
 
--- clients that may be served together: 1 to 16, each of its form, no two of which share a name or a stream
+-- clients that may be served together: 1 to 16, each of its form, no two of
+-- which share a name or a stream
 pub record AreClients (clients : List ClientWord) : Type 0 where
   pub some : 1 ≤ length clients
   pub few : length clients ≤ 16

@@ -15,7 +15,8 @@ use std::alloc::Global;
 /// Greatest number of clients that are served together.
 pub const MAX_CLIENTS: usize = 16;
 
-/// A client of the words, `NAME=IN:OUT`: its name, where its lines come from and where its replies go.
+/// A client of the words, `NAME=IN:OUT`: its name, where its lines come
+/// from and where its replies go.
 #[derive(Debug, Drop)]
 pub struct ClientWord {
     pub client: Name,
@@ -23,7 +24,8 @@ pub struct ClientWord {
     pub output: Text,
 }
 
-/// Reads words as clients, one a word, in the words' order: 1 to `MAX_CLIENTS`, with names and streams of their own.
+/// Reads words as clients, one a word, in the words' order: 1 to `MAX_CLIENTS`, with
+/// names and streams of their own.
 pub fn read_clients(alloc: Global, words: &[&str]) -> Result<List<ClientWord>, WordsFault>
     ensures understood { IfOk result AreClients }
     ensures spelled { IfOk result

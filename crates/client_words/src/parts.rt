@@ -67,7 +67,8 @@ fn is_stream_name(name: &str) -> bool
     }
 }
 
-/// What stands before the first `:` of a text, and what stands behind it: None where the text has none.
+/// What stands before the first `:` of a text, and what stands behind it:
+/// None where the text has none.
 pub fn cut_at_colon(text: &str) -> Option<(&str, &str)>
     ensures found { IfSome result (λ parts. IsCutAt colon text.now parts.0.now parts.1.now) }
     ensures absent { IfNone result (Lacks colon text.now) }

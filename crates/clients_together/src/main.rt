@@ -1,7 +1,7 @@
-//! Two clients at once, A and B, or the workers of a batch, over an outside in memory that paces them: a line is given, or a
-//! search goes on, only once what it waits for has come, so that a server which serves one behind the other, or searches while
-//! nobody else is answered, does not come to the end. The head of the table that stands beside this program tells its
-//! instructions.
+//! Two clients at once, A and B, or the workers of a batch, over an outside in memory that paces
+//! them: a line is given, or a search goes on, only once what it waits for has come, so that a
+//! server which serves one behind the other, or searches while nobody else is answered, does not
+//! come to the end. The head of the table that stands beside this program tells its instructions.
 #![tactic(auto)]
 
 mod files;

@@ -9,7 +9,8 @@ use std::alloc::{AllocError, Global};
 use std::sync::Arc;
 use std::sync::atomic::{AtomicU64, Ordering};
 
-/// How often a rule's tally was read, how often the rule was dropped, and how often its tally had been read by then.
+/// How often a rule's tally was read, how often the rule was dropped, and how often its
+/// tally had been read by then.
 #[derive(Drop)]
 pub struct Watched {
     tallies: AtomicU64,

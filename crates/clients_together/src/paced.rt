@@ -8,7 +8,8 @@ use std::alloc::Global;
 use std::sync::Arc;
 use std::time::Clock;
 
-/// A source of lines, each of which waits. A line that waits in vain is a fault. It tells only its count of faults.
+/// A source of lines, each of which waits. A line that waits in vain is a fault. It
+/// tells only its count of faults.
 #[derive(Drop)]
 pub struct Paced {
     pub rt: HostRuntime,
@@ -29,8 +30,9 @@ pub struct Heard {
     pub faults: u64,
 }
 
-/// What happens behind the searches of a client that found a path. Each search of A tells of itself, and waits for so many
-/// replies to B. Each search of a worker tells of itself, and waits until so many searches of workers have.
+/// What happens behind the searches of a client that found a path. Each search of A tells of
+/// itself, and waits for so many replies to B. Each search of a worker tells of itself, and waits
+/// until so many searches of workers have.
 #[derive(Drop)]
 pub enum Pause {
     ForReplies {
@@ -134,7 +136,8 @@ impl Sink for Heard {
     }
 }
 
-// Tells that a search of A has found a path, and waits for the replies to B that stand at its number.
+// Tells that a search of A has found a path, and waits for the replies
+// to B that stand at its number.
 fn wait_for_replies<R: Clock>(
     rt: &R,
     signals: &Arc<Signals, Global>,

@@ -12,8 +12,9 @@ const LOOKS: u64 = 10_000_000;
 // After so many looks the others are let run for a while.
 const LOOKS_BEFORE_A_REST: u64 = 5_000;
 
-/// How many replies were written to A and to B, the number of A's last search that found a path, the numbers of all of these in
-/// turn, a decimal digit each, how many searches of workers found one, and how many searches waited in vain.
+/// How many replies were written to A and to B, the number of A's last search that found a path,
+/// the numbers of all of these in turn, a decimal digit each, how many searches of workers found
+/// one, and how many searches waited in vain.
 #[derive(Drop)]
 pub struct Signals {
     of_a: AtomicU64,

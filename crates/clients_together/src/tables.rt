@@ -173,7 +173,8 @@ fn words_of(alloc: Global, line: &str) -> Result<Vec<String>, AllocError> {
     Ok(words)
 }
 
-// Runs a command with a fresh report, and prints its status and what its report and the clients' sinks hold.
+// Runs a command with a fresh report, and prints its status and what its report
+// and the clients' sinks hold.
 fn run_words<R: AllocGlobal + Print + Threads + Wait + Sync>(
     rt: &R,
     table: &mut Table,
@@ -196,11 +197,11 @@ fn run_words<R: AllocGlobal + Print + Threads + Wait + Sync>(
 fn print_rules<R: Print>(rt: &R, table: &Table) -> io::Result<()> {
     for rule in &table.handed {
         let client = rule.client.as_str();
-        let tallies = rule.watched.tallies();
+        let read = rule.watched.tallies();
         let drops = rule.watched.drops();
         let before = rule.watched.tallies_at_drop();
         println!(rt;
-            "  own-7 of {client}: tally read {tallies}, dropped {drops}, read before the drop {before}"
+            "  own-7 of {client}: tally read {read}, dropped {drops}, read before the drop {before}"
         )?;
     }
     Ok(())
@@ -259,7 +260,8 @@ fn print_proofs<R: Print>(rt: &R, aside: &Option<Heard>) -> io::Result<()> {
     Ok(())
 }
 
-// Prints the numbers of A's searches that found a path, how many searches of workers did, and how many searches waited in vain.
+// Prints the numbers of A's searches that found a path, how many searches of workers did, and how
+// many searches waited in vain.
 fn print_searches<R: Print>(rt: &R, signals: &Signals) -> io::Result<()> {
     let numbers = signals.numbers();
     let found = signals.of_workers();

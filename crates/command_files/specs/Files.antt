@@ -84,7 +84,8 @@ abbrev pub TellsBaseOf : ℕ → List ℕ → Base → Type 0
 TellsBaseOf zones bytes base =
     (quoted : List ℕ) → IsQuoted bytes quoted → base_at zones bytes quoted ≡ Ok base
 
--- the bytes are a base file with this base timetable, in which no two trains want one zone at once, and this digest
+-- the bytes are a base file with this base timetable, in which no two trains want one
+-- zone at once, and this digest
 pub record IsBaseFile (zones : ℕ) (bytes : List ℕ) (file : BaseFile) : Type 0 where
   pub tells : TellsBaseOf zones bytes file.base
   pub sound : IsBaseOn zones file.base

@@ -2,7 +2,8 @@
 use Rattle.std.specs.Prelude.{ℕ, List, codes}
 use Rattle.exit_status.specs.declared.Status.{Status}
 use Rattle.exit_status.specs.declared.Status.TheVariants as status
-use Rattle.rail_types.specs.declared.limits.TheConstants.{MAX_NETWORK_FILE_BYTES, MAX_TIMETABLE_FILE_BYTES}
+use Rattle.rail_types.specs.declared.limits.TheConstants.{MAX_NETWORK_FILE_BYTES}
+use Rattle.rail_types.specs.declared.limits.TheConstants.{MAX_TIMETABLE_FILE_BYTES}
 use Rattle.command_files.specs.declared.files.FileKind.{FileKind}
 use Rattle.command_files.specs.declared.files.FileKind.TheVariants.{Network, Base, Trains}
 
@@ -24,7 +25,8 @@ head_of Network = codes "network: "
 head_of Base = codes "base: "
 head_of Trains = codes "trains: "
 
--- the text of a file that has too many bytes: of such a file no more is known than that it has one more
+-- the text of a file that has too many bytes: of such a file no more is
+-- known than that it has one more
 abbrev pub excess_of : FileKind → List ℕ
 excess_of Network = codes "limit file 67108865"
 excess_of Base = codes "limit file 16777217"

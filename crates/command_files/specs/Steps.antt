@@ -92,8 +92,8 @@ FileSays kind source name Means HasFault old new (Err refusal) =
     IsUnread kind source name old new refusal
     ⊎ IsReadFaulty kind source name HasFault old new refusal
 
--- The step that reads a file: its bytes mean a value, or have a fault, by these two. It is opened once, and nothing else
--- changes.
+-- The step that reads a file: its bytes mean a value, or have a fault, by these two. It is opened
+-- once, and nothing else changes.
 pub record FileStep {Src Snk Dsk A : Type 0} (kind : FileKind) (source : Ghosts Src)
     (name : List ℕ) (Means : List ℕ → A → Type 0) (HasFault : List ℕ → List ℕ → Type 0)
     (old new : Scene Src Snk Dsk) (result : Result A Refusal) : Type 0 where

@@ -14,15 +14,16 @@ use rail_types::Base;
 use sha2::{Digest, Sha256};
 use std::alloc::Global;
 
-/// What a base file tells: the settings and the claims of planned trains, and the SHA-256 digest of the file's bytes.
+/// What a base file tells: the settings and the claims of planned trains, and the
+/// SHA-256 digest of the file's bytes.
 #[derive(Debug, Drop)]
 pub struct BaseFile {
     pub base: Base,
     pub digest: [u8; 32],
 }
 
-/// Opens a base file, reads it as a whole, puts it back, and reads its settings and its claims on a network of so many
-/// zones. The first fault of the file refuses, as `base: F`.
+/// Opens a base file, reads it as a whole, puts it back, and reads its settings and its claims on a
+/// network of so many zones. The first fault of the file refuses, as `base: F`.
 pub fn read_base_file<O: Outside>(
     alloc: Global,
     name: &str,

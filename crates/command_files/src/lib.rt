@@ -1,5 +1,5 @@
-//! The files of a command: a network, a base timetable and trains, each read as a whole and told by its first fault; and
-//! the file that it writes.
+//! The files of a command: a network, a base timetable and trains, each read as a whole and told by
+//! its first fault; and the file that it writes.
 #![tactic(auto)]
 
 mod bases;

@@ -1,7 +1,8 @@
 //! The network's file.
 
 ghost use Rattle.std.specs.Prelude.{◌≡◌, IfErr, IfOk};
-ghost use Rattle.command_files.specs.Files.{InfraSays, IsInfraOf, IsNetworkFile, NamedSays, NetworkStep, TellsNet, TellsRead};
+ghost use Rattle.command_files.specs.Files.{InfraSays, IsInfraOf, IsNetworkFile, NamedSays};
+ghost use Rattle.command_files.specs.Files.{NetworkStep, TellsNet, TellsRead};
 ghost use Rattle.file_rounds.specs.Scenes.{scene};
 ghost use Rattle.infra_types.specs.Infras.{IsInfra};
 ghost use Rattle.named_network.specs.Named.{IsNamed};
@@ -17,15 +18,16 @@ use sha2::{Digest, Sha256};
 use signal_blocks::{NetFault, network_of};
 use std::alloc::Global;
 
-/// What a network's file tells: the network with its names, and the SHA-256 digest of the file's bytes.
+/// What a network's file tells: the network with its names, and the
+/// SHA-256 digest of the file's bytes.
 #[derive(Debug, Drop)]
 pub struct NetworkFile {
     pub named: Named,
     pub digest: [u8; 32],
 }
 
-/// Opens a network's file, reads it as a whole, puts it back, and cuts its tracks into zones and blocks. The first fault
-/// of the file refuses, as `network: F`.
+/// Opens a network's file, reads it as a whole, puts it back, and cuts its tracks into zones and
+/// blocks. The first fault of the file refuses, as `network: F`.
 pub fn read_network_file<O: Outside>(
     alloc: Global,
     name: &str,

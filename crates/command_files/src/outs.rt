@@ -9,8 +9,8 @@ use file_rounds::{OutFault, write_file};
 use outside_io::Outside;
 use std::alloc::Global;
 
-/// Opens a sink, writes all the bytes to it, and puts it back. The status is `Done`, or `Report` where writing failed; a
-/// name that could not be opened refuses, as `open: NAME`.
+/// Opens a sink, writes all the bytes to it, and puts it back. The status is `Done`, or `Report`
+/// where writing failed; a name that could not be opened refuses, as `open: NAME`.
 pub fn write_out<O: Outside>(
     alloc: Global,
     name: &str,

@@ -12,8 +12,8 @@ use outside_io::Outside;
 use std::alloc::Global;
 use train_file::{TrainFault, Trains, read_trains};
 
-/// Opens a train file, reads it as a whole, puts it back, and reads its trains. The first fault of the file refuses, as
-/// `trains: F`.
+/// Opens a train file, reads it as a whole, puts it back, and reads its trains. The first fault of
+/// the file refuses, as `trains: F`.
 pub fn read_train_file<O: Outside>(
     alloc: Global,
     name: &str,

@@ -8,7 +8,8 @@ use Rattle.file_rounds.specs.declared.writing.OutFault.{OutFault}
 use Rattle.command_reports.specs.Refusals.{line_of, status_of}
 use Rattle.command_reports.specs.declared.refusals.Refusal.{Refusal}
 
--- the report gained this line, or a part of it where it failed, or nothing where it could not be opened
+-- the report gained this line, or a part of it where it failed, or nothing
+-- where it could not be opened
 pub record Reports {Src Snk Dsk : Type 0} (sink : Ghosts Snk) (line : List ℕ)
     (old new : Scene Src Snk Dsk) : Type 0 where
   pub result : Result (Unit {0}) OutFault

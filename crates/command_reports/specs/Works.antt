@@ -1,6 +1,7 @@
 -- How the work of a command is made of steps, and how it ends.
 use Rattle.std.specs.Prelude.{◌≡◌, ◌≢◌, ◌⊎◌, ⊤, ℕ, List, [], ◌∷◌, ◌++◌, take, Result, Ok, Err}
-use Rattle.outside_io.specs.Openings.{Opening, Opens as CallsOf, source_at, sink_at, disk_at, Undisturbed}
+use Rattle.outside_io.specs.Openings.{Opening, Opens as CallsOf, source_at, sink_at, disk_at}
+use Rattle.outside_io.specs.Openings.{Undisturbed}
 use Rattle.outside_io.specs.declared.sinks.Sink.{Ghosts}
 use Rattle.exit_status.specs.declared.Status.{Status}
 use Rattle.file_rounds.specs.Scenes.{Scene}
@@ -23,7 +24,8 @@ pub record Keeps {Src Snk Dsk : Type 0} (calls : List Opening)
   pub disks : (name : List ℕ) → Misses (disk_at name) calls → new.disks name ≡ old.disks name
   pub report : new.report ≡ old.report
 
--- these names were opened, each once, in this order, and no other; at a refusal so many of the first
+-- these names were opened, each once, in this order, and no other; at a
+-- refusal so many of the first
 abbrev pub OpensInTurn : {Src Snk Dsk A : Type 0} → List Opening → Scene Src Snk Dsk
     → Scene Src Snk Dsk → Result A Refusal → Type 0
 OpensInTurn calls old new (Ok done) = CallsOf calls old.opened new.opened

@@ -8,8 +8,8 @@ use exit_status::Status;
 use file_rounds::write_report;
 use outside_io::Outside;
 
-/// Ends a command: a refusal is reported, and gives its status, whether the report takes its line or not. Takes no
-/// memory.
+/// Ends a command: a refusal is reported, and gives its status, whether the report takes its
+/// line or not. Takes no memory.
 pub fn finish<O: Outside>(outcome: Result<Status, Refusal>, outside: &mut O) -> Status
     ensures says { EndSays O.Snk.Sink (scene O.Outside outside.old) (scene O.Outside outside.new)
         outcome result }

@@ -143,7 +143,8 @@ pub fn fill(alloc: Global, file: &mut NamedFile, count: u64, text: &str) -> io::
     Ok(())
 }
 
-/// Puts a text so many times behind the bytes of a file, each time with the next number, from 1 on, in the place of each `#`.
+/// Puts a text so many times behind the bytes of a file, each time with the next number, from 1
+/// on, in the place of each `#`.
 pub fn count(alloc: Global, file: &mut NamedFile, times: u64, text: &str) -> io::Result<()> {
     for before in 0..times {
         let number = before.saturating_add(1);

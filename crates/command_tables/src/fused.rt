@@ -7,8 +7,8 @@ ghost use Rattle.outside_io.specs.Places.{hidden};
 
 use outside_io::{Failed, Fuse, MemDisk, MemOutside, MemSink, MemSource, NoBetween, Outside};
 
-/// An outside in memory, each of whose disks stands behind a fuse when it is opened: it lets so many calls through.
-/// It tells only its count of faults.
+/// An outside in memory, each of whose disks stands behind a fuse when it is opened: it lets so
+/// many calls through. It tells only its count of faults.
 #[derive(Drop)]
 pub struct Fused {
     pub inside: MemOutside,

@@ -1,6 +1,6 @@
-//! Carries out a table of commands over outsides in memory, and prints how each ends and what it leaves. The table says
-//! which files, disks, sources and sinks there are, and which of their calls fail. The head of the table that stands
-//! beside this program tells its instructions.
+//! Carries out a table of commands over outsides in memory, and prints how each ends and what it
+//! leaves. The table says which files, disks, sources and sinks there are, and which of their calls
+//! fail. The head of the table that stands beside this program tells its instructions.
 #![tactic(auto)]
 
 mod files;

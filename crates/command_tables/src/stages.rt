@@ -72,8 +72,8 @@ pub fn outside_of(alloc: Global, fails: Vec<u64>) -> Fused {
     }
 }
 
-/// Runs a command over an outside, with the rules that its words ask for, the files as its sources and fresh sinks, and tells
-/// how it ends.
+/// Runs a command over an outside, with the rules that its words ask for, the files as its sources
+/// and fresh sinks, and tells how it ends.
 pub fn run_over<R: AllocGlobal + Threads + Wait + Sync>(
     rt: &R,
     words: &str,
@@ -90,7 +90,8 @@ pub fn run_over<R: AllocGlobal + Threads + Wait + Sync>(
     outcome_of(alloc, status, &outside.inside)
 }
 
-/// Runs a command over each image that a crash may leave of a disk, and tells the outcomes that differ.
+/// Runs a command over each image that a crash may leave of a disk, and
+/// tells the outcomes that differ.
 pub fn run_over_images<R: AllocGlobal + Threads + Wait + Sync>(
     rt: &R,
     name: &str,

@@ -1,5 +1,6 @@
 -- The orders that words spell.
-use Rattle.std.specs.Prelude.{◌≡◌, ⊤, ℕ, ◌^◌, ◌<◌, ◌≤◌, pos, List, [], ◌∷◌, ◌++◌, Option, None, Some, codes, decimal, map}
+use Rattle.std.specs.Prelude.{◌≡◌, ⊤, ℕ, ◌^◌, ◌<◌, ◌≤◌, pos, List, [], ◌∷◌, ◌++◌, Option, None}
+use Rattle.std.specs.Prelude.{Some, codes, decimal, map}
 use Rattle.rail_types.specs.Limits.{IsTick}
 use Rattle.rail_types.specs.declared.limits.TheConstants.{MAX_NUMBER}
 use Rattle.option_words.specs.Spelling.{Setting, setting, Spell, values_under, Word}
@@ -12,7 +13,8 @@ use Rattle.rule_words.specs.declared.reading.RuleWord.{RuleWord}
 use Rattle.batch_words.specs.Workers.{IsBatch}
 use Rattle.command_words.specs.declared.orders.TheConstants.{MAX_DEMO_NUMBER}
 use Rattle.command_words.specs.declared.orders.Order.{Order}
-use Rattle.command_words.specs.declared.orders.Order.TheVariants.{Tables, Init, Stairs, Capacity, Serve, Demo, Check, Batch}
+use Rattle.command_words.specs.declared.orders.Order.TheVariants.{Tables, Init, Stairs, Capacity}
+use Rattle.command_words.specs.declared.orders.Order.TheVariants.{Serve, Demo, Check, Batch}
 
 -- the command word of an order
 abbrev pub command_of : Order → Word
@@ -91,8 +93,8 @@ pub record AreTicks (from to : ℕ) : Type 0 where
   pub ordered : from < to
   pub within : IsTick (pos to)
 
--- the numbers, the clients, the proofs and the rules of an order are within their limits; each proof is of one of the clients,
--- each rule of one of the clients, or of one of the workers
+-- the numbers, the clients, the proofs and the rules of an order are within their limits; each
+-- proof is of one of the clients, each rule of one of the clients, or of one of the workers
 abbrev pub IsWithinLimits : Order → Type 0
 IsWithinLimits (Tables network out) = ⊤
 IsWithinLimits (Init network base journal from) = ⊤
@@ -110,7 +112,8 @@ IsWithinLimits (Batch network trains base journal client workers rules) =
 abbrev pub Agree : List Setting → List Setting → Type 0
 Agree some others = (option : List ℕ) → values_under option some ≡ values_under option others
 
--- the command word and the options, which stand in any order, are those of an order within its limits
+-- the command word and the options, which stand in any order, are those
+-- of an order within its limits
 pub record Asks (command : Word) (settings : List Setting) (order : Order) : Type 0 where
   pub command_is : command ≡ command_of order
   pub agree : Agree settings (settings_of order)

@@ -1,6 +1,7 @@
 //! The options of `capacity`, read.
 
-ghost use Rattle.std.specs.Prelude.{◌≡◌, ◌∷◌, [], ℕ, List, codes, decimal, IfNone, IfOk, IfSome, IsErrOf};
+ghost use Rattle.std.specs.Prelude.{◌≡◌, ◌∷◌, [], ℕ, List, codes, decimal, IfNone, IfOk, IfSome};
+ghost use Rattle.std.specs.Prelude.{IsErrOf};
 ghost use Rattle.option_words.specs.Spelling.{values_under};
 ghost use Rattle.command_words.specs.Orders.{AreTicks, AreZones, Asks};
 ghost use Rattle.command_words.specs.declared.orders.Order.{Order as order_type};

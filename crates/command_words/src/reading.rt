@@ -33,8 +33,8 @@ pub fn read_words(alloc: Global, words: &[String]) -> Result<Order, WordsFault>
     }
 }
 
-/// Reads the rules of an order's words, in the words' order; only `serve` and `batch` have any. Any words that spell no order are
-/// `NotUnderstood`.
+/// Reads the rules of an order's words, in the words' order; only `serve` and `batch` have any. Any
+/// words that spell no order are `NotUnderstood`.
 pub fn rule_words(alloc: Global, words: &[String]) -> Result<List<RuleWord>, WordsFault>
     ensures understood { IfOk result (AskRules (map string_bytes words.now)) }
     ensures refused { IsErrOf result WordsFault.NotUnderstood

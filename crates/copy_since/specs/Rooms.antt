@@ -1,5 +1,6 @@
 -- Claims that are to be held, and the room for them.
-use Rattle.std.specs.Prelude.{ℕ, ◌<◌, ◌≤◌, List, length, slice_index_or, sum_by, nat_eq, if◌then◌else◌}
+use Rattle.std.specs.Prelude.{ℕ, ◌<◌, ◌≤◌, List, length, slice_index_or, sum_by, nat_eq}
+use Rattle.std.specs.Prelude.{if◌then◌else◌}
 use Rattle.rail_types.specs.Limits.{IsNearSpan}
 use Rattle.rail_types.specs.Occupation.{HasTicks, HeldClaim}
 use Rattle.occupation_book.specs.Zones.{Zone}

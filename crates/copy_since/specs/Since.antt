@@ -1,5 +1,6 @@
 -- What entries have brought and freed since a copy of the claims was made.
-use Rattle.std.specs.Prelude.{◌≡◌, ℕ, ◌<◌, ◌≤◌, List, [], drop, Option, Some, None, slice_get, All, Any}
+use Rattle.std.specs.Prelude.{◌≡◌, ℕ, ◌<◌, ◌≤◌, List, [], drop, Option, Some, None, slice_get, All}
+use Rattle.std.specs.Prelude.{Any}
 use Rattle.rail_types.specs.declared.paths.Claim.{Claim}
 use Rattle.rail_types.specs.declared.entries.Entry.{Entry}
 use Rattle.rail_types.specs.declared.entries.Deed.TheVariants.{Free}
@@ -25,13 +26,15 @@ pub record IsFreedFrom (entries : List Entry) (front at : ℕ) : Type 0 where
   pub frees : entry.deed ≡ Free at
 
 -- inside: an entry before a position that one from there on frees, with its claims
-pub record IsFreedSince (timetable : Timetable) (entries : List Entry) (front : ℕ) (one : Freed) : Type 0 where
+pub record IsFreedSince (timetable : Timetable) (entries : List Entry) (front : ℕ)
+    (one : Freed) : Type 0 where
   pub before : one.at < front
   pub claims : one.claims ≡ claims_at timetable entries one.at
   pub freed : IsFreedFrom entries front one.at
 
 -- inside: all of them, as far as entries below a position free them
-pub record AreFreedBelow (timetable : Timetable) (entries : List Entry) (front below : ℕ) (all : List Freed) : Type 0 where
+pub record AreFreedBelow (timetable : Timetable) (entries : List Entry) (front below : ℕ)
+    (all : List Freed) : Type 0 where
   pub each : All (IsFreedSince timetable entries front) all
   pub whole : (at by : ℕ) (entry : Entry) → at < front → front ≤ by → by < below
       → slice_get entries by ≡ Some entry → entry.deed ≡ Free at → Any (λ one. one.at ≡ at) all

@@ -9,7 +9,8 @@ ghost use Rattle.copy_since.specs.Rooms.{HasRoomFor, MayBeHeld};
 use occupation_book::Occupations;
 use rail_types::{Claim, Owner};
 
-/// Holds these claims too. There must be room for them; they must be free, and no two of them clash. It takes no memory.
+/// Holds these claims too. There must be room for them; they must be free, and no two of
+/// them clash. It takes no memory.
 pub fn hold_all(book: &mut Occupations, claims: &[(Claim, Owner)])
     requires each { All (MayBeHeld (length book.old)) claims.now }
     requires free { All (λ one. IsFree (held book.old) one.0) claims.now }

@@ -1,5 +1,5 @@
-//! Copies of the claims that are held, kept up with a history: room for what comes is made first, then what was freed is
-//! taken out and what stands is held.
+//! Copies of the claims that are held, kept up with a history: room for what comes is made first,
+//! then what was freed is taken out and what stands is held.
 #![tactic(auto)]
 
 mod holding;

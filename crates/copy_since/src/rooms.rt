@@ -1,6 +1,7 @@
 //! Room for claims, before any of them is held.
 
-ghost use Rattle.std.specs.Prelude.{◌≡◌, ◌-◌, ◌<◌, ◌≤◌, ℕ, All, IfOk, OnOk, length, slice_index_or, take};
+ghost use Rattle.std.specs.Prelude.{◌≡◌, ◌-◌, ◌<◌, ◌≤◌, ℕ, All, IfOk, OnOk, length, slice_index_or};
+ghost use Rattle.std.specs.Prelude.{take};
 ghost use Rattle.occupation_book.specs.Held.{claims_by_zone, held, zone_at};
 ghost use Rattle.copy_since.specs.Rooms.{AreAscending, HasRoomFor, count_of, how_many_on};
 
@@ -9,7 +10,8 @@ use occupation_book::Occupations;
 use rail_types::{Claim, Owner};
 use std::alloc::Global;
 
-/// Makes room for these claims on each of their zones. The claims that are held stay, and so does all room there was.
+/// Makes room for these claims on each of their zones. The claims that are held stay,
+/// and so does all room there was.
 pub fn reserve_for(
     alloc: Global,
     book: &mut Occupations,
@@ -43,7 +45,8 @@ fn sorted_zones(alloc: Global, claims: &[(Claim, Owner)]) -> Result<Vec<u32>, No
     Ok(zones)
 }
 
-// How often the zone at this place stands before it, by how often the one before it stands up to there.
+// How often the zone at this place stands before it, by how often the one
+// before it stands up to there.
 fn number_before(zones: &[u32], at: usize, same: u32) -> u32
     requires within { at < length zones.now }
     requires order { AreAscending zones.now }

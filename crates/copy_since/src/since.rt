@@ -1,6 +1,7 @@
 //! Copies brought up by the entries since they were made.
 
-ghost use Rattle.std.specs.Prelude.{◌≡◌, ◌≢◌, ◌↔◌, ◌<◌, ◌≤◌, ◌++◌, ℕ, All, Contains, IfOk, IfSome, IsNone, OnErr, OnOk, length, take};
+ghost use Rattle.std.specs.Prelude.{◌≡◌, ◌≢◌, ◌↔◌, ◌<◌, ◌≤◌, ◌++◌, ℕ, All, Contains, IfOk, IfSome};
+ghost use Rattle.std.specs.Prelude.{IsNone, OnErr, OnOk, length, take};
 ghost use Rattle.rail_types.specs.declared.entries.Deed.TheVariants.{Free as deed_free};
 ghost use Rattle.rail_types.specs.declared.entries.Owner.TheVariants.{Entry as of_entry};
 ghost use Rattle.rail_types.specs.Occupation.{HeldClaim};
@@ -8,7 +9,8 @@ ghost use Rattle.rail_types.specs.Timetables.{base_claims};
 ghost use Rattle.occupation_book.specs.Held.{AreOnZonesOf, claims_by_zone, held, zone_at};
 ghost use Rattle.grant_log.specs.Following.{AreLive};
 ghost use Rattle.grant_log.specs.Live.{owned_by};
-ghost use Rattle.copy_since.specs.Since.{AreFreedBelow, brought_since, claims_at as claims_standing_at};
+ghost use Rattle.copy_since.specs.Since.{AreFreedBelow, brought_since};
+ghost use Rattle.copy_since.specs.Since.{claims_at as claims_standing_at};
 
 use crate::holding::hold_all;
 use crate::rooms::reserve_for;
@@ -28,10 +30,10 @@ pub(crate) struct Freed {
     pub claims: List<Claim>,
 }
 
-/// Brings a copy of the live claims of the first entries, so many as `front`, up to those of now. Its work goes by the
-/// entries from there on alone: room for every claim is made first, then what was freed is taken out, and what stands
-/// is held; the claims of an entry that came and was freed since are never held. For want of memory the claims of the
-/// copy stay.
+/// Brings a copy of the live claims of the first entries, so many as `front`, up to those of now.
+/// Its work goes by the entries from there on alone: room for every claim is made first, then what
+/// was freed is taken out, and what stands is held; the claims of an entry that came and was freed
+/// since are never held. For want of memory the claims of the copy stay.
 pub fn bring_up(
     alloc: Global,
     history: &History,
@@ -164,7 +166,8 @@ fn push_owned(all: &mut Vec<(Claim, Owner)>, claims: &[Claim], at: u64) -> Resul
 // Takes out what these entries hold.
 fn take_out_all(book: &mut Occupations, freed: &[Freed])
     requires zones { All (λ one. All (λ claim. claim.zone < length book.old) one.claims) freed.now }
-    requires all { All (λ one. AreOnZonesOf (of_entry one.at) (held book.old) one.claims) freed.now }
+    requires all { All (λ one. AreOnZonesOf (of_entry one.at) (held book.old) one.claims)
+        freed.now }
     ensures left { (one : HeldClaim) → Contains (held book.new) one ↔
         (Contains (held book.old) one × All (λ gone. one.1 ≢ of_entry gone.at) freed.now) }
     ensures zones { length book.new ≡ length book.old }

@@ -1,5 +1,6 @@
 -- A text with its numbers between quotation marks, as a cut of the whole text into pieces.
-use Rattle.std.specs.Prelude.{◌≡◌, ℕ, ◌+◌, ◌<◌, List, [], ◌∷◌, ◌++◌, length, flat_map, Bool, cond, if◌then◌else◌, ◌&&◌, ◌||◌, ◌==◌, not, true, false}
+use Rattle.std.specs.Prelude.{◌≡◌, ℕ, ◌+◌, ◌<◌, List, [], ◌∷◌, ◌++◌, length, flat_map, Bool, cond}
+use Rattle.std.specs.Prelude.{if◌then◌else◌, ◌&&◌, ◌||◌, ◌==◌, not, true, false}
 use Rattle.std.specs.List.{prefix_len, concat, list_all}
 use Rattle.std.specs.Char.{is_ascii_digit}
 use Rattle.decimal_quote.specs.Numbers.{is_number, is_short_whole}
@@ -14,8 +15,8 @@ backslash = 92
 abbrev pub is_number_byte : ℕ → Bool
 is_number_byte b = is_ascii_digit b || b == 43 || b == 45 || b == 46 || b == 101 || b == 69
 
--- How many bytes a string takes behind its first mark: up to the next mark that no backslash takes with it, or up to
--- the text's end.
+-- How many bytes a string takes behind its first mark: up to the next mark that no backslash takes
+-- with it, or up to the text's end.
 abbrev pub string_length : List ℕ → ℕ
 string_length [] = 0
 string_length (b ∷ []) = 1
@@ -24,7 +25,8 @@ string_length (b ∷ c ∷ rest) =
     else if b == backslash then 2 + string_length rest
     else 1 + string_length (c ∷ rest)
 
--- How many bytes the first piece takes: a string, the longest run of bytes of numbers, or one other byte.
+-- How many bytes the first piece takes: a string, the longest run of bytes
+-- of numbers, or one other byte.
 abbrev pub piece_length : List ℕ → ℕ
 piece_length [] = 0
 piece_length (b ∷ rest) =
@@ -59,4 +61,6 @@ begins_run (b ∷ _) = is_number_byte b
 -- Each piece that begins with a byte of numbers has such bytes alone, and none stands behind it.
 abbrev pub HaveLongestRuns : List (List ℕ) → Type 0
 HaveLongestRuns [] = Unit {0}
-HaveLongestRuns (piece ∷ pieces) = (begins_run piece ≡ true → (list_all is_number_byte piece ≡ true) × (begins_run (concat pieces) ≡ false)) × HaveLongestRuns pieces
+HaveLongestRuns (piece ∷ pieces) =
+    (begins_run piece ≡ true → (list_all is_number_byte piece ≡ true)
+    × (begins_run (concat pieces) ≡ false)) × HaveLongestRuns pieces

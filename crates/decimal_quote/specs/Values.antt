@@ -1,5 +1,8 @@
--- The exact value that a number of JSON spells (RFC 8259, section 6), and what it is as a whole number.
-use Rattle.std.specs.Prelude.{ℕ, ◌+◌, ◌*◌, ◌/◌, ◌%◌, ◌^◌, ℤ, pos, neg_ℤ, List, [], ◌++◌, length, take, drop, Bool, if◌then◌else◌, ◌&&◌, ◌||◌, ◌==◌, not, nat_lt, Option, Some, None, Result, Ok, Err}
+-- The exact value that a number of JSON spells (RFC 8259, section 6), and
+-- what it is as a whole number.
+use Rattle.std.specs.Prelude.{ℕ, ◌+◌, ◌*◌, ◌/◌, ◌%◌, ◌^◌, ℤ, pos, neg_ℤ, List, [], ◌++◌, length}
+use Rattle.std.specs.Prelude.{take, drop, Bool, if◌then◌else◌, ◌&&◌, ◌||◌, ◌==◌, not, nat_lt}
+use Rattle.std.specs.Prelude.{Option, Some, None, Result, Ok, Err}
 use Rattle.std.specs.List.{prefix_len}
 use Rattle.std.specs.Char.{is_ascii_digit}
 use Rattle.std.specs.Int.{div_ceil}
@@ -47,11 +50,13 @@ is_divided t = begins 45 (exponent_part t)
 abbrev pub exponent_amount : List ℕ → ℕ
 exponent_amount t = digits_value 10 (front_digits (after_sign (exponent_part t)))
 
--- The value without its sign is numerator / denominator: all digits as one whole number, times ten as often as the
--- exponent says, divided by ten once for each digit behind the point and as often as a negative exponent says.
+-- The value without its sign is numerator / denominator: all digits as one whole number, times ten
+-- as often as the exponent says, divided by ten once for each digit behind the point and as often
+-- as a negative exponent says.
 unfoldable pub numerator : List ℕ → ℕ
 numerator t =
-    digits_value 10 (whole_digits t ++ fraction_digits t) * 10 ^ (if is_divided t then 0 else exponent_amount t)
+    digits_value 10 (whole_digits t ++ fraction_digits t)
+    * 10 ^ (if is_divided t then 0 else exponent_amount t)
 
 unfoldable pub denominator : List ℕ → ℕ
 denominator t =

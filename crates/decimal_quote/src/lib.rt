@@ -1,5 +1,6 @@
-//! Numbers of a JSON text as texts: all but 0 and whole numbers of 1 to 18 digits without a leading zero stand between
-//! quotation marks, so that no reader makes a float of them, and each gives its exact value.
+//! Numbers of a JSON text as texts: all but 0 and whole numbers of 1 to 18 digits without
+//! a leading zero stand between quotation marks, so that no reader makes a float of them,
+//! and each gives its exact value.
 #![tactic(auto)]
 
 mod numbers;

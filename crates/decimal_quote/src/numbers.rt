@@ -3,7 +3,11 @@
 ghost use Rattle.std.specs.Prelude.{◌≡◌, ◌^◌, ◌<◌, ◌≤◌, drop, length, option_map};
 ghost use Rattle.std.specs.List.{list_all, prefix_len};
 ghost use Rattle.std.specs.Char.{is_ascii_digit};
-ghost use Rattle.decimal_quote.specs.Numbers.{after_number, after_minus, after_whole, after_fraction, after_exponent, after_sign, after_digits, begins, is_number as is_number_text, is_short_natural as is_short_natural_text, is_short_whole as is_short_whole_text};
+ghost use Rattle.decimal_quote.specs.Numbers.{after_number, after_minus, after_whole};
+ghost use Rattle.decimal_quote.specs.Numbers.{after_fraction, after_exponent, after_sign};
+ghost use Rattle.decimal_quote.specs.Numbers.{after_digits, begins, is_number as is_number_text};
+ghost use Rattle.decimal_quote.specs.Numbers.{is_short_natural as is_short_natural_text};
+ghost use Rattle.decimal_quote.specs.Numbers.{is_short_whole as is_short_whole_text};
 
 /// Whether the whole text is a number.
 pub fn is_number(text: &[u8]) -> bool

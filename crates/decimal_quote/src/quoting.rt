@@ -1,8 +1,10 @@
 //! One pass over a text, piece by piece.
 
-ghost use Rattle.std.specs.Prelude.{◌≡◌, ℕ, List, length, ◌<◌, ◌≤◌, IfOk, OnOk, OnErr, ◌++◌, IsTrue, ◌↔◌};
+ghost use Rattle.std.specs.Prelude.{◌≡◌, ℕ, List, length, ◌<◌, ◌≤◌, IfOk, OnOk, OnErr, ◌++◌};
+ghost use Rattle.std.specs.Prelude.{IsTrue, ◌↔◌};
 ghost use Rattle.std.specs.List.{prefix_len};
-ghost use Rattle.decimal_quote.specs.Quoted.{AreCut, HaveLongestRuns, IsQuoted, piece_length, string_length, shown, needs_marks, is_number_byte};
+ghost use Rattle.decimal_quote.specs.Quoted.{AreCut, HaveLongestRuns, IsQuoted, piece_length};
+ghost use Rattle.decimal_quote.specs.Quoted.{string_length, shown, needs_marks, is_number_byte};
 
 use crate::numbers::{is_number, is_short_whole};
 use no_memory::NoMemory;
@@ -12,11 +14,12 @@ const MARK: u8 = b'"';
 
 const BACKSLASH: u8 = b'\\';
 
-/// The text with quotation marks round its numbers (RFC 8259, section 6), but for 0 and those of 1 to 18 digits, the
-/// first not 0, behind a minus or none. Strings stay as they are.
+/// The text with quotation marks round its numbers (RFC 8259, section 6), but for 0 and those of 1
+/// to 18 digits, the first not 0, behind a minus or none. Strings stay as they are.
 pub fn quote(alloc: Global, text: &[u8]) -> Result<Vec<u8>, NoMemory>
     ensures quoted { IfOk result (λ quoted. IsQuoted text.now quoted.items) }
-    ensures only { IfOk result (λ quoted. (other : List ℕ) → IsQuoted text.now other → other ≡ quoted.items) }
+    ensures only { IfOk result
+        (λ quoted. (other : List ℕ) → IsQuoted text.now other → other ≡ quoted.items) }
 {
     let mut quoted = Vec::with_capacity(alloc, text.len().saturating_mul(2))?;
     let mut rest = text;

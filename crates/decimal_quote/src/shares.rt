@@ -1,30 +1,34 @@
 //! A decimal as a whole number and what is left over, without numbers of more than 128 bits.
 
-ghost use Rattle.std.specs.Prelude.{◌≡◌, ◌+◌, ◌<◌, ◌≤◌, ◌*◌, ◌/◌, ◌%◌, ◌^◌, ◌==◌, ◌&&◌, not, length};
+ghost use Rattle.std.specs.Prelude.{◌≡◌, ◌+◌, ◌<◌, ◌≤◌, ◌*◌, ◌/◌, ◌%◌, ◌^◌, ◌==◌, ◌&&◌, not};
+ghost use Rattle.std.specs.Prelude.{length};
 ghost use Rattle.std.specs.List.{list_all};
 ghost use Rattle.std.specs.Str.Parse.{AllDigits, digits_value_after};
 ghost use Rattle.decimal_quote.specs.Values.{below, is_zero, raised};
 
-/// A quotient: its whole number, None where that is not below the end that was asked for, and whether something is
-/// left over.
+/// A quotient: its whole number, None where that is not below the end that was asked for, and
+/// whether something is left over.
 #[derive(Clone, Copy)]
 pub(crate) struct Share {
     pub amount: Option<u128>,
     pub has_rest: bool,
 }
 
-/// All digits as one whole number, times ten to the power `up`, divided by ten once for each digit of the fraction and
-/// `down` times more.
+/// All digits as one whole number, times ten to the power `up`, divided by ten once for each digit
+/// of the fraction and `down` times more.
 ///
-/// The point moves `up` places to the right and `down` places to the left; what stands before it is the whole number.
+/// The point moves `up` places to the right and `down` places to the left; what stands
+/// before it is the whole number.
 pub(crate) fn divide(whole: &[u8], fraction: &[u8], up: u128, down: u128, end: u128) -> Share
     requires digits_before { AllDigits 10 whole.now }
     requires digits_behind { AllDigits 10 fraction.now }
     requires up { up < 2 ^ 80 }
     requires some { 0 < end }
     requires end { end ≤ 2 ^ 64 }
-    ensures amount { result.amount ≡ below end (raised whole.now fraction.now up / 10 ^ (length fraction.now + down)) }
-    ensures rest { result.has_rest ≡ not (raised whole.now fraction.now up % 10 ^ (length fraction.now + down) == 0) }
+    ensures amount { result.amount
+        ≡ below end (raised whole.now fraction.now up / 10 ^ (length fraction.now + down)) }
+    ensures rest { result.has_rest
+        ≡ not (raised whole.now fraction.now up % 10 ^ (length fraction.now + down) == 0) }
 {
     let point = (whole.len() as u128 + up).saturating_sub(down);
     let of_whole = point.min(whole.len() as u128);
@@ -43,7 +47,8 @@ fn amount_before(front: &[u8], more: &[u8], zeros: u128, end: u128) -> Option<u1
     requires more_digits { AllDigits 10 more.now }
     requires some { 0 < end }
     requires end { end ≤ 2 ^ 64 }
-    ensures { result ≡ below end (digits_value_after 10 (digits_value_after 10 0 front.now) more.now * 10 ^ zeros) }
+    ensures { result ≡ below end
+        (digits_value_after 10 (digits_value_after 10 0 front.now) more.now * 10 ^ zeros) }
 {
     let Some(amount) = digits_below(0, front, end) else {
         return None;

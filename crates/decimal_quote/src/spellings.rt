@@ -3,11 +3,14 @@
 ghost use Rattle.std.specs.Prelude.{◌≡◌, drop, [], if◌then◌else◌};
 ghost use Rattle.std.specs.Str.Parse.{AllDigits};
 ghost use Rattle.decimal_quote.specs.Numbers.{begins, after_sign};
-ghost use Rattle.decimal_quote.specs.Values.{front_digits, behind_digits, is_negative, whole_digits, fraction_digits, exponent_part, is_divided};
+ghost use Rattle.decimal_quote.specs.Values.{front_digits, behind_digits, is_negative};
+ghost use Rattle.decimal_quote.specs.Values.{whole_digits, fraction_digits, exponent_part};
+ghost use Rattle.decimal_quote.specs.Values.{is_divided};
 
 use crate::numbers::{begins_with, behind_first, behind_minus, behind_sign, digits_at_front};
 
-/// The parts of a number's text: the digits before and behind its point, and its exponent without the sign.
+/// The parts of a number's text: the digits before and behind its point, and
+/// its exponent without the sign.
 #[derive(Clone, Copy)]
 pub(crate) struct Spelling<'a> {
     pub is_negative: bool,
@@ -53,9 +56,11 @@ fn digit_run(text: &[u8]) -> (&[u8], &[u8])
 
 /// The digits behind a point at the front, and what follows them.
 fn fraction_run(text: &[u8]) -> (&[u8], &[u8])
-    ensures front { result.0.now ≡ (if begins 46 text.now then front_digits (drop 1 text.now) else []) }
+    ensures front { result.0.now
+        ≡ (if begins 46 text.now then front_digits (drop 1 text.now) else []) }
     ensures digits { AllDigits 10 result.0.now }
-    ensures behind { result.1.now ≡ (if begins 46 text.now then behind_digits (drop 1 text.now) else text.now) }
+    ensures behind { result.1.now
+        ≡ (if begins 46 text.now then behind_digits (drop 1 text.now) else text.now) }
 {
     if begins_with(text, b'.') {
         digit_run(behind_first(text))

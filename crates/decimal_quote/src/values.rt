@@ -1,7 +1,11 @@
 //! The exact value of a number, as a whole number.
 
-ghost use Rattle.std.specs.Prelude.{◌≡◌, ◌<◌, ◌≤◌, ◌*◌, ◌/◌, ◌%◌, ◌^◌, ◌==◌, ℕ, not, true, nat_lt, IfSome, Ok, Err, if◌then◌else◌};
-ghost use Rattle.decimal_quote.specs.Values.{whole_of, scaled_of, whole_value, scaled_value, count_by, at_most_18_digits, count_told, of_number, exponent_amount, numerator, denominator, units, below, rounded, is_away, is_negative, signed, fits_64_bits};
+ghost use Rattle.std.specs.Prelude.{◌≡◌, ◌<◌, ◌≤◌, ◌*◌, ◌/◌, ◌%◌, ◌^◌, ◌==◌, ℕ, not, true, nat_lt};
+ghost use Rattle.std.specs.Prelude.{IfSome, Ok, Err, if◌then◌else◌};
+ghost use Rattle.decimal_quote.specs.Values.{whole_of, scaled_of, whole_value, scaled_value};
+ghost use Rattle.decimal_quote.specs.Values.{count_by, at_most_18_digits, count_told, of_number};
+ghost use Rattle.decimal_quote.specs.Values.{exponent_amount, numerator, denominator, units, below};
+ghost use Rattle.decimal_quote.specs.Values.{rounded, is_away, is_negative, signed, fits_64_bits};
 ghost use Rattle.decimal_quote.specs.declared.values.NotWhole.TheVariants.{Fraction};
 
 use crate::numbers::{begins_with, is_number};
@@ -33,15 +37,18 @@ pub enum NotWhole {
     /// Its value is not whole.
     #[error("not a whole number")]
     Fraction,
-    /// It has more than 64 bytes, an exponent beyond 99 either way, or a result of more than 18 digits.
+    /// It has more than 64 bytes, an exponent beyond 99 either way, or a
+    /// result of more than 18 digits.
     #[error("out of range")]
     Range,
 }
 
-/// The value of a number of JSON (RFC 8259, section 6), where that is a whole number of at most 18 digits.
+/// The value of a number of JSON (RFC 8259, section 6), where that is a whole
+/// number of at most 18 digits.
 ///
-/// Refuses a text that is no number as `Shape`, then one of more than 64 bytes or with an exponent beyond 99 either
-/// way as `Range`, then one whose value is not whole as `Fraction`, then one of more digits as `Range`.
+/// Refuses a text that is no number as `Shape`, then one of more than 64 bytes or with an
+/// exponent beyond 99 either way as `Range`, then one whose value is not whole as `Fraction`,
+/// then one of more digits as `Range`.
 pub fn whole(text: &[u8]) -> Result<i64, NotWhole>
     ensures { result ≡ whole_of text.now }
 {
@@ -51,11 +58,11 @@ pub fn whole(text: &[u8]) -> Result<i64, NotWhole>
     }
 }
 
-/// The value of a number of JSON in units, or in thousandths where `milli`, rounded towards plus infinity where `up`
-/// and else towards minus infinity.
+/// The value of a number of JSON in units, or in thousandths where `milli`, rounded towards plus
+/// infinity where `up` and else towards minus infinity.
 ///
-/// Refuses a text that is no number as `Shape`; one of more than 64 bytes, with an exponent beyond 99 either way or
-/// with a result of more than 18 digits as `Range`.
+/// Refuses a text that is no number as `Shape`; one of more than 64 bytes, with an exponent beyond
+/// 99 either way or with a result of more than 18 digits as `Range`.
 pub fn scaled(text: &[u8], up: bool, milli: bool) -> Result<i64, NotWhole>
     ensures { result ≡ scaled_of text.now up milli }
 {
@@ -65,7 +72,8 @@ pub fn scaled(text: &[u8], up: bool, milli: bool) -> Result<i64, NotWhole>
     }
 }
 
-/// The value of a number of JSON, where that is a whole number of 64 bits; else, and of any other text, 0.
+/// The value of a number of JSON, where that is a whole number of 64 bits;
+/// else, and of any other text, 0.
 pub fn count_of(text: &[u8]) -> i64
     ensures { result ≡ count_told text.now }
 {
@@ -81,7 +89,8 @@ pub fn count_of(text: &[u8]) -> i64
 
 /// The end of the amounts of numbers of 64 bits with the sign of the text.
 fn end_of_64_bits(text: &[u8]) -> u128
-    ensures fits { (amount : ℕ) → nat_lt amount result ≡ fits_64_bits (is_negative text.now) amount }
+    ensures fits { (amount : ℕ)
+        → nat_lt amount result ≡ fits_64_bits (is_negative text.now) amount }
     ensures some { 0 < result }
     ensures end { result ≤ 2 ^ 64 }
 {
@@ -95,7 +104,9 @@ fn end_of_64_bits(text: &[u8]) -> u128
 /// The number that is meant where nothing is left over, else 0.
 fn count_share(text: &[u8], share: Share) -> i64
     requires { IfSome share.amount (λ amount. fits_64_bits (is_negative text.now) amount ≡ true) }
-    ensures { (n d end : ℕ) → share.amount ≡ below end (n / d) → share.has_rest ≡ not (n % d == 0) → ((amount : ℕ) → nat_lt amount end ≡ fits_64_bits (is_negative text.now) amount) → result ≡ count_by (is_negative text.now) n d }
+    ensures { (n d end : ℕ) → share.amount ≡ below end (n / d) → share.has_rest ≡ not (n % d == 0)
+        → ((amount : ℕ) → nat_lt amount end ≡ fits_64_bits (is_negative text.now) amount)
+        → result ≡ count_by (is_negative text.now) n d }
 {
     if share.has_rest {
         return 0;
@@ -133,7 +144,9 @@ fn whole_amount(text: &[u8], exponent: u128) -> Result<i64, NotWhole>
 }
 
 fn whole_share(text: &[u8], share: Share) -> Result<i64, NotWhole>
-    ensures { (n d : ℕ) → share.amount ≡ below (10 ^ 18) (n / d) → share.has_rest ≡ not (n % d == 0) → result ≡ (if n % d == 0 then at_most_18_digits (is_negative text.now) (n / d) else Err Fraction) }
+    ensures { (n d : ℕ) → share.amount ≡ below (10 ^ 18) (n / d) → share.has_rest ≡ not (n % d == 0)
+        → result ≡ (if n % d == 0 then at_most_18_digits (is_negative text.now) (n / d)
+        else Err Fraction) }
 {
     if share.has_rest {
         return Err(NotWhole::Fraction);
@@ -180,8 +193,10 @@ fn share_of(text: &[u8], exponent: u128, milli: bool, end: u128) -> Share
     requires handy { exponent < 2 ^ 70 }
     requires some { 0 < end }
     requires end { end ≤ 2 ^ 64 }
-    ensures amount { result.amount ≡ below end (numerator text.now * units milli / denominator text.now) }
-    ensures rest { result.has_rest ≡ not (numerator text.now * units milli % denominator text.now == 0) }
+    ensures amount { result.amount
+        ≡ below end (numerator text.now * units milli / denominator text.now) }
+    ensures rest { result.has_rest
+        ≡ not (numerator text.now * units milli % denominator text.now == 0) }
 {
     let spelling = spelling_of(text);
     let places = places(milli);
@@ -200,10 +215,12 @@ fn places(milli: bool) -> u128
     if milli { 3 } else { 0 }
 }
 
-/// The amount as it is, or one more where something is left over and it is to be rounded away from zero.
+/// The amount as it is, or one more where something is left over and it is
+/// to be rounded away from zero.
 fn amount_rounded(amount: u128, has_rest: bool, is_away: bool) -> u128
     requires { amount < 2 ^ 64 }
-    ensures { (n d : ℕ) → amount ≡ n / d → has_rest ≡ not (n % d == 0) → result ≡ rounded is_away n d }
+    ensures { (n d : ℕ) → amount ≡ n / d → has_rest ≡ not (n % d == 0)
+        → result ≡ rounded is_away n d }
 {
     if has_rest && is_away {
         amount + 1

@@ -1,5 +1,6 @@
 -- Lines of a text, counted by how they begin. *inside*
-use Rattle.std.specs.Prelude.{◌≡◌, ℕ, ◌+◌, All, Bool, false, List, [], ◌∷◌, codes, filter, length, nat_eq}
+use Rattle.std.specs.Prelude.{◌≡◌, ℕ, ◌+◌, All, Bool, false, List, [], ◌∷◌, codes, filter, length}
+use Rattle.std.specs.Prelude.{nat_eq}
 use Rattle.std.specs.List.{slice_split, starts_with}
 use Rattle.admission_rules.specs.declared.quotas.Quota.{Quota}
 use Rattle.line_sessions.specs.Told.{Told}
@@ -14,7 +15,8 @@ use Rattle.request_server.specs.declared.plans.Plan.{Plan}
 use Rattle.request_server.specs.declared.plans.Session.{Session}
 use Rattle.demo_command.specs.declared.summaries.Counts.{Counts}
 use Rattle.demo_command.specs.Lines.{demo_lines}
-use Rattle.demo_command.specs.Sessions.{client_name, count_told, IsDecided, IsSession, is_granted, is_no_path}
+use Rattle.demo_command.specs.Sessions.{client_name, count_told, IsDecided, IsSession, is_granted}
+use Rattle.demo_command.specs.Sessions.{is_no_path}
 
 -- the line begins so
 abbrev pub begins : List ℕ → List ℕ → Bool
@@ -45,7 +47,8 @@ pub record IsCounted (sessions : List DemoSession) (front : ℕ) (counts : Count
   pub why : session.ended.why ≡ Input
   pub count : IsCount session.sink.held front counts
 
--- the plan of the client whose lines are those of the demo, who was told nothing yet, wants no proofs, and has no rules
+-- the plan of the client whose lines are those of the demo, who was told nothing yet,
+-- wants no proofs, and has no rules
 pub record IsDemoPlan (number : ℕ) (plan : DemoPlan) : Type 0 where
   pub name : plan.name ≡ client_name
   pub lines : plan.source.left ≡ ended (demo_lines number)
@@ -59,7 +62,8 @@ pub record IsOnePlan (number : ℕ) (plans : List DemoPlan) : Type 0 where
   pub one : plans ≡ plan ∷ []
   pub is : IsDemoPlan number plan
 
--- the session of the demo was held, and this is counted over its replies and over the entries that were left
+-- the session of the demo was held, and this is counted over its replies and
+-- over the entries that were left
 pub record AreHeld (number : ℕ) (counts : Counts) : Type 0 where
   pub told : List Told
   pub left : Ledger DiskInMemory

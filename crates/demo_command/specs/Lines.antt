@@ -14,7 +14,8 @@ drawn number (suc line) = next (drawn number line)
 abbrev pub departure : ℕ → ℕ → ℕ
 departure number line = drawn number line % 16000
 
--- train F1 is sought from W to E, departing exactly then and arriving at any tick of the horizon, without a stop
+-- train F1 is sought from W to E, departing exactly then and arriving at any tick
+-- of the horizon, without a stop
 abbrev pub ask_text : ℕ → ℕ → List ℕ
 ask_text line tick =
     codes "ask " ++ decimal line ++ codes " F1 W E " ++ decimal tick ++ codes " " ++ decimal tick

@@ -1,6 +1,7 @@
--- The railway of the demo: a track of 80,000 m between two buffer stops, with a detector and a signal every 2000 m, and
--- one route along it; a timetable without planned trains, and one train.
-use Rattle.std.specs.Prelude.{ℕ, zero, suc, false, ◌+◌, ◌*◌, ◌-◌, List, [], ◌∷◌, ◌++◌, codes, nat_eq, if◌then◌else◌}
+-- The railway of the demo: a track of 80,000 m between two buffer stops, with a detector and a
+-- signal every 2000 m, and one route along it; a timetable without planned trains, and one train.
+use Rattle.std.specs.Prelude.{ℕ, zero, suc, false, ◌+◌, ◌*◌, ◌-◌, List, [], ◌∷◌, ◌++◌, codes}
+use Rattle.std.specs.Prelude.{nat_eq, if◌then◌else◌}
 use Rattle.named_network.specs.declared.BlockName.{BlockName}
 use Rattle.named_network.specs.declared.Named.{Named}
 use Rattle.named_network.specs.declared.TrackPiece.{TrackPiece}
@@ -19,8 +20,9 @@ use Rattle.rail_types.specs.declared.trains.Train.{Train}
 abbrev pub block_count : ℕ
 block_count = 40
 
--- Points. Detector d, from 0 to 38, is point 2d in the direction of the route, and the buffer stops stand behind the
--- detectors: the first block begins at the western one, and the last ends at the eastern one.
+-- Points. Detector d, from 0 to 38, is point 2d in the direction of the route, and the
+-- buffer stops stand behind the detectors: the first block begins at the western one, and
+-- the last ends at the eastern one.
 abbrev pub begin_of : ℕ → ℕ
 begin_of at = if nat_eq at 0 then 78 else 2 * (at - 1)
 

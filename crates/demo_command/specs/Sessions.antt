@@ -1,5 +1,6 @@
 -- The session of the demo, and what is counted over its replies.
-use Rattle.std.specs.Prelude.{◌≡◌, ◌||◌, ℕ, All, Bool, true, false, IsTrue, List, [], ◌∷◌, ◌++◌, codes, decimal, filter, length}
+use Rattle.std.specs.Prelude.{◌≡◌, ◌||◌, ℕ, All, Bool, true, false, IsTrue, List, [], ◌∷◌, ◌++◌}
+use Rattle.std.specs.Prelude.{codes, decimal, filter, length}
 use Rattle.client_lines.specs.Names.{Names}
 use Rattle.line_sessions.specs.Told.{lines_told, Told}
 use Rattle.outside_io.specs.StoredDisks.{DiskInMemory}
@@ -19,8 +20,8 @@ client_name = codes "A"
 abbrev pub demo_names : Names
 demo_names = record { railway = demo_railway; trains = demo_train ∷ [] }
 
--- The lines of the demo were told this, as one history gives it, which began without an entry; the client wants no
--- proofs, and has no rules. These are the entries that were left.
+-- The lines of the demo were told this, as one history gives it, which began without an entry; the
+-- client wants no proofs, and has no rules. These are the entries that were left.
 pub record IsSession (number : ℕ) (told : List Told) (left : Ledger DiskInMemory) : Type 0 where
   pub found : Ledger DiskInMemory
   pub timetable : found.timetable ≡ demo_timetable
@@ -60,8 +61,9 @@ summary number granted refused front =
     codes "demo " ++ decimal number ++ codes " asked 1000 granted " ++ decimal granted
     ++ codes " refused " ++ decimal refused ++ codes " front " ++ decimal front ++ 10 ∷ []
 
--- The line of the demo: it is counted over the replies of its session, and over the entries that were left. Each reply
--- grants a path or tells that there is none, so none of them wanted memory; and there is one entry for each grant.
+-- The line of the demo: it is counted over the replies of its session, and over the entries that
+-- were left. Each reply grants a path or tells that there is none, so none of them wanted memory;
+-- and there is one entry for each grant.
 pub record IsDemo (number : ℕ) (line : List ℕ) : Type 0 where
   pub told : List Told
   pub left : Ledger DiskInMemory

@@ -1,4 +1,5 @@
-//! The command `demo`: a thousand asks over a railway of its own, and how many of them were granted and refused.
+//! The command `demo`: a thousand asks over a railway of its own, and how many of
+//! them were granted and refused.
 #![tactic(auto)]
 
 mod counts;

@@ -1,7 +1,10 @@
 //! The railway of the demo.
 
 ghost use Rattle.std.specs.Prelude.{◌≡◌, ◌∷◌, ◌<◌, [], codes, IfOk};
-ghost use Rattle.demo_command.specs.Railways.{block_at, block_name_at, cell_of, demo_base, demo_network, demo_railway, first_block_names, first_blocks, first_zone_names, piece_at, served_by, zone_name_at};
+ghost use Rattle.demo_command.specs.Railways.{block_at, block_name_at, cell_of, demo_base};
+ghost use Rattle.demo_command.specs.Railways.{demo_network, demo_railway, first_block_names};
+ghost use Rattle.demo_command.specs.Railways.{first_blocks, first_zone_names, piece_at, served_by};
+ghost use Rattle.demo_command.specs.Railways.{zone_name_at};
 
 use named_network::{BlockName, Named, TrackPiece, ZoneName};
 use no_memory::NoMemory;

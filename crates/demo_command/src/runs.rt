@@ -15,10 +15,10 @@ use std::alloc::AllocGlobal;
 use std::sync::Wait;
 use std::thread::Threads;
 
-/// Runs `demo` over a number and the name of a text: a client asks a thousand times for a train on a railway that is held
-/// in memory, at ticks that the number draws, over a journal in memory that is empty before. Each ask is granted a path or
-/// told that there is none, and how many of either there were is written as one line. Where a reply wants memory nothing is
-/// written.
+/// Runs `demo` over a number and the name of a text: a client asks a thousand times for a train on
+/// a railway that is held in memory, at ticks that the number draws, over a journal in memory that
+/// is empty before. Each ask is granted a path or told that there is none, and how many of either
+/// there were is written as one line. Where a reply wants memory nothing is written.
 pub fn run_demo<R: AllocGlobal + Threads + Wait + Sync, O: Outside>(
     rt: &R,
     number: u32,

@@ -95,7 +95,8 @@ fn one_plan(
     Ok(plans)
 }
 
-// The one client, whose lines come out of memory, and whose replies go there. It wants no proofs, and has no rules.
+// The one client, whose lines come out of memory, and whose replies go there. It wants
+// no proofs, and has no rules.
 fn plan(alloc: Global, number: u32) -> Result<Plan<MemSource, MemSink, NoBetween, Quota>, NoMemory>
     ensures { IfOk result (IsDemoPlan number) }
 {
@@ -124,8 +125,9 @@ fn counts_of(
     Ok(counts)
 }
 
-// No call of the streams or the disk is listed to fail, and there is room for all replies and entries: a session that
-// ended before its input did, or in which a line was told anything else, wanted memory.
+// No call of the streams or the disk is listed to fail, and there is room for all replies
+// and entries: a session that ended before its input did, or in which a line was told
+// anything else, wanted memory.
 fn counted(session: &Session<MemSource, MemSink, Quota>, front: u64) -> Result<Counts, NoMemory>
     ensures why { IfOk result (λ counts. session.now.ended.why ≡ Input) }
     ensures counted { IfOk result (λ counts. IsCount session.now.sink.held front counts) }

@@ -8,11 +8,13 @@ use rail_types::Train;
 use std::alloc::Global;
 use train_file::{Trains, read_trains};
 
-const TRAINS: &str =
-    "{\"trains\":[{\"name\":\"F1\",\"length_m\":400,\"speed\":20000,\"accel\":200,\"brake\":250,\"allowance\":0}]}";
+const TRAINS: &str = concat!(
+    "{\"trains\":[{\"name\":\"F1\",\"length_m\":400,\"speed\":20000,",
+    "\"accel\":200,\"brake\":250,\"allowance\":0}]}"
+);
 
-/// The one train. A file that tells it is read, since trains are made by reading them; that this tells no other train is
-/// looked at again.
+/// The one train. A file that tells it is read, since trains are made by reading them; that this
+/// tells no other train is looked at again.
 pub(crate) fn trains(alloc: Global) -> Result<Trains, NoMemory>
     ensures { IfOk result (λ trains. trains ≡ demo_train ∷ []) }
 {

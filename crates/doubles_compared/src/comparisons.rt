@@ -15,8 +15,8 @@ use rail_types::{Claim, Network, Path, Request, Settings};
 use std::alloc::Global;
 use tail_states::{Closed, Places, PlacesFault};
 
-/// What the search answers: its path, the pairs of place and tick that its members hold, and the last leave of the path
-/// that is found without members.
+/// What the search answers: its path, the pairs of place and tick that its members hold, and the
+/// last leave of the path that is found without members.
 #[derive(Debug, Drop)]
 pub struct Got {
     pub path: Option<Path>,
@@ -129,8 +129,8 @@ pub fn compare(
     }
 }
 
-/// How many labels the search keeps in an empty book, and None where the network has a flaw or the request too many
-/// places.
+/// How many labels the search keeps in an empty book, and None where the network has a flaw or
+/// the request too many places.
 pub fn labels(
     alloc: Global,
     net: &Network,

@@ -87,8 +87,8 @@ fn is_as_anew<D: Disk>(alloc: Global, book: &Book<D>, copy: &Occupations) -> boo
     }
 }
 
-/// A book that was sent the first of these bodies and then the others, and a copy from in between, where it is as one made
-/// anew in the end.
+/// A book that was sent the first of these bodies and then the others, and a copy from in between,
+/// where it is as one made anew in the end.
 pub fn copied_since(
     alloc: Global,
     before: &[Vec<u8>],

@@ -36,7 +36,8 @@ fn freeing(alloc: Global, at: u64, freed: u64) -> Result<Vec<u8>, NoMemory> {
     Ok(body)
 }
 
-// A deed by chance: three of four hold a zone for up to 30 ticks, the fourth frees an entry before it, if it may.
+// A deed by chance: three of four hold a zone for up to 30 ticks, the fourth frees
+// an entry before it, if it may.
 fn deed(alloc: Global, at: u64) -> Result<Vec<u8>, NoMemory> {
     let chance = next_number(next_number(at)) >> 33;
     let rest = chance / 4;
@@ -62,7 +63,8 @@ fn deeds(alloc: Global, from: u64, to: u64) -> Result<Vec<Vec<u8>>, NoMemory> {
     Ok(all)
 }
 
-/// How many entries so many deeds give, where a copy from behind the first of them is as one made anew in the end.
+/// How many entries so many deeds give, where a copy from behind the first of them is
+/// as one made anew in the end.
 pub fn entries_from(alloc: Global, first: u64, count: u64) -> Option<u64> {
     let (Ok(before), Ok(since)) = (deeds(alloc, 0, first), deeds(alloc, first, count)) else {
         return None;

@@ -1,11 +1,13 @@
-//! The search as the rules say it: every place with every tick, one by one, by running times, places and claims that are
-//! worked out here once more. It is slow, and shares nothing with the search but the types that it is asked in.
+//! The search as the rules say it: every place with every tick, one by one, by running times,
+//! places and claims that are worked out here once more. It is slow, and shares nothing with the
+//! search but the types that it is asked in.
 
 use no_memory::NoMemory;
 use rail_types::{Block, Claim, List, Network, Request, Settings, Span, Train, Window};
 use std::alloc::Global;
 
-/// What the search should answer: the earliest last leave, and how many pairs of place and tick a train can reach.
+/// What the search should answer: the earliest last leave, and how many pairs of
+/// place and tick a train can reach.
 #[derive(Clone, Copy, Debug, PartialEq, Eq)]
 pub struct Expected {
     pub leave: Option<u32>,
@@ -13,8 +15,8 @@ pub struct Expected {
     pub places: usize,
 }
 
-// A place of the train: the blocks under it, the lesser speed of the block before the last of them, 0 where that was
-// entered from stand, whether it stands, and the stops that it made.
+// A place of the train: the blocks under it, the lesser speed of the block before the last of them,
+// 0 where that was entered from stand, whether it stands, and the stops that it made.
 #[derive(Debug, Drop)]
 struct Spot {
     tail: Vec<u32>,
@@ -23,7 +25,8 @@ struct Spot {
     made: usize,
 }
 
-// A move: the number of the place behind it, none behind an end, its ticks, and its claims at tick 0.
+// A move: the number of the place behind it, none behind an end, its
+// ticks, and its claims at tick 0.
 #[derive(Debug, Drop)]
 struct Going {
     to: Option<usize>,
@@ -54,7 +57,8 @@ fn rolling(block: &Block, train: &Train, metres: u32) -> u64 {
     ceil(way.saturating_mul(percent), speed.saturating_mul(100))
 }
 
-// The seconds lost in a block that is entered with another speed, 0 being that of a train that stands.
+// The seconds lost in a block that is entered with another speed, 0 being
+// that of a train that stands.
 fn entry_loss(block: &Block, train: &Train, settings: &Settings, entered: u32) -> u64 {
     let speed = train.speed.min(block.speed);
     let gain = u64::from(train.accel).saturating_mul(2);
@@ -153,7 +157,8 @@ fn uncleared(
     Ok(left)
 }
 
-// The zones of a block that are not cleared when the head has gone so many metres from its beginning.
+// The zones of a block that are not cleared when the head has gone so
+// many metres from its beginning.
 fn push_left(
     left: &mut Vec<Left>,
     train: &Train,
@@ -224,7 +229,8 @@ struct Step {
     halts: bool,
 }
 
-// The claims of a step, its head entering the block at tick 0: of its own zones, then of those still under the train.
+// The claims of a step, its head entering the block at tick 0: of its own zones, then of
+// those still under the train.
 fn claims_of(
     alloc: Global,
     net: &Network,
@@ -502,7 +508,8 @@ fn row(alloc: Global, horizon: u32) -> Result<Vec<bool>, NoMemory> {
     Ok(row)
 }
 
-// Whether claims that stand for tick 0 clash with none of those that are taken when they are moved to a tick.
+// Whether claims that stand for tick 0 clash with none of those that are taken
+// when they are moved to a tick.
 fn is_free(taken: &[Claim], claims: &[Claim], tick: u32) -> bool {
     for claim in claims {
         let span = Span {
@@ -536,7 +543,8 @@ fn holds(window: &Window, tick: u32) -> bool {
     window.from <= i64::from(tick) && i64::from(tick) <= window.to
 }
 
-// What is reached: the ticks of arrival and those at which a train that stands may go on, and the earliest last leave.
+// What is reached: the ticks of arrival and those at which a train that stands may go on,
+// and the earliest last leave.
 #[derive(Debug, Drop)]
 struct Walk {
     arrived: Marks,
@@ -658,7 +666,8 @@ fn visit(
     Ok(())
 }
 
-/// What the search should answer beside claims that are taken; None where the request has more places than so many.
+/// What the search should answer beside claims that are taken; None where the request
+/// has more places than so many.
 pub fn expect(
     alloc: Global,
     net: &Network,

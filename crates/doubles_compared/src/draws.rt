@@ -82,7 +82,8 @@ fn drawn_block(
     block(alloc, sizes, cells.as_slice(), ends, serves.as_slice())
 }
 
-/// A line of blocks from operational point 0 to point 1, and some blocks more between any of its points.
+/// A line of blocks from operational point 0 to point 1, and some blocks
+/// more between any of its points.
 pub fn network(alloc: Global, draw: &mut Draw) -> Result<Network, NoMemory> {
     let long = draw.from(2, 4);
     let more = draw.below(4);

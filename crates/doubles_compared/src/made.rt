@@ -58,7 +58,8 @@ fn window(from: u32, to: u32) -> Window
     }
 }
 
-/// From the operational point of a number to that of another, within windows of departure and arrival.
+/// From the operational point of a number to that of another, within
+/// windows of departure and arrival.
 #[derive(Clone, Copy, Debug)]
 pub struct Trip {
     pub origin: u32,
@@ -74,7 +75,8 @@ fn are_stops(stops: &List<Stop>) -> bool
     stops.len() <= MAX_STOPS as usize && stops.as_slice().iter().all(|stop| stop.dwell <= MAX_DWELL)
 }
 
-/// A request of a train for a trip, with these stops between. None where the stops are past their limits.
+/// A request of a train for a trip, with these stops between. None where the
+/// stops are past their limits.
 pub fn request(
     alloc: Global,
     train: &Train,
@@ -98,8 +100,8 @@ pub fn request(
     }))
 }
 
-/// A block by its length, speed and sight distance, its cells by zone and release point, the points at which it begins
-/// and ends, and the operational points that it serves.
+/// A block by its length, speed and sight distance, its cells by zone and release point, the points
+/// at which it begins and ends, and the operational points that it serves.
 pub fn block(
     alloc: Global,
     sizes: [u32; 3],

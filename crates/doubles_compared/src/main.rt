@@ -1,6 +1,7 @@
-//! Compares fast bodies with plain doubles, which take each thing anew, one by one: the search for a path with a walk over
-//! every place at every tick, and copies of the live claims that were brought up with copies made anew. The table that
-//! stands beside this program says what is asked, and its head tells its instructions.
+//! Compares fast bodies with plain doubles, which take each thing anew, one by one: the search for
+//! a path with a walk over every place at every tick, and copies of the live claims that were
+//! brought up with copies made anew. The table that stands beside this program says what is asked,
+//! and its head tells its instructions.
 #![tactic(auto)]
 
 mod books;

@@ -172,8 +172,8 @@ fn print_difference<R: AllocGlobal + Print>(
     }
 }
 
-// For each of so many parts of so many deeds, whether a copy from there is as one made anew, and more entries than so
-// many join the history.
+// For each of so many parts of so many deeds, whether a copy from there is as one made anew, and
+// more entries than so many join the history.
 fn print_deeds<R: AllocGlobal + Print>(rt: &R, line: &str) -> io::Result<()> {
     let numbers = numbers_of(rt.alloc(), line)?;
     let [deeds, parts, more_than] = numbers.as_slice() else {

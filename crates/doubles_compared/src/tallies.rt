@@ -7,8 +7,9 @@ use no_memory::NoMemory;
 use rail_types::{Network, Path, Settings};
 use std::alloc::Global;
 
-/// How many asks were compared: in all, in networks with a ring, and with loss of speed; and of those that were granted
-/// all, those whose train waits on its way, and those whose train is longer than its first block.
+/// How many asks were compared: in all, in networks with a ring, and with loss of speed; and of
+/// those that were granted all, those whose train waits on its way, and those whose train is
+/// longer than its first block.
 #[derive(Clone, Copy, Debug)]
 pub struct Tally {
     pub asks: u32,

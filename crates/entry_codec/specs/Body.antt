@@ -66,7 +66,8 @@ deed_text (Grant (Asked request) path) =
 deed_text (Grant Pinned path) = train_text path.train ++ list_text run_text path.runs
 deed_text (Free entry) = to_be_bytes w64 entry
 
--- the first byte: a hold without a reason, an asked grant, a pinned grant, a free, or a hold with a reason
+-- the first byte: a hold without a reason, an asked grant, a pinned grant, a
+-- free, or a hold with a reason
 abbrev pub kind_byte : Deed → ℕ
 kind_byte (Hold claims []) = 1
 kind_byte (Hold claims (byte ∷ others)) = 5

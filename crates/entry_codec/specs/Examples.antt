@@ -1,5 +1,6 @@
 -- Bodies written out by hand, with their entries.
-use Rattle.std.specs.Prelude.{ℕ, ◌+◌, true, false, List, [], ◌∷◌, ◌++◌, length, take, drop, pos, negsuc}
+use Rattle.std.specs.Prelude.{ℕ, ◌+◌, true, false, List, [], ◌∷◌, ◌++◌, length, take, drop, pos}
+use Rattle.std.specs.Prelude.{negsuc}
 use Rattle.rail_types.specs.declared.trains.Train.{Train}
 use Rattle.rail_types.specs.declared.entries.Wanted.TheVariants.{Asked, Pinned}
 use Rattle.rail_types.specs.declared.entries.Deed.TheVariants.{Hold, Grant, Free}
@@ -19,7 +20,8 @@ hold_body =
     1 ∷ 0 ∷ 0 ∷ 0 ∷ 0 ∷ 0 ∷ 0 ∷ 0 ∷ 1 ∷ 0 ∷ 0 ∷ 0 ∷ 1 ∷ 1 ∷ 65 ∷ 0 ∷ 0 ∷ 0 ∷ 1 ∷ 0 ∷ 0 ∷ 0 ∷ 0
     ∷ 0 ∷ 0 ∷ 0 ∷ 38 ∷ 0 ∷ 0 ∷ 0 ∷ 0 ∷ 0 ∷ 0 ∷ 0 ∷ 50 ∷ []
 
--- line 1 of client A holds, under the number 1, zone 0 and zone 2 from 5 to 9, for the reason `works`
+-- line 1 of client A holds, under the number 1, zone 0 and zone 2 from 5
+-- to 9, for the reason `works`
 abbrev pub reasoned : Entry
 reasoned = record {
   owner = 65 ∷ [];
@@ -58,7 +60,8 @@ train = record {
   allowance = 0;
 }
 
--- line 0 of client A pins, under the number 9, a path of the train: block 2 from -5 to 10, where it stops
+-- line 0 of client A pins, under the number 9, a path of the train: block 2
+-- from -5 to 10, where it stops
 abbrev pub pinned : Entry
 pinned = record {
   owner = 65 ∷ [];

@@ -1,10 +1,16 @@
 -- The fields of a body, and where a body that is no entry's is wrong.
-use Rattle.std.specs.Prelude.{◌≡◌, ◌≢◌, ◌⊎◌, ℕ, ◌+◌, ◌-◌, ◌^◌, ◌<◌, ◌≤◌, Bool, true, ◌&&◌, List, [], ◌∷◌, ◌++◌, length, take, All, ℤ, int_lt, nat_le}
+use Rattle.std.specs.Prelude.{◌≡◌, ◌≢◌, ◌⊎◌, ℕ, ◌+◌, ◌-◌, ◌^◌, ◌<◌, ◌≤◌, Bool, true, ◌&&◌, List, []}
+use Rattle.std.specs.Prelude.{◌∷◌, ◌++◌, length, take, All, ℤ, int_lt, nat_le}
 use Rattle.std.specs.List.{flat_map, list_all}
 use Rattle.std.specs.Int.{w32, w64, to_be_bytes}
 use Rattle.std.specs.Str.{is_utf8}
 use Rattle.byte_fields.specs.Unread.{signed_bytes}
-use Rattle.rail_types.specs.declared.limits.TheConstants.{MAX_NUMBER, MAX_OWNER_BYTES, MAX_TRAIN_LENGTH_M, MAX_SPEED_MM_S, MAX_ACCEL_MM_S2, MAX_ALLOWANCE_PERCENT, MAX_TRAIN_NAME_BYTES, MAX_STOPS, MAX_DWELL, MAX_PINNED_RUNS, MAX_HOLD_CLAIMS, MAX_REASON_BYTES}
+use Rattle.rail_types.specs.declared.limits.TheConstants.{MAX_NUMBER, MAX_OWNER_BYTES}
+use Rattle.rail_types.specs.declared.limits.TheConstants.{MAX_TRAIN_LENGTH_M, MAX_SPEED_MM_S}
+use Rattle.rail_types.specs.declared.limits.TheConstants.{MAX_ACCEL_MM_S2, MAX_ALLOWANCE_PERCENT}
+use Rattle.rail_types.specs.declared.limits.TheConstants.{MAX_TRAIN_NAME_BYTES, MAX_STOPS}
+use Rattle.rail_types.specs.declared.limits.TheConstants.{MAX_DWELL, MAX_PINNED_RUNS}
+use Rattle.rail_types.specs.declared.limits.TheConstants.{MAX_HOLD_CLAIMS, MAX_REASON_BYTES}
 use Rattle.rail_types.specs.Limits.{is_between, is_tick, is_name_byte}
 use Rattle.rail_types.specs.declared.paths.Claim.{Claim}
 use Rattle.rail_types.specs.declared.paths.Window.{Window}
@@ -70,7 +76,8 @@ claim_fields claim =
     number_of claim.zone true ∷ tick_of claim.span.from (is_tick claim.span.from)
     ∷ tick_of claim.span.to (is_tick claim.span.to && int_lt claim.span.from claim.span.to) ∷ []
 
--- a zone is right where it is not below the one before, a begin where on one zone it is behind the end before
+-- a zone is right where it is not below the one before, a begin where on one
+-- zone it is behind the end before
 abbrev pub next_claim_fields : Claim → Claim → List Field
 next_claim_fields before claim =
     number_of claim.zone (nat_le before.zone claim.zone)
@@ -102,7 +109,8 @@ wish_fields request =
 abbrev pub deed_fields : Deed → List Field
 deed_fields (Hold claims reason) = hold_fields claims reason
 deed_fields (Grant (Asked request) path) =
-    train_fields path.train ++ wish_fields request ++ list_fields 1 (2 ^ 32 - 1) run_fields path.runs
+    train_fields path.train ++ wish_fields request
+    ++ list_fields 1 (2 ^ 32 - 1) run_fields path.runs
 deed_fields (Grant Pinned path) =
     train_fields path.train ++ list_fields 1 MAX_PINNED_RUNS run_fields path.runs
 deed_fields (Free entry) =
@@ -122,8 +130,8 @@ NoneIsRight before bytes =
     (entry : Entry) (field : Field) (behind : List Field) → IsFormed entry
     → fields_of entry ≡ before ++ field ∷ behind → field.bytes ≡ bytes → field.right ≡ true → ⊥
 
--- behind right fields, what is left begins with no field that is right: its bytes are missing, they are there and no
--- right field has them, or no field is left and bytes are
+-- behind right fields, what is left begins with no field that is right: its bytes are missing, they
+-- are there and no right field has them, or no field is left and bytes are
 abbrev pub StopsAt : List Field → List Field → List ℕ → ℕ → Type 0
 StopsAt before [] rest at = (rest ≢ []) × (at ≡ length (bytes_of before))
 StopsAt before (field ∷ behind) rest at =

@@ -1,10 +1,18 @@
 -- A body read from left to right, with the place of the first field that is wrong.
-use Rattle.std.specs.Prelude.{◌≡◌, ℕ, zero, suc, ◌+◌, ◌^◌, ◌-◌, Bool, true, false, ◌&&◌, ◌||◌, List, [], ◌∷◌, length, take, drop, slice_index, Option, Some, None, Result, Ok, Err, ℤ, pos, neg_ℤ, ◌-ℤ◌, int_lt, nat_lt, nat_le, ◌==◌, if◌then◌else◌}
+use Rattle.std.specs.Prelude.{◌≡◌, ℕ, zero, suc, ◌+◌, ◌^◌, ◌-◌, Bool, true, false, ◌&&◌, ◌||◌, List}
+use Rattle.std.specs.Prelude.{[], ◌∷◌, length, take, drop, slice_index, Option, Some, None, Result}
+use Rattle.std.specs.Prelude.{Ok, Err, ℤ, pos, neg_ℤ, ◌-ℤ◌, int_lt, nat_lt, nat_le, ◌==◌}
+use Rattle.std.specs.Prelude.{if◌then◌else◌}
 use Rattle.std.specs.List.{list_all}
 use Rattle.std.specs.Int.{Width, w32, w64, byte_len, from_be_bytes, cast_signed}
 use Rattle.std.specs.Str.{is_utf8}
 use Rattle.byte_fields.specs.Unread.{Unread, end_of}
-use Rattle.rail_types.specs.declared.limits.TheConstants.{MAX_TICK, MAX_NUMBER, MAX_OWNER_BYTES, MAX_TRAIN_LENGTH_M, MAX_SPEED_MM_S, MAX_ACCEL_MM_S2, MAX_ALLOWANCE_PERCENT, MAX_TRAIN_NAME_BYTES, MAX_STOPS, MAX_DWELL, MAX_PINNED_RUNS, MAX_HOLD_CLAIMS, MAX_REASON_BYTES}
+use Rattle.rail_types.specs.declared.limits.TheConstants.{MAX_TICK, MAX_NUMBER, MAX_OWNER_BYTES}
+use Rattle.rail_types.specs.declared.limits.TheConstants.{MAX_TRAIN_LENGTH_M, MAX_SPEED_MM_S}
+use Rattle.rail_types.specs.declared.limits.TheConstants.{MAX_ACCEL_MM_S2, MAX_ALLOWANCE_PERCENT}
+use Rattle.rail_types.specs.declared.limits.TheConstants.{MAX_TRAIN_NAME_BYTES, MAX_STOPS}
+use Rattle.rail_types.specs.declared.limits.TheConstants.{MAX_DWELL, MAX_PINNED_RUNS}
+use Rattle.rail_types.specs.declared.limits.TheConstants.{MAX_HOLD_CLAIMS, MAX_REASON_BYTES}
 use Rattle.rail_types.specs.Limits.{is_between, is_tick, is_name_byte}
 use Rattle.rail_types.specs.declared.paths.Claim.{Claim}
 use Rattle.rail_types.specs.declared.paths.Window.{Window}
@@ -24,8 +32,8 @@ use Rattle.entry_codec.specs.declared.faults.Wrong.{Wrong}
 use Rattle.entry_codec.specs.declared.finding.FoundTrain.{FoundTrain}
 use Rattle.entry_codec.specs.declared.faults.EntryFault.TheVariants.{NotEntry, Memory}
 
--- What reading gives: a value and what is left behind it, or where the first wrong field begins. Where bytes are
--- missing that is the end of all.
+-- What reading gives: a value and what is left behind it, or where the first wrong field begins.
+-- Where bytes are missing that is the end of all.
 abbrev pub Reading : Type 0 → Type 0
 Reading A = Unread → Result (A × Unread) ℕ
 
@@ -61,7 +69,8 @@ bytes_field count =
     λ unread.
     if nat_lt (length unread.left) count
     then Err (end_of unread)
-    else Ok (take count unread.left, record { at = unread.at + count; left = drop count unread.left })
+    else Ok
+    (take count unread.left, record { at = unread.at + count; left = drop count unread.left })
 
 unfoldable pub byte_field : Reading ℕ
 byte_field = do
@@ -188,7 +197,14 @@ train_field = do
   accel ← limited_field 1 MAX_ACCEL_MM_S2
   brake ← limited_field 1 MAX_ACCEL_MM_S2
   allowance ← limited_field 0 MAX_ALLOWANCE_PERCENT
-  done (record { name = name; length_m = length_m; speed = speed; accel = accel; brake = brake; allowance = allowance })
+  done (record {
+    name = name;
+    length_m = length_m;
+    speed = speed;
+    accel = accel;
+    brake = brake;
+    allowance = allowance;
+  })
 
 unfoldable pub window_field : Reading Window
 window_field = do
@@ -219,7 +235,14 @@ asked_field = do
   arrive ← window_field
   stops ← list_field 0 MAX_STOPS stop_field
   runs ← list_field 1 (2 ^ 32 - 1) run_field
-  done (Grant (Asked (record { train = train; origin = origin; destination = destination; depart = depart; arrive = arrive; stops = stops })) (record { train = train; runs = runs }))
+  done (Grant (Asked (record {
+    train = train;
+    origin = origin;
+    destination = destination;
+    depart = depart;
+    arrive = arrive;
+    stops = stops;
+  })) (record { train = train; runs = runs }))
 
 unfoldable pub pinned_field : Reading Deed
 pinned_field = do
@@ -265,7 +288,8 @@ abbrev pub whole : {A : Type 0} → Result (A × Unread) ℕ → Result A ℕ
 whole (Ok found) = if length found.1.left == 0 then Ok found.0 else Err found.1.at
 whole (Err at) = Err at
 
--- the entry that the body spells, or where the first wrong field begins; a surplus is wrong where it begins
+-- the entry that the body spells, or where the first wrong field begins; a
+-- surplus is wrong where it begins
 unfoldable pub entry_at : List ℕ → Result Entry ℕ
 entry_at body = whole (entry_field (record { at = 0; left = body }))
 
@@ -286,7 +310,8 @@ Refuses (NotEntry at) body = (entry : Entry) → HasBody entry → body ≡ body
 -- ---- inside: what private calls answer and leave
 
 -- What a call that takes no memory found and left is what reading gives.
-abbrev pub FindsBy : {A B : Type 0} → (A → B) → Unread → Result A Wrong → Result (B × Unread) ℕ → Type 0
+abbrev pub FindsBy : {A B : Type 0} → (A → B) → Unread → Result A Wrong → Result (B × Unread) ℕ
+    → Type 0
 FindsBy view left (Ok value) read = read ≡ Ok (view value, left)
 FindsBy view left (Err wrong) read = read ≡ Err wrong.at
 
@@ -315,4 +340,11 @@ PassesAll (Err wrong) read = read ≡ Err wrong.at
 
 -- the train of its numbers and the bytes of its name
 abbrev pub train_found : FoundTrain → Train
-train_found found = record { name = found.name.now; length_m = found.length_m; speed = found.speed; accel = found.accel; brake = found.brake; allowance = found.allowance }
+train_found found = record {
+  name = found.name.now;
+  length_m = found.length_m;
+  speed = found.speed;
+  accel = found.accel;
+  brake = found.brake;
+  allowance = found.allowance;
+}

@@ -11,8 +11,8 @@ use thiserror::Error;
 /// Why a body gave no entry.
 #[derive(Clone, Copy, Debug, PartialEq, Eq, Error)]
 pub enum EntryFault {
-    /// No entry has this body. The offset is where the first wrong field begins: where the bytes end if some are
-    /// missing, and where the surplus begins if only that is wrong.
+    /// No entry has this body. The offset is where the first wrong field begins: where the bytes
+    /// end if some are missing, and where the surplus begins if only that is wrong.
     #[error("no entry has this body, wrong at {at}")]
     NotEntry { at: usize },
     /// The memory that the entry needed was not there.

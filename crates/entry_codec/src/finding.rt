@@ -5,7 +5,13 @@ ghost use Rattle.std.specs.List.{list_all};
 ghost use Rattle.std.specs.Str.{is_utf8};
 ghost use Rattle.std.specs.Int.{w32, w64};
 ghost use Rattle.rail_types.specs.Limits.{is_between, is_tick, is_name_byte};
-ghost use Rattle.entry_codec.specs.Reading.{Finds, FindsBy, train_found, is_behind, owner_field, train_name_field, reason_field, byte_field, bytes_field, number_field, signed_field, limited_field, position_field, tick_field, later_field, next_zone_field, begin_field, next_claim_field, flag_field, window_field, claim_field, train_field, stop_field, run_field, kind_field, meant, if_so};
+ghost use Rattle.entry_codec.specs.Reading.{Finds, FindsBy, train_found, is_behind, owner_field};
+ghost use Rattle.entry_codec.specs.Reading.{train_name_field, reason_field, byte_field};
+ghost use Rattle.entry_codec.specs.Reading.{bytes_field, number_field, signed_field, limited_field};
+ghost use Rattle.entry_codec.specs.Reading.{position_field, tick_field, later_field};
+ghost use Rattle.entry_codec.specs.Reading.{next_zone_field, begin_field, next_claim_field};
+ghost use Rattle.entry_codec.specs.Reading.{flag_field, window_field, claim_field, train_field};
+ghost use Rattle.entry_codec.specs.Reading.{stop_field, run_field, kind_field, meant, if_so};
 
 use crate::faults::Wrong;
 use crate::kinds::Kind;

@@ -1,7 +1,11 @@
-//! A body passed over, for which no memory is taken: whether it is an entry's, and where it is wrong if not.
+//! A body passed over, for which no memory is taken: whether it is an entry's,
+//! and where it is wrong if not.
 
 ghost use Rattle.std.specs.Prelude.{◌≡◌};
-ghost use Rattle.entry_codec.specs.Reading.{Passes, PassesAll, before_all, claims_field, reasoned_field, items_field, list_field, stop_field, run_field, asked_field, pinned_field, deed_field, entry_field, entry_at};
+ghost use Rattle.entry_codec.specs.Reading.{Passes, PassesAll, before_all, claims_field};
+ghost use Rattle.entry_codec.specs.Reading.{reasoned_field, items_field, list_field, stop_field};
+ghost use Rattle.entry_codec.specs.Reading.{run_field, asked_field, pinned_field, deed_field};
+ghost use Rattle.entry_codec.specs.Reading.{entry_field, entry_at};
 
 use crate::faults::Wrong;
 use crate::finding::{

@@ -1,7 +1,8 @@
 //! An entry read from its body.
 
 ghost use Rattle.entry_codec.specs.Places.{IsWrongAt, bytes_of, fields_of};
-ghost use Rattle.std.specs.Prelude.{All, true, ◌≡◌, ◌≢◌, ℕ, ◌^◌, ◌<◌, List, [], ◌∷◌, ◌++◌, length, take, Ok, Err, IfOk, IfErr};
+ghost use Rattle.std.specs.Prelude.{All, true, ◌≡◌, ◌≢◌, ℕ, ◌^◌, ◌<◌, List, [], ◌∷◌, ◌++◌, length};
+ghost use Rattle.std.specs.Prelude.{take, Ok, Err, IfOk, IfErr};
 ghost use Rattle.std.specs.List.{list_all};
 ghost use Rattle.rail_types.specs.declared.entries.Entry.{Entry as entry_type};
 ghost use Rattle.rail_types.specs.Limits.{is_name_byte};
@@ -9,8 +10,14 @@ ghost use Rattle.rail_types.specs.declared.entries.Deed.TheVariants.{Hold};
 ghost use Rattle.entry_codec.specs.declared.faults.EntryFault.TheVariants.{NotEntry, Memory};
 ghost use Rattle.entry_codec.specs.Body.{body_of};
 ghost use Rattle.entry_codec.specs.Within.{HasBody, HasItsTrain, IsFormed};
-ghost use Rattle.entry_codec.specs.Reading.{Gives, before_all, claims_field, reasoned_field, owner_field, items_field, list_field, stop_field, run_field, asked_field, pinned_field, deed_field, entry_field, entry_at, GivesAll, Refuses};
-ghost use Rattle.entry_codec.specs.Examples.{hold, hold_body, reasoned, reasoned_body, free, free_body, pinned, pinned_body, asked, asked_body, with_bytes, last_tick, tick_behind_the_last, zone_0_from_9};
+ghost use Rattle.entry_codec.specs.Reading.{Gives, before_all, claims_field, reasoned_field};
+ghost use Rattle.entry_codec.specs.Reading.{owner_field, items_field, list_field, stop_field};
+ghost use Rattle.entry_codec.specs.Reading.{run_field, asked_field, pinned_field, deed_field};
+ghost use Rattle.entry_codec.specs.Reading.{entry_field, entry_at, GivesAll, Refuses};
+ghost use Rattle.entry_codec.specs.Examples.{hold, hold_body, reasoned, reasoned_body, free};
+ghost use Rattle.entry_codec.specs.Examples.{free_body, pinned, pinned_body, asked, asked_body};
+ghost use Rattle.entry_codec.specs.Examples.{with_bytes, last_tick, tick_behind_the_last};
+ghost use Rattle.entry_codec.specs.Examples.{zone_0_from_9};
 
 use crate::faults::EntryFault;
 use crate::finding::{
@@ -26,8 +33,8 @@ use rail_types::{
 };
 use std::alloc::Global;
 
-// The calls below read a body that was passed over, so that the counts of its lists are those of elements that are
-// there, and room is asked for no more.
+// The calls below read a body that was passed over, so that the counts of its lists are those of
+// elements that are there, and room is asked for no more.
 
 fn read_owner(alloc: Global, fields: &mut Fields) -> Result<Name, EntryFault>
     ensures { Gives fields.new result (owner_field fields.old) }
@@ -174,12 +181,13 @@ fn read_entry(alloc: Global, fields: &mut Fields) -> Result<Entry, EntryFault>
     })
 }
 
-/// The entry with this body. Where no entry has it, the first field that is wrong is told by its offset: a number out of
-/// range, a hold that doesn't end behind its begin, claims that are out of order, overlap or touch, a flag other than 0
-/// or 1, a name that is no client's or no text, bytes that are missing or too many.
+/// The entry with this body. Where no entry has it, the first field that is wrong is told by its
+/// offset: a number out of range, a hold that doesn't end behind its begin, claims that are out of
+/// order, overlap or touch, a flag other than 0 or 1, a name that is no client's or no text, bytes
+/// that are missing or too many.
 ///
-/// The body is passed over before any memory is taken, so that room is asked for only what stands in it, and a body
-/// that is no entry's takes none.
+/// The body is passed over before any memory is taken, so that room is asked for only what stands
+/// in it, and a body that is no entry's takes none.
 pub fn read(alloc: Global, body: &[u8]) -> Result<Entry, EntryFault>
     // What is read has this body.
     ensures found { IfOk result (λ entry. HasBody entry × (body.now ≡ body_of entry)) }
@@ -189,7 +197,8 @@ pub fn read(alloc: Global, body: &[u8]) -> Result<Entry, EntryFault>
     ensures none { IfErr result (λ fault. Refuses fault body.now) }
     // What the body spells, or where the first wrong field begins.
     ensures place { GivesAll result (entry_at body.now) }
-    // An entry of the form has the fields before it, all right; it is missing, or none has a right one of its bytes.
+    // An entry of the form has the fields before it, all right; it is missing, or none
+    // has a right one of its bytes.
     ensures first { (at : ℕ) → result ≡ Err (NotEntry at) → IsWrongAt body.now at }
     // Where it is wrong is told whatever memory there is.
     ensures wrong { (at : ℕ) → entry_at body.now ≡ Err at → result ≡ Err (NotEntry at) }
@@ -198,8 +207,8 @@ pub fn read(alloc: Global, body: &[u8]) -> Result<Entry, EntryFault>
     read_entry(alloc, &mut Fields::new(body))
 }
 
-/// No body has two entries, and none begins the body of another entry: whatever follows it, an entry is told from its
-/// body.
+/// No body has two entries, and none begins the body of another entry: whatever follows it, an
+/// entry is told from its body.
 pub fn one_entry()
     ensures apart { (a b : entry_type) (x y : List ℕ) → HasBody a → HasBody b
         → body_of a ++ x ≡ body_of b ++ y → (a ≡ b) × (x ≡ y) }
@@ -209,10 +218,11 @@ pub fn one_entry()
         → entry_at body ≡ Ok e → HasBody e × (body ≡ body_of e) }
 {}
 
-/// Where bytes of a body are missing, its refusal is placed at the end of those that are there; where bytes stand behind
-/// a body, at the first of them.
+/// Where bytes of a body are missing, its refusal is placed at the end of those that are there;
+/// where bytes stand behind a body, at the first of them.
 ///
-/// The fields of an entry, by which the place of a wrong one is told, are those of its body, and are right.
+/// The fields of an entry, by which the place of a wrong one is told, are
+/// those of its body, and are right.
 pub fn refusals_are_placed()
     ensures fields { (entry : entry_type) → bytes_of (fields_of entry) ≡ body_of entry }
     ensures right { (e : entry_type) → HasBody e → All (λ field. field.right ≡ true) (fields_of e) }
@@ -222,10 +232,11 @@ pub fn refusals_are_placed()
         → entry_at (body_of entry ++ rest) ≡ Err (length (body_of entry)) }
 {}
 
-/// Where a body is wrong by its fields is one place at most, and none in the body of an entry; what reading tells is
-/// wrong there.
+/// Where a body is wrong by its fields is one place at most, and none in the body of an entry; what
+/// reading tells is wrong there.
 ///
-/// An entry of the form whose fields are right has a body, so that no field is called right for which no limit stands.
+/// An entry of the form whose fields are right has a body, so that no field is called
+/// right for which no limit stands.
 pub fn wrong_place_is_one()
     ensures one { (body : List ℕ) (a b : ℕ) → IsWrongAt body a → IsWrongAt body b → a ≡ b }
     ensures never { (e : entry_type) (at : ℕ) → HasBody e → IsWrongAt (body_of e) at → ⊥ }
@@ -235,8 +246,8 @@ pub fn wrong_place_is_one()
         → All (λ field. field.right ≡ true) (fields_of e) → HasBody e }
 {}
 
-/// Bodies that were written out by hand are those of their entries, one of each kind; and where bytes in their place
-/// are wrong.
+/// Bodies that were written out by hand are those of their entries, one of each kind; and where
+/// bytes in their place are wrong.
 pub fn examples_have_their_bodies()
     ensures hold { HasBody hold × (body_of hold ≡ hold_body) }
     ensures reasoned { HasBody reasoned × (body_of reasoned ≡ reasoned_body) }

@@ -2,13 +2,18 @@
 
 ghost use Rattle.rail_types.specs.declared.paths.Claim.{Claim as claim_type};
 ghost use Rattle.rail_types.specs.declared.entries.Deed.TheVariants.{Hold};
-ghost use Rattle.std.specs.Prelude.{◌≡◌, List as list_of, ◌+◌, ◌*◌, ◌^◌, ◌<◌, ◌≤◌, ◌++◌, ◌∷◌, [], length, All, OnOk, OnErr, IsOk};
+ghost use Rattle.std.specs.Prelude.{◌≡◌, List as list_of, ◌+◌, ◌*◌, ◌^◌, ◌<◌, ◌≤◌, ◌++◌, ◌∷◌, []};
+ghost use Rattle.std.specs.Prelude.{length, All, OnOk, OnErr, IsOk};
 ghost use Rattle.std.specs.List.{flat_map};
 ghost use Rattle.std.specs.Int.{w32, w64, to_be_bytes};
 ghost use Rattle.byte_fields.specs.Unread.{signed_bytes};
-ghost use Rattle.entry_codec.specs.Body.{body_of, flag_byte, kind_byte, deed_text, hold_text, name_text, train_text, claim_text, window_text, wish_text, stop_text, run_text, list_text};
-ghost use Rattle.rail_types.specs.Limits.{IsEntryWithinLimits, IsDeedWithinLimits, IsHoldWithinLimits};
-ghost use Rattle.entry_codec.specs.Within.{HasBody, IsFourBytes, IsWishOfItsTypes, IsDeedOfItsTypes};
+ghost use Rattle.entry_codec.specs.Body.{body_of, flag_byte, kind_byte, deed_text, hold_text};
+ghost use Rattle.entry_codec.specs.Body.{name_text, train_text, claim_text, window_text, wish_text};
+ghost use Rattle.entry_codec.specs.Body.{stop_text, run_text, list_text};
+ghost use Rattle.rail_types.specs.Limits.{IsEntryWithinLimits, IsDeedWithinLimits};
+ghost use Rattle.rail_types.specs.Limits.{IsHoldWithinLimits};
+ghost use Rattle.entry_codec.specs.Within.{HasBody, IsFourBytes, IsWishOfItsTypes};
+ghost use Rattle.entry_codec.specs.Within.{IsDeedOfItsTypes};
 
 use byte_fields::{Buffer, put_bytes, put_i64, put_u8, put_u32, put_u64};
 use no_memory::NoMemory;
@@ -309,11 +314,13 @@ pub fn body_len(entry: &Entry) -> usize
     14 + entry.owner.as_bytes().len() + deed_len(&entry.deed)
 }
 
-/// Appends the body of an entry. For want of memory nothing changes; where the body has room no memory is taken.
+/// Appends the body of an entry. For want of memory nothing changes; where the body
+/// has room no memory is taken.
 ///
-/// The entry is within the limits that a reader of client lines keeps: a client's name, ticks and numbers in range, a
-/// pinned path of 1 to 4,096 runs, and for a request that was asked a path of its train with at least one run. An entry
-/// outside them has no body, so it isn't written, though its path be one that a horizon holds.
+/// The entry is within the limits that a reader of client lines keeps: a client's name, ticks and
+/// numbers in range, a pinned path of 1 to 4,096 runs, and for a request that was asked a path of
+/// its train with at least one run. An entry outside them has no body, so it isn't written, though
+/// its path be one that a horizon holds.
 pub fn write(entry: &Entry, to: &mut Buffer) -> Result<(), NoMemory>
     requires { IsEntryWithinLimits entry.now }
     ensures ok { OnOk result (to.new.held ≡ to.old.held ++ body_of entry.now) }

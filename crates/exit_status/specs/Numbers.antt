@@ -1,7 +1,9 @@
 -- The numbers of the statuses.
 use Rattle.std.specs.Prelude.{ℕ}
 use Rattle.exit_status.specs.declared.Status.{Status}
-use Rattle.exit_status.specs.declared.Status.TheVariants.{Done, No, Words, Network, Base, Trains, Journal, Opening, DiskFault, ClientEnd, Report, Memory}
+use Rattle.exit_status.specs.declared.Status.TheVariants.{Done, No, Words, Network, Base, Trains}
+use Rattle.exit_status.specs.declared.Status.TheVariants.{Journal, Opening, DiskFault, ClientEnd}
+use Rattle.exit_status.specs.declared.Status.TheVariants.{Report, Memory}
 
 -- the number with which the program exits
 abbrev pub status_number : Status → ℕ

@@ -25,7 +25,8 @@ pub enum Status {
     Opening,
     /// A disk failed while it was begun or opened.
     DiskFault,
-    /// A client's end is a fault of its source or its sink, a line that is too long, or a line too many.
+    /// A client's end is a fault of its source or its sink, a line that is
+    /// too long, or a line too many.
     ClientEnd,
     /// The report, or what the command was to write, was not written whole.
     Report,

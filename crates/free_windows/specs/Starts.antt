@@ -1,5 +1,6 @@
 -- The ticks at which claims are free, as windows.
-use Rattle.std.specs.Prelude.{◌≡◌, ◌⊎◌, ℕ, ◌<◌, ℤ, pos, neg_ℤ, ◌+ℤ◌, ◌<ℤ◌, ◌≤ℤ◌, ◌↔◌, List, All, AllPairs, Any, Bool, false, IsTrue}
+use Rattle.std.specs.Prelude.{◌≡◌, ◌⊎◌, ℕ, ◌<◌, ℤ, pos, neg_ℤ, ◌+ℤ◌, ◌<ℤ◌, ◌≤ℤ◌, ◌↔◌, List, All}
+use Rattle.std.specs.Prelude.{AllPairs, Any, Bool, false, IsTrue}
 use Rattle.rail_types.specs.declared.paths.Claim.{Claim}
 use Rattle.rail_types.specs.declared.paths.Window.{Window}
 use Rattle.rail_types.specs.Occupation.{HasTicks}
@@ -19,7 +20,8 @@ pub record IsPiece (zones : ℕ) (piece : Claim) : Type 0 where
 
 -- windows that hold exactly those ticks of one that are so, ascending, with a tick between any two
 pub record AreWindowsOf (IsSo : ℤ → Type 0) (within : Window) (windows : List Window) : Type 0 where
-  pub exact : (tick : ℤ) → Any (λ window. Holds window tick) windows ↔ (Holds within tick × IsSo tick)
+  pub exact : (tick : ℤ)
+      → Any (λ window. Holds window tick) windows ↔ (Holds within tick × IsSo tick)
   pub ticks : All (λ window. window.from ≤ℤ window.to) windows
   pub apart : AllPairs (λ one later. (one.to +ℤ pos 1) <ℤ later.from) windows
 
@@ -33,7 +35,8 @@ pub record IsNextWindow (IsSo : ℤ → Type 0) (within : Window) (window : Wind
   pub ends : (window.to ≡ within.to) ⊎ (¬ IsSo (window.to +ℤ pos 1))
 
 -- the first ticks of a window are all so, and the next is not, or they are all not so
-pub record IsStretch (IsSo : ℤ → Type 0) (within : Window) (free : Bool) (ticks : Window) : Type 0 where
+pub record IsStretch (IsSo : ℤ → Type 0) (within : Window) (free : Bool)
+    (ticks : Window) : Type 0 where
   pub from : ticks.from ≡ within.from
   pub some : ticks.from ≤ℤ ticks.to
   pub to : ticks.to ≤ℤ within.to

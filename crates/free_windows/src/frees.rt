@@ -1,6 +1,7 @@
 //! The ticks at which claims are free.
 
-ghost use Rattle.std.specs.Prelude.{◌≡◌, ℕ, ◌≤◌, ◌<◌, ℤ, pos, ◌+ℤ◌, ◌-ℤ◌, ◌<ℤ◌, ◌≤ℤ◌, ◌↔◌, All, AllPairs, IfOk, IfSome, IsNone, length};
+ghost use Rattle.std.specs.Prelude.{◌≡◌, ℕ, ◌≤◌, ◌<◌, ℤ, pos, ◌+ℤ◌, ◌-ℤ◌, ◌<ℤ◌, ◌≤ℤ◌, ◌↔◌, All};
+ghost use Rattle.std.specs.Prelude.{AllPairs, IfOk, IfSome, IsNone, length};
 ghost use Rattle.std.specs.Int.{int_min};
 ghost use Rattle.std.specs.List.{AllWithin};
 ghost use Rattle.rail_types.specs.declared.limits.TheConstants.{FAR_TICK};
@@ -8,7 +9,8 @@ ghost use Rattle.rail_types.specs.Limits.{IsNear, IsNearSpan};
 ghost use Rattle.rail_types.specs.Occupation.{HasTicks};
 ghost use Rattle.occupation_book.specs.Held.{AreInOrder, held};
 ghost use Rattle.free_windows.specs.Free.{Fits, Holds, IsFreeOf, moved};
-ghost use Rattle.free_windows.specs.Starts.{IsPiece, IsNearWindow, IsStretch, IsNextWindow, AreWindowsOf};
+ghost use Rattle.free_windows.specs.Starts.{IsPiece, IsNearWindow, IsStretch, IsNextWindow};
+ghost use Rattle.free_windows.specs.Starts.{AreWindowsOf};
 
 use no_memory::NoMemory;
 use occupation_book::Occupations;
@@ -22,8 +24,8 @@ struct Stretch {
     ticks: Window,
 }
 
-/// The ticks of a window to which claims can be moved, that stand here for tick 0, so that each of them is free:
-/// ascending windows that neither overlap nor touch.
+/// The ticks of a window to which claims can be moved, that stand here for tick 0, so that each of
+/// them is free: ascending windows that neither overlap nor touch.
 pub fn starts(
     alloc: Global,
     pieces: &[Claim],
@@ -49,7 +51,8 @@ pub fn next_start(pieces: &[Claim], book: &Occupations, within: &Window) -> Opti
     requires pieces { All (IsPiece (length book.now)) pieces.now }
     requires within { IsNearWindow within.now }
     ensures found { IfSome result (IsNextWindow (Fits (held book.now) pieces.now) within.now) }
-    ensures none { IsNone result → (tick : ℤ) → Holds within.now tick → ¬ Fits (held book.now) pieces.now tick }
+    ensures none { IsNone result → (tick : ℤ) → Holds within.now tick
+        → ¬ Fits (held book.now) pieces.now tick }
 {
     let mut rest = *within;
     while rest.from <= rest.to {
@@ -161,7 +164,8 @@ fn first_ending_after(kept: &[(Claim, Owner)], zone: u32, span: &Span) -> usize
     requires { AreInOrder zone kept.now }
     ensures bound { result ≤ length kept.now }
     ensures before { AllWithin (λ one. one.0.span.to ≤ℤ span.now.from) kept.now 0 result }
-    ensures after { AllWithin (λ one. span.now.from <ℤ one.0.span.to) kept.now result (length kept.now) }
+    ensures after { AllWithin (λ one. span.now.from <ℤ one.0.span.to) kept.now result
+        (length kept.now) }
 {
     kept.partition_point(|one| one.0.span.to <= span.from)
 }

@@ -22,7 +22,8 @@ HasAdded pass = All AddsOne (view pass).turns
 
 -- it has that many turns, all of them left
 abbrev pub IsFresh : ℕ → Gate Numbers ℕ ℕ → Pass Numbers ℕ ℕ → Type 0
-IsFresh turns gate pass = IsReady gate pass × (turns ≤ turns_left pass) × (share pass ≡ turns) × ((view pass).turns ≡ [])
+IsFresh turns gate pass =
+    IsReady gate pass × (turns ≤ turns_left pass) × (share pass ≡ turns) × ((view pass).turns ≡ [])
 
 -- it has taken all its turns, and each added one
 abbrev pub IsSpent : Pass Numbers ℕ ℕ → Type 0
@@ -30,9 +31,18 @@ IsSpent pass = (turns_left pass ≡ 0) × HasAdded pass
 
 -- the pass took so many turns more, each of which added one
 abbrev pub TakesTurns : ℕ → Pass Numbers ℕ ℕ → Pass Numbers ℕ ℕ → Type 0
-TakesTurns count old new = (more : List Turn) × (length more ≡ count) × All AddsOne more × ((view new).turns ≡ (view old).turns ++ more)
+TakesTurns count old new =
+    (more : List Turn) × (length more ≡ count) × All AddsOne more
+    × ((view new).turns ≡ (view old).turns ++ more)
 
--- so many turns, each going on from the one before, led from an empty list to this book, and added the entries that it has, each once
+-- so many turns, each going on from the one before, led from an empty list to this book, and added
+-- the entries that it has, each once
 abbrev pub IsHistory : ℕ → Numbers → Type 0
-IsHistory served book = (turns : List Turn) × (length turns ≡ served) × (own turns ≡ positions 0 (length book.list.items))
-    × IsChain 0 (record { entries = 0; settled = 0; count = 0 }) turns (record { entries = length book.list.items; settled = length book.list.items; count = book.refused })
+IsHistory served book =
+    (turns : List Turn) × (length turns ≡ served)
+    × (own turns ≡ positions 0 (length book.list.items))
+    × IsChain 0 (record { entries = 0; settled = 0; count = 0 }) turns (record {
+      entries = length book.list.items;
+      settled = length book.list.items;
+      count = book.refused;
+    })

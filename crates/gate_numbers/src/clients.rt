@@ -1,7 +1,8 @@
 //! Callers that add to a book in turns, each in a thread.
 ghost use Rattle.std.specs.Prelude.{◌≡◌, ◌+◌, ◌*◌, ◌^◌, ◌≤◌, ◌<◌, [], All, IfOk, length, sum_by};
 ghost use Rattle.book_gate.specs.Passes.{view, opened, turns_given, turns_left};
-ghost use Rattle.gate_numbers.specs.Passes.{IsReady, IsFresh, IsSpent, IsHistory, HasAdded, TakesTurns, share};
+ghost use Rattle.gate_numbers.specs.Passes.{IsReady, IsFresh, IsSpent, IsHistory, HasAdded};
+ghost use Rattle.gate_numbers.specs.Passes.{TakesTurns, share};
 
 use crate::numbers::Numbers;
 use book_gate::{Gate, Pass};
@@ -73,7 +74,8 @@ fn split_all(
     requires left { (clients * turns < share pass.old) × (turns_left pass.old ≡ share pass.old) }
     ensures ready { IfOk result (λ v. All (λ c. IsFresh turns gate.now c.pass) v.items) }
     ensures count { IfOk result (λ v. length v.items ≡ clients) }
-    ensures pass { IfOk result (λ _. IsReady gate.now pass.new × (share pass.new + clients * turns ≡ share pass.old)) }
+    ensures pass { IfOk result
+        (λ _. IsReady gate.now pass.new × (share pass.new + clients * turns ≡ share pass.old)) }
     ensures left { IfOk result (λ _. turns_left pass.new + clients * turns ≡ turns_left pass.old) }
     ensures turns { (view pass.new).turns ≡ (view pass.old).turns }
 {
@@ -112,7 +114,8 @@ fn join_all(gate: &Gate<Numbers>, pass: &mut Pass<Numbers>, mut clients: Vec<Cli
     requires added { HasAdded pass.old × All (λ c. HasAdded c.pass) clients.items }
     ensures ready { IsReady gate.now pass.new }
     ensures share { share pass.new ≡ share pass.old + sum_by (λ c. share c.pass) clients.items }
-    ensures left { turns_left pass.new ≡ turns_left pass.old + sum_by (λ c. turns_left c.pass) clients.items }
+    ensures left { turns_left pass.new
+        ≡ turns_left pass.old + sum_by (λ c. turns_left c.pass) clients.items }
     ensures added { HasAdded pass.new }
 {
     while let Some(client) = clients.pop() {
@@ -134,7 +137,8 @@ fn close_all(gate: Gate<Numbers>, mut pass: Pass<Numbers>) -> (u64, Numbers)
     (served, gate.close(pass))
 }
 
-/// So many clients take so many turns each, in up to sixteen threads. It answers how many turns were served, and the book after them.
+/// So many clients take so many turns each, in up to sixteen threads. It answers how many turns
+/// were served, and the book after them.
 pub fn run_all<R: Threads + Wait + Clock + Sync>(
     rt: &R,
     alloc: Global,

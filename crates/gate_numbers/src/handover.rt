@@ -6,7 +6,8 @@ use no_memory::NoMemory;
 use std::alloc::Global;
 use std::sync::Wait;
 
-/// How many turns were served while the first was open, and when all passes were one; and the book in the end.
+/// How many turns were served while the first was open, and when all passes were
+/// one; and the book in the end.
 #[derive(Drop)]
 pub struct Handover {
     pub open: u64,

@@ -1,7 +1,8 @@
-//! Threads take turns with one book of numbers, to which each adds its own: three with a turn each, sixteen with a turn each,
-//! of which the first holds the book for as many milliseconds as the argument says, and sixteen with a hundred turns each;
-//! then two passes take turns by hand. It prints how many turns were served, how often each number stands in the book, and
-//! what the passes told.
+//! Threads take turns with one book of numbers, to which each adds its own: three with a
+//! turn each, sixteen with a turn each, of which the first holds the book for as many
+//! milliseconds as the argument says, and sixteen with a hundred turns each; then two passes
+//! take turns by hand. It prints how many turns were served, how often each number stands in
+//! the book, and what the passes told.
 #![tactic(auto)]
 
 ghost use Rattle.std.specs.Prelude.{◌*◌, ◌^◌, ◌≤◌, ◌<◌};

@@ -14,8 +14,9 @@ use Rattle.rail_types.specs.declared.entries.Deed.{Deed}
 use Rattle.rail_types.specs.declared.entries.Deed.TheVariants.{Hold, Grant, Free}
 use Rattle.rail_types.specs.declared.entries.Wanted.TheVariants.{Asked, Pinned}
 
--- both hold the same claims for the same reason; or grant a path to the same request, with its train, whatever the
--- path; or grant the same path, which the client gave itself; or free the same entry
+-- both hold the same claims for the same reason; or grant a path to the same request,
+-- with its train, whatever the path; or grant the same path, which the client gave
+-- itself; or free the same entry
 abbrev pub HaveSameContent : Deed → Deed → Type 0
 HaveSameContent (Hold claims reason) (Hold others other) = (claims ≡ others) × (reason ≡ other)
 HaveSameContent (Grant (Asked asked) path) (Grant (Asked other) granted) = asked ≡ other

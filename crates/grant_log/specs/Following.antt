@@ -22,8 +22,8 @@ Gains old more new = (one : HeldClaim) → Contains new one ↔ (Contains old on
 abbrev pub Loses : List HeldClaim → Owner → List HeldClaim → Type 0
 Loses old owner new = (one : HeldClaim) → Contains new one ↔ (Contains old one × (one.1 ≢ owner))
 
--- how held claims change when an entry of this deed comes behind these: those of a hold or a grant come to them, and a
--- Free takes out those of the entry that it names
+-- how held claims change when an entry of this deed comes behind these: those of a hold or a grant
+-- come to them, and a Free takes out those of the entry that it names
 abbrev pub Follow : Timetable → List Entry → Deed → List HeldClaim → List HeldClaim → Type 0
 Follow timetable entries (Free at) old new = Loses old (of_entry at) new
 Follow timetable entries deed old new =

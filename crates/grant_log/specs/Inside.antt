@@ -1,5 +1,6 @@
 -- Inside: how a history finds its entries again, and what its private calls are told.
-use Rattle.std.specs.Prelude.{◌≡◌, ℕ, ◌<◌, ◌++◌, List, length, drop, replicate, Option, Some, None, slice_get, slice_set, All}
+use Rattle.std.specs.Prelude.{◌≡◌, ℕ, ◌<◌, ◌++◌, List, length, drop, replicate, Option, Some, None}
+use Rattle.std.specs.Prelude.{slice_get, slice_set, All}
 use Rattle.rail_types.specs.declared.entries.Entry.{Entry}
 use Rattle.rail_types.specs.declared.entries.Deed.{Deed}
 use Rattle.rail_types.specs.declared.entries.Deed.TheVariants.{Hold, Grant, Free}
@@ -9,7 +10,8 @@ use Rattle.blocking_time.specs.Rules.{KeepsRunRules}
 use Rattle.grant_log.specs.declared.keys.EntryKey.{EntryKey}
 use Rattle.grant_log.specs.Live.{freed_by}
 
--- the key of a name and a number: the name's bytes with zeros behind them, how many they are, and the number
+-- the key of a name and a number: the name's bytes with zeros behind them, how
+-- many they are, and the number
 abbrev pub key_for : List ℕ → ℕ → EntryKey
 key_for owner number =
     record {

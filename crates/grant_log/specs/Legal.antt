@@ -26,8 +26,8 @@ IsDeedOn net (Grant wanted path) =
     All (λ run. run.block < length net.blocks) path.runs × IsWantedOn net wanted
 IsDeedOn net (Free at) = Unit {0}
 
--- the numbers of an entry are within their limits, and its zones, blocks and operational points are those of the
--- network; an asked path has its request's train
+-- the numbers of an entry are within their limits, and its zones, blocks and operational points are
+-- those of the network; an asked path has its request's train
 pub record IsInRange (timetable : Timetable) (entry : Entry) : Type 0 where
   pub within : IsEntryWithinLimits entry
   pub on_net : IsDeedOn timetable.net entry.deed
@@ -49,7 +49,8 @@ NoneClash live =
     (i j : ℕ) (a b : HeldClaim) → slice_get live i ≡ Some a → slice_get live j ≡ Some b →
     a.1 ≢ b.1 → ¬ Clash a.0 b.0
 
--- what a history keeps: the timetable by which it judges, its entries, and for how many more there is room
+-- what a history keeps: the timetable by which it judges, its entries, and
+-- for how many more there is room
 pub record Register : Type 0 where
   pub timetable : Timetable
   pub entries : List Entry

@@ -1,5 +1,6 @@
 -- What stands in a history: its live claims, each with its owner.
-use Rattle.std.specs.Prelude.{ℕ, ◌+◌, Bool, false, List, [], ◌∷◌, ◌++◌, map, drop, Option, option_map, is_some, position, nat_eq, if◌then◌else◌}
+use Rattle.std.specs.Prelude.{ℕ, ◌+◌, Bool, false, List, [], ◌∷◌, ◌++◌, map, drop, Option}
+use Rattle.std.specs.Prelude.{option_map, is_some, position, nat_eq, if◌then◌else◌}
 use Rattle.rail_types.specs.declared.paths.Claim.{Claim}
 use Rattle.rail_types.specs.declared.entries.Entry.{Entry}
 use Rattle.rail_types.specs.declared.entries.Deed.{Deed}
@@ -9,7 +10,8 @@ use Rattle.rail_types.specs.Occupation.{HeldClaim}
 use Rattle.rail_types.specs.Timetables.{Timetable, base_claims}
 use Rattle.blocking_time.specs.Joined.{blocked}
 
--- the claims of a deed: a hold has its own, a grant the joined blocking times of its path, and a Free none
+-- the claims of a deed: a hold has its own, a grant the joined blocking times
+-- of its path, and a Free none
 abbrev pub claims_of : Timetable → Deed → List Claim
 claims_of timetable (Hold claims reason) = claims
 claims_of timetable (Grant wanted path) = blocked timetable.net timetable.settings path
@@ -42,6 +44,7 @@ live_from timetable entries at [] = []
 live_from timetable entries at (entry ∷ others) =
     live_of timetable entries at entry ++ live_from timetable entries (at + 1) others
 
--- the live claims of a history: those of the base timetable, and those of its entries that no later one frees
+-- the live claims of a history: those of the base timetable, and those of its
+-- entries that no later one frees
 abbrev pub live_claims : Timetable → List Entry → List HeldClaim
 live_claims timetable entries = base_claims timetable ++ live_from timetable entries 0 entries

@@ -7,7 +7,9 @@ use Rattle.rail_types.specs.FirstClash.{IsFirstClash}
 use Rattle.rail_types.specs.Occupation.{Fits, HeldClaim}
 use Rattle.rail_types.specs.Timetables.{Timetable}
 use Rattle.grant_log.specs.declared.verdicts.Verdict.{Verdict}
-use Rattle.grant_log.specs.declared.verdicts.Verdict.TheVariants.{Kept, Gone, Other, BreaksRequest, Taken, Unknown, NotYours, AlreadyFreed, Fresh}
+use Rattle.grant_log.specs.declared.verdicts.Verdict.TheVariants.{Kept, Gone, Other, BreaksRequest}
+use Rattle.grant_log.specs.declared.verdicts.Verdict.TheVariants.{Taken, Unknown, NotYours}
+use Rattle.grant_log.specs.declared.verdicts.Verdict.TheVariants.{AlreadyFreed, Fresh}
 use Rattle.grant_log.specs.Content.{HaveSameContent}
 use Rattle.grant_log.specs.Live.{claims_of, freed_by, live_claims}
 use Rattle.grant_log.specs.Verdict.{breaks, takes}
@@ -48,7 +50,8 @@ abbrev pub FitsLive : Timetable → List Entry → Deed → Type 0
 FitsLive timetable entries deed =
     Fits (claims_of timetable deed) (map (λ held. held.0) (live_claims timetable entries))
 
--- a hold or a grant breaks no rule and fits; a Free names a hold or a grant of its own owner that none has freed
+-- a hold or a grant breaks no rule and fits; a Free names a hold or a grant of its
+-- own owner that none has freed
 abbrev pub MayJoin : Timetable → List Entry → List ℕ → Deed → Type 0
 MayJoin timetable entries owner (Free at) =
     (stands : Entry) × IsFreeOf entries (Free at) at stands
@@ -57,7 +60,8 @@ MayJoin timetable entries owner deed =
     (breaks timetable deed ≡ None) × FitsLive timetable entries deed
 
 -- the live claim that a hold or a grant is told, which breaks no rule
-pub record MeetsClaim (timetable : Timetable) (entries : List Entry) (deed : Deed) (held : HeldClaim) : Type 0 where
+pub record MeetsClaim (timetable : Timetable) (entries : List Entry) (deed : Deed)
+    (held : HeldClaim) : Type 0 where
   pub keeps : breaks timetable deed ≡ None
   pub first : IsFirstClash (live_claims timetable entries) (claims_of timetable deed) held
 

@@ -1,5 +1,6 @@
 -- What a history says of a new entry.
-use Rattle.std.specs.Prelude.{ℕ, Bool, true, false, ◌&&◌, List, Option, Some, None, position, nat_eq, slice_get, bytes_eq, if◌then◌else◌}
+use Rattle.std.specs.Prelude.{ℕ, Bool, true, false, ◌&&◌, List, Option, Some, None, position}
+use Rattle.std.specs.Prelude.{nat_eq, slice_get, bytes_eq, if◌then◌else◌}
 use Rattle.rail_types.specs.declared.entries.Entry.{Entry}
 use Rattle.rail_types.specs.declared.entries.Deed.{Deed}
 use Rattle.rail_types.specs.declared.entries.Deed.TheVariants.{Hold, Grant, Free}
@@ -9,7 +10,9 @@ use Rattle.rail_types.specs.Timetables.{Timetable}
 use Rattle.blocking_time.specs.declared.rules.Broken.{Broken}
 use Rattle.blocking_time.specs.Broken.{broken}
 use Rattle.grant_log.specs.declared.verdicts.Verdict.{Verdict}
-use Rattle.grant_log.specs.declared.verdicts.Verdict.TheVariants.{Kept, Gone, Other, BreaksRequest, Taken, Unknown, NotYours, AlreadyFreed, Fresh}
+use Rattle.grant_log.specs.declared.verdicts.Verdict.TheVariants.{Kept, Gone, Other, BreaksRequest}
+use Rattle.grant_log.specs.declared.verdicts.Verdict.TheVariants.{Taken, Unknown, NotYours}
+use Rattle.grant_log.specs.declared.verdicts.Verdict.TheVariants.{AlreadyFreed, Fresh}
 use Rattle.grant_log.specs.Content.{has_same_content}
 use Rattle.grant_log.specs.Live.{claims_of, freed_by, live_claims}
 
@@ -79,8 +82,8 @@ verdict_on_free owner None freer = Unknown
 verdict_on_free owner (Some stands) freer =
     if takes stands.deed then verdict_on_freed owner stands.owner freer else Unknown
 
--- a Free is told what stands at the position that it names; a hold or a grant the first rule of its request that its
--- path breaks, and else the first live claim that clashes
+-- a Free is told what stands at the position that it names; a hold or a grant the first rule of its
+-- request that its path breaks, and else the first live claim that clashes
 abbrev pub verdict_on_deed : Timetable → List Entry → List ℕ → Deed → Verdict
 verdict_on_deed timetable entries owner (Free at) =
     verdict_on_free owner (slice_get entries at) (freed_by entries at)

@@ -2,7 +2,8 @@
 
 ghost use Rattle.std.specs.Prelude.{◌≡◌, ◌<◌, All, find, length, not};
 ghost use Rattle.std.specs.List.{list_all, list_any};
-ghost use Rattle.rail_types.specs.FirstClash.{AreApart, clashing, clashes as claims_clash, first_clash as first_of, is_before};
+ghost use Rattle.rail_types.specs.FirstClash.{AreApart, clashing, clashes as claims_clash};
+ghost use Rattle.rail_types.specs.FirstClash.{first_clash as first_of, is_before};
 ghost use Rattle.rail_types.specs.Occupation.{AreJoined};
 ghost use Rattle.occupation_book.specs.Held.{held};
 
@@ -56,8 +57,8 @@ fn none_is_before(one: &(Claim, Owner), all: &[(Claim, Owner)]) -> bool
     all.iter().all(|other| !other.0.comes_before(&one.0))
 }
 
-// The first by zone, then by begin, found by looking for each of the new claims on its zone alone. They stand in order,
-// so the first that meets another tells it.
+// The first by zone, then by begin, found by looking for each of the new claims on its zone alone.
+// They stand in order, so the first that meets another tells it.
 pub(crate) fn first_in_book(book: &Occupations, claims: &[Claim]) -> Option<(Claim, Owner)>
     requires zones { All (λ claim. claim.zone < length book.now) claims.now }
     requires joined { AreJoined claims.now }

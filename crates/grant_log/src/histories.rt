@@ -1,6 +1,8 @@
 //! The history of one timetable.
 
-ghost use Rattle.std.specs.Prelude.{◌≡◌, ◌-◌, ◌<◌, ◌≤◌, ◌∷◌, ◌++◌, [], All, length, max, map, None, IfOk, IfSome, IsNone, IsOk, ◌↔◌, OnErr, OnOk, option_map, slice_get, vec_capacity};
+ghost use Rattle.std.specs.Prelude.{◌≡◌, ◌-◌, ◌<◌, ◌≤◌, ◌∷◌, ◌++◌, [], All, length, max, map, None};
+ghost use Rattle.std.specs.Prelude.{IfOk, IfSome, IsNone, IsOk, ◌↔◌, OnErr, OnOk, option_map};
+ghost use Rattle.std.specs.Prelude.{slice_get, vec_capacity};
 ghost use Rattle.rail_types.specs.Timetables.{IsTimetable, timetable_of};
 ghost use Rattle.rail_types.specs.Limits.{IsDeedWithinLimits};
 ghost use Rattle.rail_types.specs.declared.limits.TheConstants.{MAX_OWNER_BYTES};
@@ -33,7 +35,8 @@ pub struct History {
     net: Network,
     base: Base,
     entries: Vec<Entry>,
-    // The keys of the entries, in their order, so that the place of a key is the position of its entry.
+    // The keys of the entries, in their order, so that the place of a key
+    // is the position of its entry.
     index: IndexSet<EntryKey>,
     // For each entry the position of the one that frees it.
     freed: Vec<Option<u64>>,
@@ -50,7 +53,11 @@ impl Model for History {
 
     ghost Value = { Register };
 
-    ghost view = { λ a. record { timetable = timetable_of a.net a.base; entries = a.entries.items; spare = a.room } };
+    ghost view = { λ a. record {
+      timetable = timetable_of a.net a.base;
+      entries = a.entries.items;
+      spare = a.room;
+    } };
 
     ghost invariant = { λ a. record {
       planned : IsTimetable (timetable_of a.net a.base);
@@ -121,15 +128,17 @@ impl History {
         self.entries.get(at as usize)
     }
 
-    /// The position of the later entry that frees the one at this position, None where none does, and from the front on.
+    /// The position of the later entry that frees the one at this position, None where none
+    /// does, and from the front on.
     pub fn freed_by(&self, at: u64) -> Option<u64>
         ensures { result ≡ freed_by self.now.entries at }
     {
         self.freed.get(at as usize).copied().flatten()
     }
 
-    /// The claims of a deed: a hold has its own, a grant the joined blocking times of its path, and a Free none. The
-    /// path must break none of the rules that hold for paths of clients' own making.
+    /// The claims of a deed: a hold has its own, a grant the joined blocking times of
+    /// its path, and a Free none. The path must break none of the rules that hold for
+    /// paths of clients' own making.
     pub fn claims_of(&self, deed: &Deed) -> Result<Vec<Claim>, NoMemory>
         requires { HasStairway self.now.timetable deed.now }
         ensures { IfOk result (λ claims. claims.items ≡ claims_of self.now.timetable deed.now) }
@@ -137,8 +146,9 @@ impl History {
         live::claims_of(self.alloc, &self.net, &self.base, deed)
     }
 
-    /// The first rule of its request that the path of a grant breaks, or of those for paths of clients' own making. A
-    /// hold and a Free break none. Where none is broken, the claims of the deed can be worked out.
+    /// The first rule of its request that the path of a grant breaks, or of those for paths
+    /// of clients' own making. A hold and a Free break none. Where none is broken, the claims
+    /// of the deed can be worked out.
     pub fn breaks(&self, deed: &Deed) -> Option<Broken>
         requires within { IsDeedWithinLimits deed.now }
         requires on_net { IsDeedOn self.now.timetable.net deed.now }
@@ -153,8 +163,9 @@ impl History {
         }
     }
 
-    /// What is told of an owner's number that stands already, by the content that is sent with it; None where it is new.
-    /// Of a path that is asked for the request alone counts, so the path may be any.
+    /// What is told of an owner's number that stands already, by the content that is sent
+    /// with it; None where it is new. Of a path that is asked for the request alone
+    /// counts, so the path may be any.
     pub fn told_again(&self, owner: &Name, number: u64, deed: &Deed) -> Option<Verdict>
         requires { length owner.now ≤ MAX_OWNER_BYTES }
         ensures { result ≡
@@ -167,8 +178,8 @@ impl History {
         Some(told_again(&self.entries[at], deed, at as u64, freer))
     }
 
-    /// What the history says of a new entry that is in range, by looking through all entries and their claims: the
-    /// plain double of `judge_by`.
+    /// What the history says of a new entry that is in range, by looking through all entries and
+    /// their claims: the plain double of `judge_by`.
     pub fn judge(&self, entry: &Entry) -> Result<Verdict, NoMemory>
         requires { IsInRange self.now.timetable entry.now }
         ensures { IfOk result (λ verdict. verdict ≡
@@ -212,9 +223,10 @@ impl History {
         live::live_claims(self.alloc, &self.net, &self.base, &self.entries)
     }
 
-    /// What `judge` says, by the indexes of numbers and of frees, and by a book that holds the live claims: its work
-    /// does not grow with the history. The claims are those of the deed, which matter only where its path breaks no
-    /// rule. Memory is wanted for the name of another owner alone.
+    /// What `judge` says, by the indexes of numbers and of frees, and by a book that holds
+    /// the live claims: its work does not grow with the history. The claims are those of
+    /// the deed, which matter only where its path breaks no rule. Memory is wanted for the
+    /// name of another owner alone.
     pub fn judge_by(
         &self,
         book: &Occupations,

@@ -1,12 +1,14 @@
 //! Laws of histories, each on a function that does nothing.
 
-ghost use Rattle.std.specs.Prelude.{◌≡◌, ◌↔◌, ◌∷◌, ◌++◌, [], ℕ, ◌<◌, true, List, All, Contains, Some, None, length, take, slice_get};
+ghost use Rattle.std.specs.Prelude.{◌≡◌, ◌↔◌, ◌∷◌, ◌++◌, [], ℕ, ◌<◌, true, List, All, Contains};
+ghost use Rattle.std.specs.Prelude.{Some, None, length, take, slice_get};
 ghost use Rattle.rail_types.specs.declared.paths.Claim.{Claim as claim_type};
 ghost use Rattle.rail_types.specs.declared.entries.Deed.{Deed as deed_type};
 ghost use Rattle.rail_types.specs.declared.entries.Deed.TheVariants.{Free};
 ghost use Rattle.rail_types.specs.declared.entries.Entry.{Entry as entry_type};
 ghost use Rattle.rail_types.specs.declared.entries.Owner.{Owner as owner_type};
-ghost use Rattle.rail_types.specs.declared.entries.Owner.TheVariants.{Base as of_train, Entry as of_entry};
+ghost use Rattle.rail_types.specs.declared.entries.Owner.TheVariants.{Base as of_train};
+ghost use Rattle.rail_types.specs.declared.entries.Owner.TheVariants.{Entry as of_entry};
 ghost use Rattle.rail_types.specs.Limits.{IsNearSpan};
 ghost use Rattle.rail_types.specs.Occupation.{AreJoined, HeldClaim};
 ghost use Rattle.rail_types.specs.Timetables.{IsTimetable, Timetable, base_claims};
@@ -24,8 +26,8 @@ ghost use Rattle.grant_log.specs.Verdict.{breaks, takes, verdict_on};
 use blocking_time::{joined_claims_are_one, stairways_are_near, the_first_broken_rule_is_told};
 use rail_types::{first_clashes_are_first, networks_without_flaws};
 
-/// Each beginning of a legal history is legal, and in each no two live claims of different owners clash, those of the
-/// base timetable and of holds among them.
+/// Each beginning of a legal history is legal, and in each no two live claims of different owners
+/// clash, those of the base timetable and of holds among them.
 pub fn legal_histories_never_clash()
     ensures beginning { (timetable : Timetable) (entries : List entry_type) (front : ℕ) →
         IsLegal timetable entries → IsLegal timetable (take front entries) }
@@ -36,7 +38,8 @@ pub fn legal_histories_never_clash()
     first_clashes_are_first();
 }
 
-/// Each grant of a legal history keeps its request, and a path of a client's own making keeps the rules of runs.
+/// Each grant of a legal history keeps its request, and a path of a client's own
+/// making keeps the rules of runs.
 pub fn grants_keep_their_requests()
     ensures requests { (timetable : Timetable) (entries : List entry_type) (at : ℕ)
         (entry : entry_type) →
@@ -46,8 +49,9 @@ pub fn grants_keep_their_requests()
     first_clashes_are_first();
 }
 
-/// The claims of a deed in range, whose path breaks no rule, can be worked out. They are on zones of the network, and
-/// stand by zone, then by begin, with a tick between any two of a zone; and their ticks are near enough to be held.
+/// The claims of a deed in range, whose path breaks no rule, can be worked out. They are on zones
+/// of the network, and stand by zone, then by begin, with a tick between any two of a zone; and
+/// their ticks are near enough to be held.
 pub fn claims_are_on_the_network()
     ensures stairway { (timetable : Timetable) (entry : entry_type) →
         IsTimetable timetable → IsInRange timetable entry → breaks timetable entry.deed ≡ None →
@@ -67,8 +71,9 @@ pub fn claims_are_on_the_network()
     stairways_are_near();
 }
 
-/// A claim is live with an entry as its owner exactly where it is one of the claims of the entry that stands at that
-/// position, and no later entry frees it. Those of a planned train are live at all times.
+/// A claim is live with an entry as its owner exactly where it is one of the claims of the
+/// entry that stands at that position, and no later entry frees it. Those of a planned
+/// train are live at all times.
 pub fn live_claims_are_unfreed()
     ensures unfreed { (timetable : Timetable) (entries : List entry_type) (claim : claim_type)
         (at : ℕ) →
@@ -81,8 +86,8 @@ pub fn live_claims_are_unfreed()
         Contains (base_claims timetable) (claim, of_train train) }
 {}
 
-/// The verdict says what it means; and where what a verdict says holds, it is the verdict. Where a claim is taken, a
-/// first one is told.
+/// The verdict says what it means; and where what a verdict says holds, it is the verdict. Where a
+/// claim is taken, a first one is told.
 pub fn verdicts_say_what_they_mean()
     ensures says { (timetable : Timetable) (entries : List entry_type) (entry : entry_type) →
         Says timetable entries entry (verdict_on timetable entries entry) }
@@ -105,9 +110,9 @@ pub fn contents_are_compared()
         (has_same_content one other ≡ true) ↔ HaveSameContent one other }
 {}
 
-/// Claims that are live in a history can follow it: those of the base timetable at first; with what an entry brings or
-/// frees they are live in the history with it behind; and without what it brought, or with what it freed, they are live
-/// in the history without it.
+/// Claims that are live in a history can follow it: those of the base timetable at first; with what
+/// an entry brings or frees they are live in the history with it behind; and without what it
+/// brought, or with what it freed, they are live in the history without it.
 pub fn live_claims_follow()
     ensures begin { (timetable : Timetable) → AreLive timetable (base_claims timetable) [] }
     ensures follow { (timetable : Timetable) (entries : List entry_type) (entry : entry_type)
@@ -122,8 +127,8 @@ pub fn live_claims_follow()
     first_clashes_are_first();
 }
 
-/// The claims of a fresh entry are free among the live ones. Those of the entry that the last Free names are free as
-/// long as it stands, so that they can come back where it is taken out.
+/// The claims of a fresh entry are free among the live ones. Those of the entry that the last Free
+/// names are free as long as it stands, so that they can come back where it is taken out.
 pub fn fresh_claims_are_free()
     ensures fresh { (timetable : Timetable) (entries : List entry_type) (entry : entry_type)
         (held : List HeldClaim) →

@@ -5,7 +5,8 @@ ghost use Rattle.rail_types.specs.declared.entries.Entry.{Entry as entry_type};
 ghost use Rattle.rail_types.specs.declared.entries.Owner.TheVariants.{Base as of_train};
 ghost use Rattle.rail_types.specs.Timetables.{timetable_of};
 ghost use Rattle.grant_log.specs.Inside.{HasStairway, HaveStairways};
-ghost use Rattle.grant_log.specs.Live.{claims_of as deed_claims, live_claims as live_of_all, live_of, owned_by};
+ghost use Rattle.grant_log.specs.Live.{claims_of as deed_claims, live_claims as live_of_all};
+ghost use Rattle.grant_log.specs.Live.{live_of, owned_by};
 
 use crate::scans::freed_by;
 use blocking_time::{joined, stairway};

@@ -2,7 +2,10 @@
 
 ghost use Rattle.std.specs.Prelude.{◌≡◌, IfOk, option_map, if◌then◌else◌};
 ghost use Rattle.grant_log.specs.Content.{has_same_content as same_content};
-ghost use Rattle.grant_log.specs.Verdict.{already_or_fresh as freed_or_fresh, freed_position as freed_at, kept_or_gone as told_at, takes as deed_takes, taken_or_fresh as told_of, verdict_on_free};
+ghost use Rattle.grant_log.specs.Verdict.{already_or_fresh as freed_or_fresh};
+ghost use Rattle.grant_log.specs.Verdict.{freed_position as freed_at, kept_or_gone as told_at};
+ghost use Rattle.grant_log.specs.Verdict.{takes as deed_takes, taken_or_fresh as told_of};
+ghost use Rattle.grant_log.specs.Verdict.{verdict_on_free};
 
 use crate::contents::has_same_content;
 use blocking_time::Broken;
@@ -13,13 +16,16 @@ use std::alloc::Global;
 /// What a history says of a new entry, the first that applies.
 #[derive(Debug, Drop)]
 pub enum Verdict {
-    /// The owner's number stands with the same content, at this position, and no later entry freed it.
+    /// The owner's number stands with the same content, at this position,
+    /// and no later entry freed it.
     Kept(u64),
-    /// The owner's number stands with the same content at the first position, and the later entry at the second freed it.
+    /// The owner's number stands with the same content at the first position, and the later
+    /// entry at the second freed it.
     Gone(u64, u64),
     /// The owner's number stands with another content, at this position.
     Other(u64),
-    /// The path of a grant breaks this rule of what it was asked for, or of paths that clients give themselves.
+    /// The path of a grant breaks this rule of what it was asked for, or of paths
+    /// that clients give themselves.
     BreaksRequest(Broken),
     /// This live claim of this owner clashes; the first by zone, then by begin.
     Taken(Claim, Owner),
@@ -33,7 +39,8 @@ pub enum Verdict {
     Fresh,
 }
 
-// What is told of an entry whose owner's number stands here, by the later entry that frees what stands.
+// What is told of an entry whose owner's number stands here, by the later
+// entry that frees what stands.
 pub(crate) fn told_again(stands: &Entry, deed: &Deed, at: u64, freer: Option<u64>) -> Verdict
     ensures { result ≡
         (if same_content stands.now.deed deed.now then told_at at freer else Verdict.Other at) }
@@ -47,7 +54,8 @@ pub(crate) fn told_again(stands: &Entry, deed: &Deed, at: u64, freer: Option<u64
     }
 }
 
-// What is told of a Free by what stands at the position that it names, and by the later entry that frees this.
+// What is told of a Free by what stands at the position that it names, and by the
+// later entry that frees this.
 pub(crate) fn told_of_free(
     alloc: Global,
     owner: &Name,

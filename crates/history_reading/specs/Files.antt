@@ -6,7 +6,8 @@ use Rattle.grant_log.specs.Legal.{IsLegal}
 use Rattle.journal_text.specs.Headers.{header_of_version}
 use Rattle.journal_text.specs.Histories.{bodies_of, ReadsAs}
 use Rattle.journal_reading.specs.declared.faults.OpenFault.{OpenFault}
-use Rattle.journal_reading.specs.declared.faults.OpenFault.TheVariants.{ReadFault, Damaged, Illegal, Memory}
+use Rattle.journal_reading.specs.declared.faults.OpenFault.TheVariants.{ReadFault, Damaged, Illegal}
+use Rattle.journal_reading.specs.declared.faults.OpenFault.TheVariants.{Memory}
 use Rattle.journal_reading.specs.Starts.{StartIsRefused}
 use Rattle.journal_reading.specs.Walks.{IsReadTo, IsDamagedAt, IsIllegalAt, IsSpelledIn}
 

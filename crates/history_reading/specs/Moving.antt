@@ -12,23 +12,26 @@ use Rattle.journal_reading.specs.declared.faults.OpenFault.TheVariants.{Memory}
 use Rattle.history_reading.specs.Files.{IsFound, IsRefused}
 use Rattle.history_reading.specs.Failing.{HasFaultCause}
 use Rattle.history_reading.specs.declared.moves.MoveFault.{MoveFault}
-use Rattle.history_reading.specs.declared.moves.MoveFault.TheVariants.{NotEmpty, From, Fault, Memory as no_memory}
+use Rattle.history_reading.specs.declared.moves.MoveFault.TheVariants.{NotEmpty, From, Fault}
+use Rattle.history_reading.specs.declared.moves.MoveFault.TheVariants.{Memory as no_memory}
 
--- the old file is a journal of version 1 with so many entries, and whatever has P reads as them in the version of today:
--- it is a header, their records and a closed gate, and no byte more
+-- the old file is a journal of version 1 with so many entries, and whatever has P reads as them in
+-- the version of today: it is a header, their records and a closed gate, and no byte more
 pub record IsMoved (timetable : Timetable) (network base : List ℕ) (count : ℕ) (P : List ℕ → Type 0)
     (file : List ℕ) : Type 0 where
   pub entries : List Entry
   pub gate : ℕ
   pub found : IsFound timetable 1 network base file entries gate
   pub count_is : count ≡ length entries
-  pub reads : (image : List ℕ) → P image → ReadsAs (header_of network base) (bodies_of entries) image
+  pub reads : (image : List ℕ) → P image
+      → ReadsAs (header_of network base) (bodies_of entries) image
   pub exact : (image : List ℕ) → P image
       → image ≡ front_of (header_of network base) (bodies_of entries) ++ 0 ∷ []
 
--- why a journal isn't moved: the new disk has so many bytes; or it has none, and opening the old one as version 1 is
--- refused. Want of memory is told in one way alone
-abbrev pub IsMoveRefused : {D E : Type 0} → Ghosts D → Ghosts E → Timetable → List ℕ → List ℕ → D → E → MoveFault → Type 0
+-- why a journal isn't moved: the new disk has so many bytes; or it has none, and opening the old
+-- one as version 1 is refused. Want of memory is told in one way alone
+abbrev pub IsMoveRefused : {D E : Type 0} → Ghosts D → Ghosts E → Timetable → List ℕ → List ℕ → D
+    → E → MoveFault → Type 0
 IsMoveRefused new_disk old_disk timetable network base disk from (NotEmpty len) =
     IfSome (new_disk.contents disk) (λ bytes. (len ≡ length bytes) × (bytes ≢ []))
 IsMoveRefused new_disk old_disk timetable network base disk from (From Memory) = ⊥

@@ -1,4 +1,5 @@
-ghost use Rattle.std.specs.Prelude.{◌≡◌, ◌+◌, ◌<◌, ◌≤◌, ◌^◌, [], ℕ, List, All, Some, IfErr, IfOk, IfSome, OnOk, length};
+ghost use Rattle.std.specs.Prelude.{◌≡◌, ◌+◌, ◌<◌, ◌≤◌, ◌^◌, [], ℕ, List, All, Some, IfErr, IfOk};
+ghost use Rattle.std.specs.Prelude.{IfSome, OnOk, length};
 ghost use Rattle.journal_text.specs.Histories.{bodies_of, bytes_of};
 ghost use Rattle.history_reading.specs.Failing.{IsAsFaulty, IsNotOfDisk, IsOnlyRead, IsUnread};
 ghost use Rattle.history_reading.specs.Files.{IsFound, IsRefused, TellsHistory};
@@ -15,7 +16,8 @@ use std::alloc::Global;
 
 // All bytes of a disk, after a sync.
 pub(crate) fn read_file<D: Disk>(alloc: Global, disk: &mut D) -> Result<Vec<u8>, OpenFault>
-    ensures bytes { IfOk result (λ file. IfSome (D.contents disk.old) (λ bytes. file.items ≡ bytes)) }
+    ensures bytes { IfOk result
+        (λ file. IfSome (D.contents disk.old) (λ bytes. file.items ≡ bytes)) }
     ensures durable { OnOk result ((image : List ℕ) → D.images disk.new image →
         D.contents disk.old ≡ Some image) }
     ensures read { IsOnlyRead D.Disk disk.old disk.new }
@@ -39,8 +41,9 @@ pub(crate) fn read_file<D: Disk>(alloc: Global, disk: &mut D) -> Result<Vec<u8>,
     Ok(file)
 }
 
-/// Reads a journal of a version, for a network's file and a base timetable's file with these digests: a sync, and one
-/// pass over the bytes. It begins with the empty history of their network and their base timetable, and writes nothing.
+/// Reads a journal of a version, for a network's file and a base timetable's file with these
+/// digests: a sync, and one pass over the bytes. It begins with the empty history of their network
+/// and their base timetable, and writes nothing.
 pub fn read_journal<D: Disk>(
     alloc: Global,
     disk: &mut D,

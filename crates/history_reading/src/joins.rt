@@ -49,7 +49,8 @@ fn joins(
     Ok(matches!(verdict, Verdict::Fresh))
 }
 
-// Puts an entry behind a history, where it joins it, and lets the live claims follow. Answers whether it does.
+// Puts an entry behind a history, where it joins it, and lets the live claims
+// follow. Answers whether it does.
 pub(crate) fn join(
     alloc: Global,
     history: &mut History,

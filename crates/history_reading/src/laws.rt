@@ -10,8 +10,8 @@ ghost use Rattle.history_reading.specs.Files.{IsFound, IsRefused, TellsHistory};
 use byte_fields::one_form;
 use entry_codec::one_entry;
 
-/// What is found in a file is the history that it tells. A file tells one history at most; and one that tells a history
-/// is refused for want of memory or for a fault of the disk alone.
+/// What is found in a file is the history that it tells. A file tells one history at most; and one
+/// that tells a history is refused for want of memory or for a fault of the disk alone.
 pub fn one_reading()
     ensures found { (timetable : Timetable) (version : ℕ) (network base file : List ℕ)
         (entries : List entry_type) (gate : ℕ) →

@@ -1,4 +1,5 @@
-//! The history that the file of a journal tells: read in one pass, with each entry judged by those before it.
+//! The history that the file of a journal tells: read in one pass, with each
+//! entry judged by those before it.
 #![tactic(auto)]
 
 mod files;

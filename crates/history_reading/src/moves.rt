@@ -1,4 +1,5 @@
-ghost use Rattle.std.specs.Prelude.{◌≡◌, ◌+◌, ◌<◌, ◌≤◌, ◌∷◌, ◌++◌, [], ℕ, List, Some, IfErr, IfOk, IfSome, OnErr, OnOk, length, slice_set, take};
+ghost use Rattle.std.specs.Prelude.{◌≡◌, ◌+◌, ◌<◌, ◌≤◌, ◌∷◌, ◌++◌, [], ℕ, List, Some, IfErr, IfOk};
+ghost use Rattle.std.specs.Prelude.{IfSome, OnErr, OnOk, length, slice_set, take};
 ghost use Rattle.outside_io.specs.Faults.{HasCause};
 ghost use Rattle.rail_types.specs.Timetables.{IsTimetable, timetable_of};
 ghost use Rattle.journal_text.specs.Headers.{header_of};
@@ -6,7 +7,8 @@ ghost use Rattle.journal_text.specs.Histories.{bodies_of, front_of};
 ghost use Rattle.journal_reading.specs.Beginning.{WasEmpty};
 ghost use Rattle.history_reading.specs.Failing.{IsAsFaulty, IsNotOfDisk, IsOnlyRead};
 ghost use Rattle.history_reading.specs.Files.{IsFound, IsRefused};
-ghost use Rattle.history_reading.specs.Moving.{HasMoveCause, IsMoved, IsMoveRefused, IsUnwritten, move_fault};
+ghost use Rattle.history_reading.specs.Moving.{HasMoveCause, IsMoved, IsMoveRefused, IsUnwritten};
+ghost use Rattle.history_reading.specs.Moving.{move_fault};
 
 use crate::files::{read_bytes, read_file};
 use grant_log::History;
@@ -21,7 +23,8 @@ use std::alloc::Global;
 pub enum MoveFault {
     /// The new disk has so many bytes.
     NotEmpty { len: u64 },
-    /// The old disk is refused by opening it as a journal of version 1. It is never refused so for want of memory.
+    /// The old disk is refused by opening it as a journal of version 1. It is never
+    /// refused so for want of memory.
     From(OpenFault),
     /// The new disk failed. If it was empty, it may have any bytes now; if not, it is as it was.
     Fault,
@@ -29,7 +32,8 @@ pub enum MoveFault {
     Memory,
 }
 
-// A file of version 1 up to its first gate that is not open, in the version of today, and a closed gate.
+// A file of version 1 up to its first gate that is not open, in the version
+// of today, and a closed gate.
 fn renewed(file: Vec<u8>, gate: usize) -> Result<Vec<u8>, NoMemory>
     requires { (11 < gate) × (gate ≤ length file.items) }
     ensures { IfOk result (λ bytes.
@@ -88,9 +92,10 @@ fn read_old<E: Disk>(
     }
 }
 
-/// Moves a journal of version 1 to an empty disk, for the same network's file and base timetable's file: behind the
-/// header of today stand the entries of the old file, and then a closed gate, in one write, and a sync. It answers how
-/// many they are, and hands the old disk back, which is synced and read.
+/// Moves a journal of version 1 to an empty disk, for the same network's file and base
+/// timetable's file: behind the header of today stand the entries of the old file, and then a
+/// closed gate, in one write, and a sync. It answers how many they are, and hands the old disk
+/// back, which is synced and read.
 pub fn init_from<D: Disk, E: Disk>(
     alloc: Global,
     disk: &mut D,

@@ -8,7 +8,8 @@ use no_memory::NoMemory;
 use std::alloc::Global;
 use std::marker::Model;
 
-/// The ids of a list's objects in their order, each borrowed from the text that was parsed. Contracts see the list.
+/// The ids of a list's objects in their order, each borrowed from the text that was
+/// parsed. Contracts see the list.
 #[derive(Drop)]
 pub struct Ids<'a> {
     set: IndexSet<&'a str>,

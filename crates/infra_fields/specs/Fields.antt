@@ -1,5 +1,7 @@
 -- Fields of an object: what each reads as, or its first fault.
-use Rattle.std.specs.Prelude.{◌≡◌, ℕ, ℤ, pos, negsuc, List, [], ◌∷◌, ◌++◌, length, map, codes, if◌then◌else◌, Bool, false, ◌&&◌, nat_le, is_some, Option, Some, None, option_map, Result, Ok, Err}
+use Rattle.std.specs.Prelude.{◌≡◌, ℕ, ℤ, pos, negsuc, List, [], ◌∷◌, ◌++◌, length, map, codes}
+use Rattle.std.specs.Prelude.{if◌then◌else◌, Bool, false, ◌&&◌, nat_le, is_some, Option, Some, None}
+use Rattle.std.specs.Prelude.{option_map, Result, Ok, Err}
 use Rattle.serde_json.specs.Data.{Data, Items, no_items, item}
 use Rattle.serde_json.specs.Find.{get, as_array, as_object, as_str}
 use Rattle.decimal_quote.specs.declared.values.NotWhole.{NotWhole}
@@ -12,7 +14,9 @@ use Rattle.json_fields.specs.Places.{FilePlace, spot_of}
 use Rattle.json_fields.specs.Reading.{◌>>=◌, or_fault}
 use Rattle.json_fields.specs.Reading as reading
 use Rattle.infra_fields.specs.declared.faults.InfraFault.{InfraFault}
-use Rattle.infra_fields.specs.declared.faults.InfraFault.TheVariants.{Missing, Kind, Fraction, Negative, Unknown, Twice, Limit, Memory}
+use Rattle.infra_fields.specs.declared.faults.InfraFault.TheVariants.{Missing, Kind, Fraction}
+use Rattle.infra_fields.specs.declared.faults.InfraFault.TheVariants.{Negative, Unknown, Twice}
+use Rattle.infra_fields.specs.declared.faults.InfraFault.TheVariants.{Limit, Memory}
 use Rattle.infra_fields.specs.declared.faults.What.{What}
 use Rattle.infra_fields.specs.declared.faults.What.TheVariants as what
 
@@ -40,7 +44,8 @@ text_at place field d = do
 -- an id has 1 to 255 bytes
 abbrev pub limited_id : List ℕ → Result (List ℕ) InfraFault
 limited_id id =
-    if nat_le 1 (length id) && nat_le (length id) MAX_ID_BYTES then Ok id else Err (Limit what.Id (pos (length id)))
+    if nat_le 1 (length id) && nat_le (length id) MAX_ID_BYTES then Ok id
+    else Err (Limit what.Id (pos (length id)))
 
 abbrev pub id_at : FilePlace → List ℕ → Data → Result (List ℕ) InfraFault
 id_at place field d = do
@@ -122,19 +127,22 @@ abbrev pub list_at : FilePlace → List ℕ → Data → Result (List Data) Infr
 list_at place field d = list_or_none (spot_of place field) (get field d)
 
 -- Objects are read in order, each with its index and the ids of those before it.
-abbrev pub read_each : {X : Type 0} → (X → List ℕ) → (ℕ → List (List ℕ) → Data → Result X InfraFault) → List X → List Data → Result (List X) InfraFault
+abbrev pub read_each : {X : Type 0} → (X → List ℕ) → (ℕ → List (List ℕ) → Data
+    → Result X InfraFault) → List X → List Data → Result (List X) InfraFault
 read_each id one before [] = Ok before
 read_each id one before (d ∷ ds) = do
   it ← one (length before) (map id before) d
   read_each id one (before ++ it ∷ []) ds
 
 -- what was read stands behind the others, unless memory was wanted
-abbrev pub GivesNext : {X : Type 0} → List X → List X → Result (Unit {0}) InfraFault → Result X InfraFault → Type 0
+abbrev pub GivesNext : {X : Type 0} → List X → List X → Result (Unit {0}) InfraFault
+    → Result X InfraFault → Type 0
 GivesNext {X} old new (Ok _) read = (it : X) × (read ≡ Ok it) × (new ≡ old ++ it ∷ [])
 GivesNext old new (Err e) read = (e ≡ Memory → ⊥) → read ≡ Err e
 
 -- Items of a list in an object are read in order, each with its index.
-abbrev pub read_items : {X : Type 0} → (ℕ → Data → Result X InfraFault) → List X → List Data → Result (List X) InfraFault
+abbrev pub read_items : {X : Type 0} → (ℕ → Data → Result X InfraFault) → List X → List Data
+    → Result (List X) InfraFault
 read_items one before [] = Ok before
 read_items one before (d ∷ ds) = do
   it ← one (length before) d

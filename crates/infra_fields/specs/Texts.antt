@@ -5,7 +5,10 @@ use Rattle.json_fields.specs.declared.spots.Spot.{Spot}
 use Rattle.json_fields.specs.Escapes.{escaped}
 use Rattle.json_fields.specs.Spots.{spot_text}
 use Rattle.infra_fields.specs.declared.faults.InfraFault.{InfraFault}
-use Rattle.infra_fields.specs.declared.faults.InfraFault.TheVariants.{NotJson, Missing, Kind, Fraction, Negative, Unknown, Twice, SwitchType, Limit, Memory}
+use Rattle.infra_fields.specs.declared.faults.InfraFault.TheVariants.{NotJson, Missing, Kind}
+use Rattle.infra_fields.specs.declared.faults.InfraFault.TheVariants.{Fraction, Negative, Unknown}
+use Rattle.infra_fields.specs.declared.faults.InfraFault.TheVariants.{Twice, SwitchType, Limit}
+use Rattle.infra_fields.specs.declared.faults.InfraFault.TheVariants.{Memory}
 use Rattle.infra_fields.specs.declared.faults.What.{What}
 use Rattle.infra_fields.specs.declared.faults.What.TheVariants as what
 

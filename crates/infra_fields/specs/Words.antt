@@ -1,5 +1,7 @@
--- Words that stand for one of a few things: directions, ends, types of switches, their ports and their groups.
-use Rattle.std.specs.Prelude.{ℕ, List, [], ◌∷◌, ◌++◌, codes, if◌then◌else◌, Option, Some, None, Result}
+-- Words that stand for one of a few things: directions, ends, types of switches,
+-- their ports and their groups.
+use Rattle.std.specs.Prelude.{ℕ, List, [], ◌∷◌, ◌++◌, codes, if◌then◌else◌, Option, Some, None}
+use Rattle.std.specs.Prelude.{Result}
 use Rattle.std.specs.Str.{bytes_eq}
 use Rattle.serde_json.specs.Data.{Data}
 use Rattle.json_fields.specs.Places.{FilePlace, spot_of}
@@ -11,9 +13,11 @@ use Rattle.infra_types.specs.declared.ends.End.TheVariants as ends
 use Rattle.infra_types.specs.declared.ends.Applies.{Applies}
 use Rattle.infra_types.specs.declared.ends.Applies.TheVariants as applying
 use Rattle.infra_types.specs.declared.switches.SwitchKind.{SwitchKind}
-use Rattle.infra_types.specs.declared.switches.SwitchKind.TheVariants.{Point, Link, Crossing, DoubleSlip}
+use Rattle.infra_types.specs.declared.switches.SwitchKind.TheVariants.{Point, Link, Crossing}
+use Rattle.infra_types.specs.declared.switches.SwitchKind.TheVariants.{DoubleSlip}
 use Rattle.infra_types.specs.declared.switches.Group.{Group}
-use Rattle.infra_types.specs.declared.switches.Group.TheVariants.{AB1, AB2, A1B1, A1B2, A2B1, A2B2, Other}
+use Rattle.infra_types.specs.declared.switches.Group.TheVariants.{AB1, AB2, A1B1, A1B2, A2B1, A2B2}
+use Rattle.infra_types.specs.declared.switches.Group.TheVariants.{Other}
 use Rattle.infra_fields.specs.declared.words.Port.{Port}
 use Rattle.infra_fields.specs.declared.words.Port.TheVariants as port
 use Rattle.infra_fields.specs.declared.faults.InfraFault.{InfraFault}
@@ -30,7 +34,8 @@ direction_named text =
     (if_word text (codes "STOP_TO_START") (Some directions.StopToStart) None)
 
 abbrev pub end_named : List ℕ → Option End
-end_named text = if_word text (codes "BEGIN") (Some ends.Begin) (if_word text (codes "END") (Some ends.End) None)
+end_named text =
+    if_word text (codes "BEGIN") (Some ends.Begin) (if_word text (codes "END") (Some ends.End) None)
 
 abbrev pub applies_named : List ℕ → Option Applies
 applies_named text =
@@ -77,7 +82,8 @@ port_within p = codes "ports." ++ port_name p
 -- ---- words of fields
 
 -- what a field's word stands for
-abbrev pub word_at : {A : Type 0} → (List ℕ → Option A) → FilePlace → List ℕ → Data → Result A InfraFault
+abbrev pub word_at : {A : Type 0} → (List ℕ → Option A) → FilePlace → List ℕ → Data
+    → Result A InfraFault
 word_at named place field d = do
   word ← text_at place field d
   or_fault (Kind (spot_of place field)) (named word)

@@ -1,7 +1,8 @@
 //! Faults as reports write them.
 
 ghost use Rattle.std.specs.Prelude.{◌≡◌, ◌++◌, IfOk, OnOk};
-ghost use Rattle.infra_fields.specs.Texts.{fault_text, spot_fault, id_fault, unknown_fault, limit_fault, word_of};
+ghost use Rattle.infra_fields.specs.Texts.{fault_text, spot_fault, id_fault, unknown_fault};
+ghost use Rattle.infra_fields.specs.Texts.{limit_fault, word_of};
 
 use crate::{InfraFault, What};
 use itoa::Buffer;

@@ -1,13 +1,17 @@
 //! Fields of one object. Each call answers the first fault of its field, at its spot.
 
-ghost use Rattle.std.specs.Prelude.{◌≡◌, ◌<◌, ◌≤◌, ◌^◌, ℤ, length, map, false, Ok, IfOk, option_map};
+ghost use Rattle.std.specs.Prelude.{◌≡◌, ◌<◌, ◌≤◌, ◌^◌, ℤ, length, map, false, Ok, IfOk};
+ghost use Rattle.std.specs.Prelude.{option_map};
 ghost use Rattle.serde_json.specs.View.{view};
 ghost use Rattle.decimal_quote.specs.declared.values.NotWhole.{NotWhole};
 ghost use Rattle.id_lists.specs.Ids.{is_known};
 ghost use Rattle.json_fields.specs.Places.{spot_of};
 ghost use Rattle.named_network.specs.Named.{IsId};
 ghost use Rattle.rail_types.specs.declared.limits.TheConstants.{MAX_OBJECTS};
-ghost use Rattle.infra_fields.specs.Fields.{Gives, object_at, found_at, text_of, text_at, limited_id, id_at, new_id_at, known_number, number_at, number_read, natural, metres_at, rounded_at, within, list_found, list_at, few, elements_in};
+ghost use Rattle.infra_fields.specs.Fields.{Gives, object_at, found_at, text_of, text_at};
+ghost use Rattle.infra_fields.specs.Fields.{limited_id, id_at, new_id_at, known_number, number_at};
+ghost use Rattle.infra_fields.specs.Fields.{number_read, natural, metres_at, rounded_at, within};
+ghost use Rattle.infra_fields.specs.Fields.{list_found, list_at, few, elements_in};
 
 use crate::faults::{InfraFault, What};
 use decimal_quote::NotWhole;
@@ -36,7 +40,8 @@ pub fn found<'a>(
     value: &'a Value,
     field: &str,
 ) -> Result<&'a Value, InfraFault>
-    ensures { Gives (λ found. view found.now) result (found_at place.now field.now (view value.now)) }
+    ensures { Gives (λ found. view found.now) result
+        (found_at place.now field.now (view value.now)) }
 {
     let Some(found) = value.get(field) else {
         return Err(InfraFault::Missing {
@@ -114,7 +119,8 @@ pub fn new_id<'a, T: HasId>(
     value: &'a Value,
     before: &Listed<T>,
 ) -> Result<&'a str, InfraFault>
-    ensures id { Gives (λ id. id.now) result (new_id_at place.now (map T.id before.now) (view value.now)) }
+    ensures id { Gives (λ id. id.now) result
+        (new_id_at place.now (map T.id before.now) (view value.now)) }
     ensures fresh { IfOk result (λ id. is_known id.now (map T.id before.now) ≡ false) }
     ensures named { IfOk result (λ id. IsId id.now) }
 {
@@ -135,7 +141,8 @@ pub fn known<T: HasId>(
     field: &str,
     among: &Listed<T>,
 ) -> Result<u32, InfraFault>
-    ensures number { Gives (λ number. number) result (known_number place.now id.now field.now (map T.id among.now)) }
+    ensures number { Gives (λ number. number) result
+        (known_number place.now id.now field.now (map T.id among.now)) }
     ensures within { IfOk result (λ number. number < length among.now) }
 {
     let Some(number) = among.number(id) else {
@@ -155,7 +162,8 @@ pub fn number<T: HasId>(
     field: &str,
     among: &Listed<T>,
 ) -> Result<u32, InfraFault>
-    ensures number { Gives (λ number. number) result (number_at place.now field.now (map T.id among.now) (view value.now)) }
+    ensures number { Gives (λ number. number) result
+        (number_at place.now field.now (map T.id among.now) (view value.now)) }
     ensures within { IfOk result (λ number. number < length among.now) }
 {
     let id = id(alloc, place, value, field)?;
@@ -171,7 +179,8 @@ pub fn read(
     field: &str,
     read: Result<i64, NotWhole>,
 ) -> Result<i64, InfraFault>
-    ensures { Gives (λ number. number) result (number_read (spot_of place.now field.now) (view found.now) read) }
+    ensures { Gives (λ number. number) result
+        (number_read (spot_of place.now field.now) (view found.now) read) }
 {
     match read {
         Ok(number) => Ok(number),
@@ -195,7 +204,8 @@ pub fn not_negative(
     field: &str,
     number: &i64,
 ) -> Result<u64, InfraFault>
-    ensures number { Gives (λ number. number) result (natural (spot_of place.now field.now) number.now) }
+    ensures number { Gives (λ number. number) result
+        (natural (spot_of place.now field.now) number.now) }
     ensures small { IfOk result (λ number. number < 2 ^ 63) }
 {
     if *number < 0 {
@@ -208,7 +218,8 @@ pub fn not_negative(
 
 /// The whole metres of a field.
 pub fn metres(alloc: Global, place: &Place, value: &Value, field: &str) -> Result<u64, InfraFault>
-    ensures metres { Gives (λ metres. metres) result (metres_at place.now field.now (view value.now)) }
+    ensures metres { Gives (λ metres. metres) result
+        (metres_at place.now field.now (view value.now)) }
     ensures small { IfOk result (λ metres. metres < 2 ^ 63) }
 {
     let found = found(alloc, place, value, field)?;
@@ -225,7 +236,8 @@ pub fn rounded(
     field: &str,
     up: bool,
 ) -> Result<u64, InfraFault>
-    ensures metres { Gives (λ metres. metres) result (rounded_at place.now field.now up (view value.now)) }
+    ensures metres { Gives (λ metres. metres) result
+        (rounded_at place.now field.now up (view value.now)) }
     ensures small { IfOk result (λ metres. metres < 2 ^ 63) }
 {
     let found = found(alloc, place, value, field)?;
@@ -257,7 +269,8 @@ pub fn list<'a>(
     value: &'a Value,
     field: &str,
 ) -> Result<&'a [Value], InfraFault>
-    ensures list { Gives (λ items. map view items.now) result (list_at place.now field.now (view value.now)) }
+    ensures list { Gives (λ items. map view items.now) result
+        (list_at place.now field.now (view value.now)) }
     ensures few { IfOk result (λ items. length items.now ≤ MAX_OBJECTS) }
 {
     let Some(found) = value.get(field) else {
@@ -284,7 +297,8 @@ fn elements<'a>(
     found: &'a Value,
     field: &str,
 ) -> Result<&'a [Value], InfraFault>
-    ensures list { Gives (λ items. map view items.now) result (list_found (spot_of place.now field.now) (view found.now)) }
+    ensures list { Gives (λ items. map view items.now) result
+        (list_found (spot_of place.now field.now) (view found.now)) }
     ensures few { IfOk result (λ items. length items.now ≤ MAX_OBJECTS) }
 {
     let Some(items) = items_in(found) else {

@@ -1,4 +1,5 @@
-//! The fields of an infrastructure's file: what each reads as, or its first fault, and the texts of faults.
+//! The fields of an infrastructure's file: what each reads as, or its first
+//! fault, and the texts of faults.
 #![tactic(auto)]
 
 mod fault_texts;

@@ -3,7 +3,9 @@
 ghost use Rattle.std.specs.Prelude.{◌≡◌};
 ghost use Rattle.serde_json.specs.View.{view};
 ghost use Rattle.infra_fields.specs.Fields.{Gives};
-ghost use Rattle.infra_fields.specs.Words.{direction_named, direction_at, end_named, end_at, applies_named, applies_at, kind_named, group_named, ports_of, port_name, port_within};
+ghost use Rattle.infra_fields.specs.Words.{direction_named, direction_at, end_named, end_at};
+ghost use Rattle.infra_fields.specs.Words.{applies_named, applies_at, kind_named, group_named};
+ghost use Rattle.infra_fields.specs.Words.{ports_of, port_name, port_within};
 
 use crate::faults::InfraFault;
 use crate::fields::text;
@@ -30,7 +32,8 @@ pub fn direction(
     value: &Value,
     field: &str,
 ) -> Result<Direction, InfraFault>
-    ensures { Gives (λ direction. direction) result (direction_at place.now field.now (view value.now)) }
+    ensures { Gives (λ direction. direction) result
+        (direction_at place.now field.now (view value.now)) }
 {
     let word = text(alloc, place, value, field)?;
     let Some(direction) = direction_named(word) else {

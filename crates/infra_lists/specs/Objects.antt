@@ -14,7 +14,8 @@ use Rattle.infra_fields.specs.declared.words.Port.{Port}
 use Rattle.infra_fields.specs.declared.faults.InfraFault.{InfraFault}
 use Rattle.infra_fields.specs.declared.faults.InfraFault.TheVariants.{SwitchType}
 use Rattle.infra_fields.specs.declared.faults.What.TheVariants as what
-use Rattle.infra_fields.specs.Fields.{object_at, found_at, text_at, new_id_at, number_at, metres_at, within, list_at, read_each}
+use Rattle.infra_fields.specs.Fields.{object_at, found_at, text_at, new_id_at, number_at, metres_at}
+use Rattle.infra_fields.specs.Fields.{within, list_at, read_each}
 use Rattle.infra_fields.specs.Words.{kind_named, end_at, ports_of, port_name, port_within}
 
 -- ---- tracks, detectors, buffer stops
@@ -66,14 +67,16 @@ port_at place tracks d port = do
   found ← found_at (part_of place (codes "ports")) (port_name port) d
   port_in (part_of place (port_within port)) tracks found
 
-abbrev pub read_ports : FilePlace → List (List ℕ) → Data → List TrackEnd → List Port → Result (List TrackEnd) InfraFault
+abbrev pub read_ports : FilePlace → List (List ℕ) → Data → List TrackEnd → List Port
+    → Result (List TrackEnd) InfraFault
 read_ports place tracks d before [] = Ok before
 read_ports place tracks d before (port ∷ ports) = do
   joined ← port_at place tracks d port
   read_ports place tracks d (before ++ joined ∷ []) ports
 
 -- the track ends at the ports of that kind of switch
-abbrev pub ports_at : FilePlace → List (List ℕ) → SwitchKind → Data → Result (List TrackEnd) InfraFault
+abbrev pub ports_at : FilePlace → List (List ℕ) → SwitchKind → Data
+    → Result (List TrackEnd) InfraFault
 ports_at place tracks kind d = do
   found ← found_at place (codes "ports") d
   is_object ← object_at (part_of place (codes "ports")) found

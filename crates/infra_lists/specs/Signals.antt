@@ -1,6 +1,7 @@
 -- Signals.
 use Rattle.infra_types.specs.Ids.{id_of_signal, id_of_track}
-use Rattle.std.specs.Prelude.{ℕ, List, [], length, map, codes, Bool, false, true, if◌then◌else◌, Option, Some, None, option_and_then, Result, Ok}
+use Rattle.std.specs.Prelude.{ℕ, List, [], length, map, codes, Bool, false, true, if◌then◌else◌}
+use Rattle.std.specs.Prelude.{Option, Some, None, option_and_then, Result, Ok}
 use Rattle.std.specs.List.{list_any}
 use Rattle.std.specs.Str.{bytes_eq}
 use Rattle.serde_json.specs.Data.{Data}
@@ -13,7 +14,8 @@ use Rattle.infra_types.specs.declared.signals.Bal.{Bal}
 use Rattle.infra_types.specs.declared.signals.Signal.{Signal}
 use Rattle.infra_fields.specs.declared.faults.InfraFault.{InfraFault}
 use Rattle.infra_fields.specs.declared.faults.What.TheVariants as what
-use Rattle.infra_fields.specs.Fields.{object_at, new_id_at, number_at, metres_at, rounded_at, within, elements_in, list_at, read_each}
+use Rattle.infra_fields.specs.Fields.{object_at, new_id_at, number_at, metres_at, rounded_at}
+use Rattle.infra_fields.specs.Fields.{within, elements_in, list_at, read_each}
 use Rattle.infra_fields.specs.Words.{direction_at}
 
 abbrev pub is_text : List ℕ → Option (List ℕ) → Bool

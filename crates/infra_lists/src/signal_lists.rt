@@ -7,7 +7,8 @@ ghost use Rattle.serde_json.specs.View.{view};
 ghost use Rattle.rail_types.specs.declared.limits.TheConstants.{MAX_OBJECTS};
 ghost use Rattle.infra_fields.specs.Fields.{Gives, GivesNext, read_each};
 ghost use Rattle.infra_types.specs.Infras.{IsSignal, IsBal};
-ghost use Rattle.infra_lists.specs.Signals.{signals_in, signal_at, signal_in, bal_at, bal_in, sight_at, is_block_signal, any_bal, is_bal};
+ghost use Rattle.infra_lists.specs.Signals.{signals_in, signal_at, signal_in, bal_at, bal_in};
+ghost use Rattle.infra_lists.specs.Signals.{sight_at, is_block_signal, any_bal, is_bal};
 
 use id_lists::Listed;
 use infra_fields::{
@@ -65,7 +66,8 @@ fn read_signal<'a>(
     requires room { length signals.old < MAX_OBJECTS }
     requires within { All (IsSignal (length tracks.now)) signals.old }
     ensures read { GivesNext signals.old signals.new result
-        (signal_at (map id_of_track tracks.now) index (map id_of_signal signals.old) (view value.now)) }
+        (signal_at (map id_of_track tracks.now) index (map id_of_signal signals.old)
+        (view value.now)) }
     ensures within { OnOk result (All (IsSignal (length tracks.now)) signals.new) }
 {
     let place = Place::of_element("signals", index);
@@ -82,7 +84,8 @@ fn push_signal<'a>(
     requires room { length signals.old < MAX_OBJECTS }
     requires within { All (IsSignal (length tracks.now)) signals.old }
     ensures read { GivesNext signals.old signals.new result
-        (signal_in place.now (map id_of_track tracks.now) (map id_of_signal signals.old) (view value.now)) }
+        (signal_in place.now (map id_of_track tracks.now) (map id_of_signal signals.old)
+        (view value.now)) }
     ensures within { OnOk result (All (IsSignal (length tracks.now)) signals.new) }
 {
     object(alloc, place, value)?;
@@ -103,7 +106,8 @@ fn bal_if_any(
     value: &Value,
     tracks: &Listed<Track>,
 ) -> Result<Option<Bal>, InfraFault>
-    ensures read { Gives (λ bal. bal) result (bal_at place.now (map id_of_track tracks.now) (view value.now)) }
+    ensures read { Gives (λ bal. bal) result
+        (bal_at place.now (map id_of_track tracks.now) (view value.now)) }
     ensures within { IfOk result (λ bal. IfSome bal (IsBal (length tracks.now))) }
 {
     if !is_block_signal(value) {
@@ -119,7 +123,8 @@ fn bal(
     value: &Value,
     tracks: &Listed<Track>,
 ) -> Result<Bal, InfraFault>
-    ensures read { Gives (λ bal. bal) result (bal_in place.now (map id_of_track tracks.now) (view value.now)) }
+    ensures read { Gives (λ bal. bal) result
+        (bal_in place.now (map id_of_track tracks.now) (view value.now)) }
     ensures within { IfOk result (IsBal (length tracks.now)) }
 {
     let track = number(alloc, place, value, "track", tracks)?;

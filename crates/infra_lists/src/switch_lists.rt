@@ -6,7 +6,8 @@ ghost use Rattle.serde_json.specs.View.{view};
 ghost use Rattle.rail_types.specs.declared.limits.TheConstants.{MAX_OBJECTS};
 ghost use Rattle.infra_fields.specs.Fields.{Gives, GivesNext, read_each};
 ghost use Rattle.infra_types.specs.Infras.{IsSwitch, port_count};
-ghost use Rattle.infra_lists.specs.Objects.{switches_in, switch_at, switch_in, kind_at, ports_at, read_ports, port_at, port_in};
+ghost use Rattle.infra_lists.specs.Objects.{switches_in, switch_at, switch_in, kind_at, ports_at};
+ghost use Rattle.infra_lists.specs.Objects.{read_ports, port_at, port_in};
 ghost use Rattle.infra_fields.specs.Words.{ports_of};
 
 use id_lists::Listed;
@@ -66,7 +67,8 @@ fn read_switch<'a>(
     requires room { length switches.old < MAX_OBJECTS }
     requires within { All (IsSwitch (length tracks.now)) switches.old }
     ensures read { GivesNext switches.old switches.new result
-        (switch_at (map id_of_track tracks.now) index (map id_of_switch switches.old) (view value.now)) }
+        (switch_at (map id_of_track tracks.now) index (map id_of_switch switches.old)
+        (view value.now)) }
     ensures within { OnOk result (All (IsSwitch (length tracks.now)) switches.new) }
 {
     let place = Place::of_element("switches", index);
@@ -83,7 +85,8 @@ fn push_switch<'a>(
     requires room { length switches.old < MAX_OBJECTS }
     requires within { All (IsSwitch (length tracks.now)) switches.old }
     ensures read { GivesNext switches.old switches.new result
-        (switch_in place.now (map id_of_track tracks.now) (map id_of_switch switches.old) (view value.now)) }
+        (switch_in place.now (map id_of_track tracks.now) (map id_of_switch switches.old)
+        (view value.now)) }
     ensures within { OnOk result (All (IsSwitch (length tracks.now)) switches.new) }
 {
     object(alloc, place, value)?;
@@ -120,7 +123,8 @@ fn ports(
     kind: SwitchKind,
     tracks: &Listed<Track>,
 ) -> Result<List<TrackEnd>, InfraFault>
-    ensures read { Gives (λ ports. ports) result (ports_at place.now (map id_of_track tracks.now) kind (view value.now)) }
+    ensures read { Gives (λ ports. ports) result
+        (ports_at place.now (map id_of_track tracks.now) kind (view value.now)) }
     ensures count { IfOk result (λ ports. length ports ≡ port_count kind) }
     ensures within { IfOk result (λ ports. All (λ port. port.track < length tracks.now) ports) }
 {
@@ -158,7 +162,8 @@ fn port(
     port: Port,
     tracks: &Listed<Track>,
 ) -> Result<TrackEnd, InfraFault>
-    ensures read { Gives (λ end. end) result (port_at place.now (map id_of_track tracks.now) (view value.now) port) }
+    ensures read { Gives (λ end. end) result
+        (port_at place.now (map id_of_track tracks.now) (view value.now) port) }
     ensures within { IfOk result (λ end. end.track < length tracks.now) }
 {
     let ports = place.part("ports");
@@ -174,7 +179,8 @@ fn track_end(
     value: &Value,
     tracks: &Listed<Track>,
 ) -> Result<TrackEnd, InfraFault>
-    ensures read { Gives (λ end. end) result (port_in place.now (map id_of_track tracks.now) (view value.now)) }
+    ensures read { Gives (λ end. end) result
+        (port_in place.now (map id_of_track tracks.now) (view value.now)) }
     ensures within { IfOk result (λ end. end.track < length tracks.now) }
 {
     object(alloc, place, value)?;

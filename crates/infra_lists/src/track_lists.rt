@@ -7,7 +7,8 @@ ghost use Rattle.named_network.specs.Named.{IsId};
 ghost use Rattle.rail_types.specs.declared.limits.TheConstants.{MAX_OBJECTS};
 ghost use Rattle.infra_fields.specs.Fields.{Gives, GivesNext, read_each};
 ghost use Rattle.infra_types.specs.Infras.{IsTrack, IsPlaced};
-ghost use Rattle.infra_lists.specs.Objects.{all_placed_in, tracks_in, track_at, track_in, placed_at, placed_in, length_at};
+ghost use Rattle.infra_lists.specs.Objects.{all_placed_in, tracks_in, track_at, track_in};
+ghost use Rattle.infra_lists.specs.Objects.{placed_at, placed_in, length_at};
 
 use id_lists::Listed;
 use infra_fields::{InfraFault, What, limit, list, metres, new_id, number, object};
@@ -34,7 +35,8 @@ pub fn tracks_of<'a>(alloc: Global, file: &'a Value) -> Result<Listed<'a, Track>
 /// The tracks of a list.
 fn read_tracks<'a>(alloc: Global, list: &'a [Value]) -> Result<Listed<'a, Track>, InfraFault>
     requires { length list.now ≤ MAX_OBJECTS }
-    ensures read { Gives (λ tracks. tracks) result (read_each id_of_track track_at [] (map view list.now)) }
+    ensures read { Gives (λ tracks. tracks) result
+        (read_each id_of_track track_at [] (map view list.now)) }
     ensures few { IfOk result (λ tracks. length tracks ≤ MAX_OBJECTS) }
     ensures within { IfOk result (λ tracks. All IsTrack tracks) }
     ensures named { IfOk result (λ tracks. All (λ track. IsId track.id) tracks) }
@@ -55,7 +57,8 @@ fn read_track<'a>(
     requires room { length tracks.old < MAX_OBJECTS }
     requires within { All IsTrack tracks.old }
     requires named { All (λ track. IsId track.id) tracks.old }
-    ensures read { GivesNext tracks.old tracks.new result (track_at index (map id_of_track tracks.old) (view value.now)) }
+    ensures read { GivesNext tracks.old tracks.new result
+        (track_at index (map id_of_track tracks.old) (view value.now)) }
     ensures within { OnOk result (All IsTrack tracks.new) }
     ensures named { OnOk result (All (λ track. IsId track.id) tracks.new) }
 {
@@ -72,7 +75,8 @@ fn push_track<'a>(
     requires room { length tracks.old < MAX_OBJECTS }
     requires within { All IsTrack tracks.old }
     requires named { All (λ track. IsId track.id) tracks.old }
-    ensures read { GivesNext tracks.old tracks.new result (track_in place.now (map id_of_track tracks.old) (view value.now)) }
+    ensures read { GivesNext tracks.old tracks.new result
+        (track_in place.now (map id_of_track tracks.old) (view value.now)) }
     ensures within { OnOk result (All IsTrack tracks.new) }
     ensures named { OnOk result (All (λ track. IsId track.id) tracks.new) }
 {
@@ -104,7 +108,8 @@ pub fn placed_of<'a>(
     name: &str,
     tracks: &Listed<Track>,
 ) -> Result<Listed<'a, Placed>, InfraFault>
-    ensures read { Gives (λ found. found) result (all_placed_in name.now tracks.now (view file.now)) }
+    ensures read { Gives (λ found. found) result
+        (all_placed_in name.now tracks.now (view file.now)) }
     ensures few { IfOk result (λ found. length found ≤ MAX_OBJECTS) }
     ensures within { IfOk result (λ found. All (IsPlaced (length tracks.now)) found) }
 {
@@ -123,7 +128,8 @@ fn read_all_placed<'a>(
 ) -> Result<Listed<'a, Placed>, InfraFault>
     requires { length list.now ≤ MAX_OBJECTS }
     ensures read { Gives (λ found. found) result
-        (read_each id_of_placed (placed_at name.now (map id_of_track tracks.now)) [] (map view list.now)) }
+        (read_each id_of_placed (placed_at name.now (map id_of_track tracks.now)) []
+        (map view list.now)) }
     ensures few { IfOk result (λ found. length found ≤ MAX_OBJECTS) }
     ensures within { IfOk result (λ found. All (IsPlaced (length tracks.now)) found) }
 {
@@ -145,7 +151,8 @@ fn read_placed<'a>(
     requires room { length found.old < MAX_OBJECTS }
     requires within { All (IsPlaced (length tracks.now)) found.old }
     ensures read { GivesNext found.old found.new result
-        (placed_at name.now (map id_of_track tracks.now) index (map id_of_placed found.old) (view value.now)) }
+        (placed_at name.now (map id_of_track tracks.now) index (map id_of_placed found.old)
+        (view value.now)) }
     ensures within { OnOk result (All (IsPlaced (length tracks.now)) found.new) }
 {
     let place = Place::of_element(name, index);
@@ -162,7 +169,8 @@ fn push_placed<'a>(
     requires room { length found.old < MAX_OBJECTS }
     requires within { All (IsPlaced (length tracks.now)) found.old }
     ensures read { GivesNext found.old found.new result
-        (placed_in place.now (map id_of_track tracks.now) (map id_of_placed found.old) (view value.now)) }
+        (placed_in place.now (map id_of_track tracks.now) (map id_of_placed found.old)
+        (view value.now)) }
     ensures within { OnOk result (All (IsPlaced (length tracks.now)) found.new) }
 {
     object(alloc, place, value)?;

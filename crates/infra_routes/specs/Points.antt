@@ -8,7 +8,8 @@ use Rattle.infra_types.specs.declared.tracks.Track.{Track}
 use Rattle.infra_types.specs.declared.tracks.Part.{Part}
 use Rattle.infra_types.specs.declared.tracks.OperationalPoint.{OperationalPoint}
 use Rattle.infra_fields.specs.declared.faults.InfraFault.{InfraFault}
-use Rattle.infra_fields.specs.Fields.{object_at, new_id_at, number_at, rounded_at, list_at, read_items, read_each}
+use Rattle.infra_fields.specs.Fields.{object_at, new_id_at, number_at, rounded_at, list_at}
+use Rattle.infra_fields.specs.Fields.{read_items, read_each}
 
 abbrev pub part_in : FilePlace → List (List ℕ) → Data → Result Part InfraFault
 part_in place tracks d = do
@@ -26,7 +27,8 @@ parts_at place tracks d = do
   items ← list_at place (codes "parts") d
   read_items (part_at place tracks) [] items
 
-abbrev pub point_in : FilePlace → List (List ℕ) → List (List ℕ) → Data → Result OperationalPoint InfraFault
+abbrev pub point_in : FilePlace → List (List ℕ) → List (List ℕ) → Data
+    → Result OperationalPoint InfraFault
 point_in place tracks before d = do
   is_object ← object_at place d
   id ← new_id_at place before d
@@ -35,7 +37,8 @@ point_in place tracks before d = do
 
 -- the operational point of that index, behind those of these ids
 abbrev pub point_at : List (List ℕ) → ℕ → List (List ℕ) → Data → Result OperationalPoint InfraFault
-point_at tracks index before d = point_in (element (codes "operational_points") index) tracks before d
+point_at tracks index before d =
+    point_in (element (codes "operational_points") index) tracks before d
 
 -- the operational points of a file
 unfoldable pub points_in : List Track → Data → Result (List OperationalPoint) InfraFault

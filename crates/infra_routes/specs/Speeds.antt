@@ -1,6 +1,8 @@
 -- Speed sections.
 use Rattle.infra_types.specs.Ids.{id_of_speed, id_of_track}
-use Rattle.std.specs.Prelude.{ℕ, pos, min, List, [], map, length, codes, Bool, true, false, if◌then◌else◌, nat_eq, is_some, slice_index_or, Option, Some, None, Result, Ok, Err}
+use Rattle.std.specs.Prelude.{ℕ, pos, min, List, [], map, length, codes, Bool, true, false}
+use Rattle.std.specs.Prelude.{if◌then◌else◌, nat_eq, is_some, slice_index_or, Option, Some, None}
+use Rattle.std.specs.Prelude.{Result, Ok, Err}
 use Rattle.serde_json.specs.Data.{Data}
 use Rattle.serde_json.specs.Find.{get, as_null}
 use Rattle.rail_types.specs.declared.limits.TheConstants.{MAX_SPEED_MM_S}
@@ -13,13 +15,15 @@ use Rattle.infra_types.specs.declared.tracks.SpeedSection.{SpeedSection}
 use Rattle.infra_fields.specs.declared.faults.InfraFault.{InfraFault}
 use Rattle.infra_fields.specs.declared.faults.InfraFault.TheVariants.{Limit}
 use Rattle.infra_fields.specs.declared.faults.What.TheVariants as what
-use Rattle.infra_fields.specs.Fields.{object_at, new_id_at, number_at, number_read, natural, rounded_at, list_at, read_items, read_each}
+use Rattle.infra_fields.specs.Fields.{object_at, new_id_at, number_at, number_read, natural}
+use Rattle.infra_fields.specs.Fields.{rounded_at, list_at, read_items, read_each}
 use Rattle.infra_types.specs.Infras.{lengths_of}
 use Rattle.infra_fields.specs.Words.{applies_at}
 
 -- a limit in millimetres a second: 0 is none, and a greater one counts as the greatest speed
 abbrev pub counted : ℕ → Result ℕ InfraFault
-counted mm_s = if nat_eq mm_s 0 then Err (Limit what.Speed (pos 0)) else Ok (min mm_s MAX_SPEED_MM_S)
+counted mm_s =
+    if nat_eq mm_s 0 then Err (Limit what.Speed (pos 0)) else Ok (min mm_s MAX_SPEED_MM_S)
 
 -- metres a second as whole millimetres a second, rounded down
 abbrev pub mm_s_at : FilePlace → Data → Result ℕ InfraFault

@@ -7,7 +7,8 @@ ghost use Rattle.named_network.specs.Named.{IsId};
 ghost use Rattle.rail_types.specs.declared.limits.TheConstants.{MAX_OBJECTS};
 ghost use Rattle.infra_fields.specs.Fields.{Gives, GivesNext, read_each, read_items};
 ghost use Rattle.infra_types.specs.Infras.{IsPoint};
-ghost use Rattle.infra_routes.specs.Points.{points_in, point_at, point_in, parts_at, part_at, part_in};
+ghost use Rattle.infra_routes.specs.Points.{points_in, point_at, point_in, parts_at, part_at};
+ghost use Rattle.infra_routes.specs.Points.{part_in};
 
 use id_lists::Listed;
 use infra_fields::{InfraFault, list, new_id, number, object, rounded};
@@ -66,7 +67,8 @@ fn read_point<'a>(
     requires within { All (IsPoint (length tracks.now)) points.old }
     requires named { All (λ point. IsId point.id) points.old }
     ensures read { GivesNext points.old points.new result
-        (point_at (map id_of_track tracks.now) index (map id_of_point points.old) (view value.now)) }
+        (point_at (map id_of_track tracks.now) index (map id_of_point points.old)
+        (view value.now)) }
     ensures within { OnOk result (All (IsPoint (length tracks.now)) points.new) }
     ensures named { OnOk result (All (λ point. IsId point.id) points.new) }
 {
@@ -85,7 +87,8 @@ fn push_point<'a>(
     requires within { All (IsPoint (length tracks.now)) points.old }
     requires named { All (λ point. IsId point.id) points.old }
     ensures read { GivesNext points.old points.new result
-        (point_in place.now (map id_of_track tracks.now) (map id_of_point points.old) (view value.now)) }
+        (point_in place.now (map id_of_track tracks.now) (map id_of_point points.old)
+        (view value.now)) }
     ensures within { OnOk result (All (IsPoint (length tracks.now)) points.new) }
     ensures named { OnOk result (All (λ point. IsId point.id) points.new) }
 {
@@ -106,7 +109,8 @@ fn parts(
     value: &Value,
     tracks: &Listed<Track>,
 ) -> Result<List<Part>, InfraFault>
-    ensures read { Gives (λ parts. parts) result (parts_at place.now (map id_of_track tracks.now) (view value.now)) }
+    ensures read { Gives (λ parts. parts) result
+        (parts_at place.now (map id_of_track tracks.now) (view value.now)) }
     ensures count { IfOk result (λ parts. length parts ≤ MAX_OBJECTS) }
     ensures within { IfOk result (λ parts. All (λ part. part.track < length tracks.now) parts) }
 {
@@ -141,7 +145,8 @@ fn part_at(
     value: &Value,
     tracks: &Listed<Track>,
 ) -> Result<Part, InfraFault>
-    ensures read { Gives (λ part. part) result (part_at place.now (map id_of_track tracks.now) index (view value.now)) }
+    ensures read { Gives (λ part. part) result
+        (part_at place.now (map id_of_track tracks.now) index (view value.now)) }
     ensures within { IfOk result (λ part. part.track < length tracks.now) }
 {
     let at = place.item("parts", index);
@@ -154,7 +159,8 @@ fn part_in(
     value: &Value,
     tracks: &Listed<Track>,
 ) -> Result<Part, InfraFault>
-    ensures read { Gives (λ part. part) result (part_in place.now (map id_of_track tracks.now) (view value.now)) }
+    ensures read { Gives (λ part. part) result
+        (part_in place.now (map id_of_track tracks.now) (view value.now)) }
     ensures within { IfOk result (λ part. part.track < length tracks.now) }
 {
     object(alloc, place, value)?;

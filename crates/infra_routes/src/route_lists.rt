@@ -7,7 +7,8 @@ ghost use Rattle.named_network.specs.Named.{IsId};
 ghost use Rattle.rail_types.specs.declared.limits.TheConstants.{MAX_OBJECTS};
 ghost use Rattle.infra_fields.specs.Fields.{Gives, GivesNext, read_each, read_items};
 ghost use Rattle.infra_types.specs.Infras.{IsRoute, IsRoutePoint};
-ghost use Rattle.infra_routes.specs.Routes.{routes_in, route_at, route_in, route_of, point_at, point_in, releases_at, release_at, release_in};
+ghost use Rattle.infra_routes.specs.Routes.{routes_in, route_at, route_in, route_of, point_at};
+ghost use Rattle.infra_routes.specs.Routes.{point_in, releases_at, release_at, release_in};
 
 use crate::way_lists::ways;
 use id_lists::Listed;
@@ -33,7 +34,8 @@ pub fn routes_of<'a>(
         (routes_in switches.now detectors.now buffer_stops.now (view file.now)) }
     ensures few { IfOk result (λ routes. length routes ≤ MAX_OBJECTS) }
     ensures within { IfOk result (λ routes.
-        All (IsRoute (length switches.now) (length detectors.now) (length buffer_stops.now)) routes) }
+        All (IsRoute (length switches.now) (length detectors.now) (length buffer_stops.now))
+        routes) }
     ensures named { IfOk result (λ routes. All (λ route. IsId route.id) routes) }
 {
     let place = Place::of_file();
@@ -53,11 +55,13 @@ fn read_routes<'a>(
     requires { length list.now ≤ MAX_OBJECTS }
     ensures read { Gives (λ routes. routes) result
         (read_each id_of_route
-        (route_at (map id_of_switch switches.now) (map id_of_placed detectors.now) (map id_of_placed buffer_stops.now))
+        (route_at (map id_of_switch switches.now) (map id_of_placed detectors.now)
+        (map id_of_placed buffer_stops.now))
         [] (map view list.now)) }
     ensures few { IfOk result (λ routes. length routes ≤ MAX_OBJECTS) }
     ensures within { IfOk result (λ routes.
-        All (IsRoute (length switches.now) (length detectors.now) (length buffer_stops.now)) routes) }
+        All (IsRoute (length switches.now) (length detectors.now) (length buffer_stops.now))
+        routes) }
     ensures named { IfOk result (λ routes. All (λ route. IsId route.id) routes) }
 {
     let mut routes = Listed::new(alloc);
@@ -85,13 +89,16 @@ fn read_route<'a>(
     routes: &mut Listed<'a, Route>,
 ) -> Result<(), InfraFault>
     requires room { length routes.old < MAX_OBJECTS }
-    requires within { All (IsRoute (length switches.now) (length detectors.now) (length buffer_stops.now)) routes.old }
+    requires within { All (IsRoute (length switches.now) (length detectors.now)
+        (length buffer_stops.now)) routes.old }
     requires named { All (λ route. IsId route.id) routes.old }
     ensures read { GivesNext routes.old routes.new result
-        (route_at (map id_of_switch switches.now) (map id_of_placed detectors.now) (map id_of_placed buffer_stops.now)
+        (route_at (map id_of_switch switches.now) (map id_of_placed detectors.now)
+        (map id_of_placed buffer_stops.now)
         index (map id_of_route routes.old) (view value.now)) }
     ensures within { OnOk result
-        (All (IsRoute (length switches.now) (length detectors.now) (length buffer_stops.now)) routes.new) }
+        (All (IsRoute (length switches.now) (length detectors.now) (length buffer_stops.now))
+        routes.new) }
     ensures named { OnOk result (All (λ route. IsId route.id) routes.new) }
 {
     let place = Place::of_element("routes", index);
@@ -116,13 +123,16 @@ fn push_route<'a>(
     routes: &mut Listed<'a, Route>,
 ) -> Result<(), InfraFault>
     requires room { length routes.old < MAX_OBJECTS }
-    requires within { All (IsRoute (length switches.now) (length detectors.now) (length buffer_stops.now)) routes.old }
+    requires within { All (IsRoute (length switches.now) (length detectors.now)
+        (length buffer_stops.now)) routes.old }
     requires named { All (λ route. IsId route.id) routes.old }
     ensures read { GivesNext routes.old routes.new result
-        (route_in place.now (map id_of_switch switches.now) (map id_of_placed detectors.now) (map id_of_placed buffer_stops.now)
+        (route_in place.now (map id_of_switch switches.now) (map id_of_placed detectors.now)
+        (map id_of_placed buffer_stops.now)
         (map id_of_route routes.old) (view value.now)) }
     ensures within { OnOk result
-        (All (IsRoute (length switches.now) (length detectors.now) (length buffer_stops.now)) routes.new) }
+        (All (IsRoute (length switches.now) (length detectors.now) (length buffer_stops.now))
+        routes.new) }
     ensures named { OnOk result (All (λ route. IsId route.id) routes.new) }
 {
     object(alloc, place, value)?;
@@ -146,7 +156,8 @@ fn route(
         (route_of place.now (map id_of_switch switches.now) (map id_of_placed detectors.now)
         (map id_of_placed buffer_stops.now) id.now (view value.now)) }
     ensures id { IfOk result (λ route. route.id ≡ id.now) }
-    ensures within { IfOk result (IsRoute (length switches.now) (length detectors.now) (length buffer_stops.now)) }
+    ensures within { IfOk result
+        (IsRoute (length switches.now) (length detectors.now) (length buffer_stops.now)) }
 {
     let entry = point(alloc, place, value, "entry_point", detectors, buffer_stops)?;
     let direction = direction(alloc, place, value, "entry_point_direction")?;
@@ -173,7 +184,8 @@ fn point(
     buffer_stops: &Listed<Placed>,
 ) -> Result<RoutePoint, InfraFault>
     ensures read { Gives (λ point. point) result
-        (point_at place.now field.now (map id_of_placed detectors.now) (map id_of_placed buffer_stops.now) (view value.now)) }
+        (point_at place.now field.now (map id_of_placed detectors.now)
+        (map id_of_placed buffer_stops.now) (view value.now)) }
     ensures within { IfOk result (IsRoutePoint (length detectors.now) (length buffer_stops.now)) }
 {
     let found = found(alloc, place, value, field)?;
@@ -190,7 +202,8 @@ fn point_in(
     buffer_stops: &Listed<Placed>,
 ) -> Result<RoutePoint, InfraFault>
     ensures read { Gives (λ point. point) result
-        (point_in place.now (map id_of_placed detectors.now) (map id_of_placed buffer_stops.now) (view value.now)) }
+        (point_in place.now (map id_of_placed detectors.now) (map id_of_placed buffer_stops.now)
+        (view value.now)) }
     ensures within { IfOk result (IsRoutePoint (length detectors.now) (length buffer_stops.now)) }
 {
     object(alloc, place, value)?;
@@ -218,7 +231,8 @@ fn releases(
     ensures read { Gives (λ releases. releases) result
         (releases_at place.now (map id_of_placed detectors.now) (view value.now)) }
     ensures count { IfOk result (λ releases. length releases ≤ MAX_OBJECTS) }
-    ensures within { IfOk result (λ releases. All (λ release. release < length detectors.now) releases) }
+    ensures within { IfOk result
+        (λ releases. All (λ release. release < length detectors.now) releases) }
 {
     let items = list(alloc, place, value, "release_detectors")?;
     let releases = read_releases(alloc, place, items, detectors)?;
@@ -233,9 +247,11 @@ fn read_releases(
 ) -> Result<List<u32>, InfraFault>
     requires { length items.now ≤ MAX_OBJECTS }
     ensures read { Gives (λ releases. releases) result
-        (read_items (release_at place.now (map id_of_placed detectors.now)) [] (map view items.now)) }
+        (read_items (release_at place.now (map id_of_placed detectors.now)) []
+        (map view items.now)) }
     ensures count { IfOk result (λ releases. length releases ≤ MAX_OBJECTS) }
-    ensures within { IfOk result (λ releases. All (λ release. release < length detectors.now) releases) }
+    ensures within { IfOk result
+        (λ releases. All (λ release. release < length detectors.now) releases) }
 {
     let mut releases = List::new(alloc);
     'items: for item in items {
@@ -252,7 +268,8 @@ fn release_at(
     value: &Value,
     detectors: &Listed<Placed>,
 ) -> Result<u32, InfraFault>
-    ensures read { Gives (λ release. release) result (release_at place.now (map id_of_placed detectors.now) index (view value.now)) }
+    ensures read { Gives (λ release. release) result
+        (release_at place.now (map id_of_placed detectors.now) index (view value.now)) }
     ensures within { IfOk result (λ release. release < length detectors.now) }
 {
     let at = place.item("release_detectors", index);
@@ -265,7 +282,8 @@ fn release_in(
     value: &Value,
     detectors: &Listed<Placed>,
 ) -> Result<u32, InfraFault>
-    ensures read { Gives (λ release. release) result (release_in place.now (map id_of_placed detectors.now) (view value.now)) }
+    ensures read { Gives (λ release. release) result
+        (release_in place.now (map id_of_placed detectors.now) (view value.now)) }
     ensures within { IfOk result (λ release. release < length detectors.now) }
 {
     let text = text_in(alloc, place, value, "")?;

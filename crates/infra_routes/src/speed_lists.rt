@@ -1,13 +1,16 @@
 //! Speed sections of a file.
 
 ghost use Rattle.infra_types.specs.Ids.{id_of_speed};
-ghost use Rattle.std.specs.Prelude.{◌≡◌, ◌<◌, ◌≤◌, ◌^◌, [], codes, length, map, All, IfOk, IfSome, OnOk, min, slice_index_or};
+ghost use Rattle.std.specs.Prelude.{◌≡◌, ◌<◌, ◌≤◌, ◌^◌, [], codes, length, map, All, IfOk, IfSome};
+ghost use Rattle.std.specs.Prelude.{OnOk, min, slice_index_or};
 ghost use Rattle.serde_json.specs.View.{view};
 ghost use Rattle.rail_types.specs.declared.limits.TheConstants.{MAX_OBJECTS, MAX_SPEED_MM_S};
 ghost use Rattle.json_fields.specs.Places.{spot_of};
 ghost use Rattle.infra_fields.specs.Fields.{Gives, GivesNext, read_each, read_items};
 ghost use Rattle.infra_types.specs.Infras.{IsSpeed, IsRange, lengths_of};
-ghost use Rattle.infra_routes.specs.Speeds.{speeds_in, speed_at, speed_in, limit_at, limit_found, mm_s_at, counted, ranges_at, range_at, range_in, clipped};
+ghost use Rattle.infra_routes.specs.Speeds.{speeds_in, speed_at, speed_in, limit_at, limit_found};
+ghost use Rattle.infra_routes.specs.Speeds.{mm_s_at, counted, ranges_at, range_at, range_in};
+ghost use Rattle.infra_routes.specs.Speeds.{clipped};
 
 use id_lists::Listed;
 use infra_fields::{
@@ -43,7 +46,8 @@ fn read_speeds<'a>(
     tracks: &Listed<Track>,
 ) -> Result<Listed<'a, SpeedSection>, InfraFault>
     requires { length list.now ≤ MAX_OBJECTS }
-    ensures read { Gives (λ speeds. speeds) result (read_each id_of_speed (speed_at tracks.now) [] (map view list.now)) }
+    ensures read { Gives (λ speeds. speeds) result
+        (read_each id_of_speed (speed_at tracks.now) [] (map view list.now)) }
     ensures few { IfOk result (λ speeds. length speeds ≤ MAX_OBJECTS) }
     ensures within { IfOk result (λ speeds. All (IsSpeed (lengths_of tracks.now)) speeds) }
 {
@@ -100,7 +104,8 @@ fn push_speed<'a>(
 /// The limit of a section in millimetres a second, None where it is absent or null.
 fn limit(alloc: Global, place: &Place, value: &Value) -> Result<Option<u32>, InfraFault>
     ensures limit { Gives (λ limit. limit) result (limit_at place.now (view value.now)) }
-    ensures within { IfOk result (λ limit. IfSome limit (λ mm_s. (1 ≤ mm_s) × (mm_s ≤ MAX_SPEED_MM_S))) }
+    ensures within { IfOk result
+        (λ limit. IfSome limit (λ mm_s. (1 ≤ mm_s) × (mm_s ≤ MAX_SPEED_MM_S))) }
 {
     let Some(found) = value.get("speed_limit") else {
         return Ok(None);
@@ -148,7 +153,8 @@ fn ranges(
     value: &Value,
     tracks: &Listed<Track>,
 ) -> Result<List<Range>, InfraFault>
-    ensures read { Gives (λ ranges. ranges) result (ranges_at place.now tracks.now (view value.now)) }
+    ensures read { Gives (λ ranges. ranges) result
+        (ranges_at place.now tracks.now (view value.now)) }
     ensures count { IfOk result (λ ranges. length ranges ≤ MAX_OBJECTS) }
     ensures within { IfOk result (λ ranges. All (IsRange (lengths_of tracks.now)) ranges) }
 {
@@ -164,7 +170,8 @@ fn read_ranges(
     tracks: &Listed<Track>,
 ) -> Result<List<Range>, InfraFault>
     requires { length items.now ≤ MAX_OBJECTS }
-    ensures read { Gives (λ ranges. ranges) result (read_items (range_at place.now tracks.now) [] (map view items.now)) }
+    ensures read { Gives (λ ranges. ranges) result
+        (read_items (range_at place.now tracks.now) [] (map view items.now)) }
     ensures count { IfOk result (λ ranges. length ranges ≤ MAX_OBJECTS) }
     ensures within { IfOk result (λ ranges. All (IsRange (lengths_of tracks.now)) ranges) }
 {
@@ -182,7 +189,8 @@ fn range_at(
     value: &Value,
     tracks: &Listed<Track>,
 ) -> Result<Range, InfraFault>
-    ensures read { Gives (λ range. range) result (range_at place.now tracks.now index (view value.now)) }
+    ensures read { Gives (λ range. range) result
+        (range_at place.now tracks.now index (view value.now)) }
     ensures within { IfOk result (IsRange (lengths_of tracks.now)) }
 {
     let at = place.item("track_ranges", index);

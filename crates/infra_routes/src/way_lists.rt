@@ -1,7 +1,8 @@
 //! The ways of a route across its switches.
 
 ghost use Rattle.infra_types.specs.Ids.{id_of_switch};
-ghost use Rattle.std.specs.Prelude.{◌≡◌, ◌<◌, ◌++◌, ◌∷◌, [], length, map, All, IfOk, OnOk, string_bytes};
+ghost use Rattle.std.specs.Prelude.{◌≡◌, ◌<◌, ◌++◌, ◌∷◌, [], length, map, All, IfOk, OnOk};
+ghost use Rattle.std.specs.Prelude.{string_bytes};
 ghost use Rattle.std.specs.BTreeMap.{IsOrdered, insert_entry};
 ghost use Rattle.std.specs.Ordering.{nat_cmp};
 ghost use Rattle.serde_json.specs.Data.{Members};
@@ -9,7 +10,8 @@ ghost use Rattle.serde_json.specs.View.{view, members_view};
 ghost use Rattle.json_fields.specs.Places.{spot_of};
 ghost use Rattle.infra_fields.specs.Fields.{Gives};
 ghost use Rattle.infra_types.specs.Infras.{AreWays};
-ghost use Rattle.infra_routes.specs.Routes.{ways_at, ways_found, read_ways, way_in, way_field, ways_of};
+ghost use Rattle.infra_routes.specs.Routes.{ways_at, ways_found, read_ways, way_in, way_field};
+ghost use Rattle.infra_routes.specs.Routes.{ways_of};
 
 use id_lists::Listed;
 use infra_fields::{InfraFault, group_named, limited};
@@ -28,7 +30,8 @@ pub(crate) fn ways(
     value: &Value,
     switches: &Listed<Switch>,
 ) -> Result<List<Way>, InfraFault>
-    ensures read { Gives (λ ways. ways) result (ways_at place.now (map id_of_switch switches.now) (view value.now)) }
+    ensures read { Gives (λ ways. ways) result
+        (ways_at place.now (map id_of_switch switches.now) (view value.now)) }
     ensures within { IfOk result (AreWays (length switches.now)) }
 {
     let Some(found) = value.get("switches_directions") else {
@@ -44,7 +47,8 @@ fn ways_in(
     found: &Value,
     switches: &Listed<Switch>,
 ) -> Result<List<Way>, InfraFault>
-    ensures read { Gives (λ ways. ways) result (ways_found place.now (map id_of_switch switches.now) (view found.now)) }
+    ensures read { Gives (λ ways. ways) result
+        (ways_found place.now (map id_of_switch switches.now) (view found.now)) }
     ensures within { IfOk result (AreWays (length switches.now)) }
 {
     let Some(members) = found.as_object() else {
@@ -65,8 +69,10 @@ fn read_groups(
     switches: &Listed<Switch>,
 ) -> Result<BTreeMap<u32, Group>, InfraFault>
     ensures read { Gives (λ groups. groups.entries) result
-        (read_ways place.now (map id_of_switch switches.now) [] (members_view members.now.entries)) }
-    ensures within { IfOk result (λ groups. All (λ entry. entry.0 < length switches.now) groups.entries) }
+        (read_ways place.now (map id_of_switch switches.now) []
+        (members_view members.now.entries)) }
+    ensures within { IfOk result
+        (λ groups. All (λ entry. entry.0 < length switches.now) groups.entries) }
 {
     let mut groups = BTreeMap::new(alloc);
     'members: for (key, value) in members.iter() {
@@ -78,7 +84,8 @@ fn read_groups(
 
 /// Puts the group of a switch among the others.
 fn put(groups: &mut BTreeMap<u32, Group>, way: Way) -> Result<(), NoMemory>
-    ensures { OnOk result (groups.new.entries ≡ insert_entry nat_cmp groups.old.entries way.switch way.group) }
+    ensures { OnOk result
+        (groups.new.entries ≡ insert_entry nat_cmp groups.old.entries way.switch way.group) }
 {
     groups.insert(way.switch, way.group)?;
     Ok(())
@@ -91,7 +98,8 @@ fn way(
     value: &Value,
     switches: &Listed<Switch>,
 ) -> Result<Way, InfraFault>
-    ensures read { Gives (λ way. way) result (way_in place.now (map id_of_switch switches.now) (string_bytes key.now) (view value.now)) }
+    ensures read { Gives (λ way. way) result
+        (way_in place.now (map id_of_switch switches.now) (string_bytes key.now) (view value.now)) }
     ensures within { IfOk result (λ way. way.switch < length switches.now) }
 {
     let Some(word) = value.as_str() else {

@@ -1,7 +1,8 @@
 -- Infrastructures of which each number names an object of its list.
 use Rattle.std.specs.Prelude.{◌≡◌, ℕ, ◌<◌, ◌≤◌, List, map, length, slice_index_or, All, IfSome}
 use Rattle.std.specs.List.{AllPairs}
-use Rattle.rail_types.specs.declared.limits.TheConstants.{MAX_OBJECTS, MAX_TRACK_LENGTH_M, MAX_SIGHT_M, MAX_SPEED_MM_S}
+use Rattle.rail_types.specs.declared.limits.TheConstants.{MAX_OBJECTS, MAX_TRACK_LENGTH_M}
+use Rattle.rail_types.specs.declared.limits.TheConstants.{MAX_SIGHT_M, MAX_SPEED_MM_S}
 use Rattle.named_network.specs.Named.{IsId}
 use Rattle.infra_types.specs.declared.infras.Infra.{Infra}
 use Rattle.infra_types.specs.declared.tracks.Track.{Track}
@@ -11,7 +12,8 @@ use Rattle.infra_types.specs.declared.tracks.Range.{Range}
 use Rattle.infra_types.specs.declared.tracks.SpeedSection.{SpeedSection}
 use Rattle.infra_types.specs.declared.switches.Switch.{Switch}
 use Rattle.infra_types.specs.declared.switches.SwitchKind.{SwitchKind}
-use Rattle.infra_types.specs.declared.switches.SwitchKind.TheVariants.{Point, Link, Crossing, DoubleSlip}
+use Rattle.infra_types.specs.declared.switches.SwitchKind.TheVariants.{Point, Link, Crossing}
+use Rattle.infra_types.specs.declared.switches.SwitchKind.TheVariants.{DoubleSlip}
 use Rattle.infra_types.specs.declared.switches.Way.{Way}
 use Rattle.infra_types.specs.declared.signals.Bal.{Bal}
 use Rattle.infra_types.specs.declared.signals.Signal.{Signal}
@@ -90,7 +92,8 @@ pub record IsRange (lengths : List ℕ) (range : Range) : Type 0 where
   pub begin : range.begin ≤ slice_index_or lengths range.track 0
   pub end : range.end ≤ slice_index_or lengths range.track 0
 
--- a speed section without limit, or with one of 1 mm/s to the greatest speed, on tracks of these lengths
+-- a speed section without limit, or with one of 1 mm/s to the greatest
+-- speed, on tracks of these lengths
 pub record IsSpeed (lengths : List ℕ) (section : SpeedSection) : Type 0 where
   pub limit : IfSome section.limit (λ limit. (1 ≤ limit) × (limit ≤ MAX_SPEED_MM_S))
   pub ranges : All (IsRange lengths) section.ranges

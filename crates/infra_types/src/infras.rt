@@ -3,7 +3,8 @@
 use crate::{OperationalPoint, Placed, Route, Signal, SpeedSection, Switch, Track};
 use rail_types::List;
 
-/// The lists of an infrastructure in the file's order, in which names of other objects are replaced by their numbers.
+/// The lists of an infrastructure in the file's order, in which names of other objects
+/// are replaced by their numbers.
 #[derive(Debug, Drop)]
 pub struct Infra {
     pub tracks: List<Track>,

@@ -1,4 +1,5 @@
-//! Railway infrastructure as typed lists: tracks, switches, detectors, signals, routes and what lies along them.
+//! Railway infrastructure as typed lists: tracks, switches, detectors, signals,
+//! routes and what lies along them.
 #![tactic(auto)]
 
 mod ends;

@@ -11,8 +11,8 @@ pub enum RoutePoint {
     BufferStop(u32),
 }
 
-/// A route: its entry and the direction in which it is left, its exit, its ways by ascending switch number, and its
-/// release detectors in the file's order.
+/// A route: its entry and the direction in which it is left, its exit, its ways by ascending switch
+/// number, and its release detectors in the file's order.
 #[derive(Debug, Drop)]
 pub struct Route {
     pub id: Name,

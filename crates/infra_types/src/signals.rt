@@ -4,8 +4,8 @@ use crate::Direction;
 use id_lists::HasId;
 use rail_types::Name;
 
-/// A block signal: its track, its metres from the track's begin, the direction for which it stands, and its sight
-/// distance in metres.
+/// A block signal: its track, its metres from the track's begin, the direction for which it stands,
+/// and its sight distance in metres.
 #[derive(Clone, Copy, Debug, PartialEq, Eq)]
 pub struct Bal {
     pub track: u32,

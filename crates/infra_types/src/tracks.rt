@@ -33,8 +33,9 @@ pub struct OperationalPoint {
     pub parts: List<Part>,
 }
 
-/// A stretch of a track, in metres from the track's begin and clipped to the track, and the directions in which a
-/// limit applies there. It covers nothing where its begin is not below its end.
+/// A stretch of a track, in metres from the track's begin and clipped to the
+/// track, and the directions in which a limit applies there. It covers nothing
+/// where its begin is not below its end.
 #[derive(Clone, Copy, Debug, PartialEq, Eq)]
 pub struct Range {
     pub track: u32,

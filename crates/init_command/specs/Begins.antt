@@ -1,5 +1,6 @@
 -- How a journal is begun on a disk.
-use Rattle.std.specs.Prelude.{◌≡◌, ◌⊎◌, ◌++◌, ◌∷◌, ℕ, List, [], length, IfSome, Result, Ok, Err, codes}
+use Rattle.std.specs.Prelude.{◌≡◌, ◌⊎◌, ◌++◌, ◌∷◌, ℕ, List, [], length, IfSome, Result, Ok, Err}
+use Rattle.std.specs.Prelude.{codes}
 use Rattle.outside_io.specs.Faults.{Rose}
 use Rattle.outside_io.specs.Openings.{disk_at}
 use Rattle.outside_io.specs.Places.{Replaces, Untouched}
@@ -19,8 +20,8 @@ use Rattle.init_command.specs.Disks.{ChangesOnlyDisk, IsNotOpened}
 use Rattle.init_command.specs.declared.beginnings.NotBegun.{NotBegun}
 use Rattle.init_command.specs.declared.beginnings.NotBegun.TheVariants.{NotOpened, Refused}
 
--- the disk was empty, and now whatever a crash leaves of it is a journal of these files without entries: the header and a
--- closed gate, and nothing else
+-- the disk was empty, and now whatever a crash leaves of it is a journal of these files without
+-- entries: the header and a closed gate, and nothing else
 pub record IsBegun {D : Type 0} (disk : Ghosts D) (network base : List ℕ)
     (before after : D) : Type 0 where
   pub empty : WasEmpty disk before
@@ -70,7 +71,8 @@ BeginSays disk network base name old new (Ok status) =
 BeginSays disk network base name old new (Err refusal) =
     IsNotOpened name old new refusal ⊎ IsRefused disk name old new refusal
 
--- The step that begins a journal for files with these digests: its disk is opened once, and nothing else changes.
+-- The step that begins a journal for files with these digests: its disk is opened
+-- once, and nothing else changes.
 pub record BeginStep {Src Snk Dsk : Type 0} (disk : Ghosts Dsk) (network base name : List ℕ)
     (old new : Scene Src Snk Dsk) (result : Result Status Refusal) : Type 0 where
   pub says : BeginSays disk network base name old new result

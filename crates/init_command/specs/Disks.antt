@@ -27,7 +27,8 @@ pub record IsNotOpened {Src Snk Dsk : Type 0} (name : List ℕ) (old new : Scene
   pub rose : Rose old.faults new.faults
   pub told : IsTold Opening (line_with (codes "open: ") name) refusal
 
--- two disks were replaced, each by one that is related to both; where the outside doesn't tell one, nothing is said
+-- two disks were replaced, each by one that is related to both; where the outside
+-- doesn't tell one, nothing is said
 abbrev pub BothReplaced : {Src Snk Dsk : Type 0} → (Dsk → Dsk → Dsk → Dsk → Type 0) → List ℕ
     → List ℕ → Scene Src Snk Dsk → Scene Src Snk Dsk → Type 0
 BothReplaced R name other old new =

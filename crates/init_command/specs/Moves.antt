@@ -1,11 +1,13 @@
 -- How a journal of version 1 is moved to a disk.
-use Rattle.std.specs.Prelude.{◌≡◌, ◌≢◌, ◌⊎◌, ℕ, List, [], ◌∷◌, IfSome, Option, None, Some, Result, Ok, Err, codes}
+use Rattle.std.specs.Prelude.{◌≡◌, ◌≢◌, ◌⊎◌, ℕ, List, [], ◌∷◌, IfSome, Option, None, Some, Result}
+use Rattle.std.specs.Prelude.{Ok, Err, codes}
 use Rattle.outside_io.specs.Faults.{Rose}
 use Rattle.outside_io.specs.Openings.{disk_at, Opening, Opens as CallsOf}
 use Rattle.outside_io.specs.Places.{Replaces, Untouched}
 use Rattle.outside_io.specs.declared.disks.Disk.{Ghosts}
 use Rattle.exit_status.specs.declared.Status.{Status}
-use Rattle.exit_status.specs.declared.Status.TheVariants.{Done, Journal, Opening as not_opened, DiskFault}
+use Rattle.exit_status.specs.declared.Status.TheVariants.{Done, Journal, Opening as not_opened}
+use Rattle.exit_status.specs.declared.Status.TheVariants.{DiskFault}
 use Rattle.file_rounds.specs.Scenes.{IsReady, IsShut, Opens, Scene}
 use Rattle.rail_types.specs.Timetables.{Timetable, timetable_of}
 use Rattle.journal_reading.specs.Beginning.{WasEmpty}
@@ -14,7 +16,8 @@ use Rattle.journal_reading.specs.declared.faults.OpenFault.TheVariants.{ReadFaul
 use Rattle.history_reading.specs.Failing.{IsOnlyRead}
 use Rattle.history_reading.specs.Moving.{HasMoveCause, IsMoved, IsMoveRefused, IsUnwritten}
 use Rattle.history_reading.specs.declared.moves.MoveFault.{MoveFault}
-use Rattle.history_reading.specs.declared.moves.MoveFault.TheVariants.{NotEmpty, From, Fault, Memory}
+use Rattle.history_reading.specs.declared.moves.MoveFault.TheVariants.{NotEmpty, From, Fault}
+use Rattle.history_reading.specs.declared.moves.MoveFault.TheVariants.{Memory}
 use Rattle.path_recover.specs.Texts.{fault_text, not_empty_text}
 use Rattle.command_files.specs.declared.bases.BaseFile.{BaseFile}
 use Rattle.command_files.specs.declared.networks.NetworkFile.{NetworkFile}
@@ -24,13 +27,15 @@ use Rattle.command_reports.specs.declared.refusals.Refusal.{Refusal}
 use Rattle.command_reports.specs.declared.refusals.Refusal.TheVariants.{Memory as wants_memory}
 use Rattle.init_command.specs.Disks.{BothReplaced, IsNotOpened}
 use Rattle.init_command.specs.declared.moving.NotMoved.{NotMoved}
-use Rattle.init_command.specs.declared.moving.NotMoved.TheVariants.{NotOpened, FromNotOpened, Refused}
+use Rattle.init_command.specs.declared.moving.NotMoved.TheVariants.{NotOpened, FromNotOpened}
+use Rattle.init_command.specs.declared.moving.NotMoved.TheVariants.{Refused}
 
 -- the timetable of a network's and a base timetable's file
 abbrev pub timetable_on : NetworkFile → BaseFile → Timetable
 timetable_on network base = timetable_of network.named.network base.base
 
--- the new disk was empty, and has the journal of the old one now, whatever a crash leaves; the old one was only read
+-- the new disk was empty, and has the journal of the old one now, whatever a crash
+-- leaves; the old one was only read
 pub record IsMovedTo {D : Type 0} (disk : Ghosts D) (network : NetworkFile) (base : BaseFile)
     (before after from_before from_after : D) : Type 0 where
   pub count : ℕ
@@ -110,7 +115,8 @@ MoveSays disk network base journal from old new (Err refusal) =
     ⊎ (IsFromNotOpened journal from old new refusal
     ⊎ IsMoveTold disk network base journal from old new refusal)
 
--- The step that moves a journal: the new disk is opened, and then the old one, each once, and nothing else changes.
+-- The step that moves a journal: the new disk is opened, and then the old one, each
+-- once, and nothing else changes.
 pub record MoveStep {Src Snk Dsk : Type 0} (disk : Ghosts Dsk) (network : NetworkFile)
     (base : BaseFile) (journal from : List ℕ) (old new : Scene Src Snk Dsk)
     (result : Result Status Refusal) : Type 0 where

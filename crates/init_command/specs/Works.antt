@@ -1,4 +1,5 @@
--- The work of `init`: the network and the base timetable are read, and then a journal is begun, or moved.
+-- The work of `init`: the network and the base timetable are read, and then
+-- a journal is begun, or moved.
 use Rattle.std.specs.Prelude.{ℕ, List, [], ◌∷◌, Result, Ok}
 use Rattle.outside_io.specs.Openings.{Opening, source_at, disk_at}
 use Rattle.outside_io.specs.declared.disks.Disk.{Ghosts as Disks}

@@ -1,4 +1,5 @@
-//! The command `init`: a journal is begun on an empty disk, or a journal of version 1 is moved there.
+//! The command `init`: a journal is begun on an empty disk, or a journal
+//! of version 1 is moved there.
 #![tactic(auto)]
 
 mod beginnings;

@@ -4,7 +4,8 @@ ghost use Rattle.std.specs.Prelude.{◌≡◌};
 ghost use Rattle.file_rounds.specs.Scenes.{scene};
 ghost use Rattle.rail_types.specs.Timetables.{IsTimetable};
 ghost use Rattle.init_command.specs.Disks.{ChangesOnlyDisk};
-ghost use Rattle.init_command.specs.Moves.{DisksKeep, DisksSay, FromSays, MoveEnds, MoveStep, TellsFrom, TellsMove, timetable_on};
+ghost use Rattle.init_command.specs.Moves.{DisksKeep, DisksSay, FromSays, MoveEnds, MoveStep};
+ghost use Rattle.init_command.specs.Moves.{TellsFrom, TellsMove, timetable_on};
 
 use crate::refusals::{disk_failed, not_empty, not_opened};
 use command_files::{BaseFile, NetworkFile};
@@ -26,7 +27,8 @@ pub(crate) enum NotMoved {
     Refused(MoveFault),
 }
 
-/// Opens the disk of a new journal and that of an old one, moves the old one's entries, and puts both back.
+/// Opens the disk of a new journal and that of an old one, moves the old one's
+/// entries, and puts both back.
 pub(crate) fn move_journal<O: Outside>(
     alloc: Global,
     network: &NetworkFile,

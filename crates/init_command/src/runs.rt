@@ -5,7 +5,8 @@ ghost use Rattle.outside_io.specs.Openings.{Undisturbed};
 ghost use Rattle.outside_io.specs.Places.{Untouched};
 ghost use Rattle.file_rounds.specs.Scenes.{scene};
 ghost use Rattle.command_reports.specs.Works.{Runs};
-ghost use Rattle.init_command.specs.Works.{BeginOver, init_calls, IsDone, move_calls, MoveOver, ReadsBoth};
+ghost use Rattle.init_command.specs.Works.{BeginOver, init_calls, IsDone, move_calls, MoveOver};
+ghost use Rattle.init_command.specs.Works.{ReadsBoth};
 
 use crate::works::{begin, move_over};
 use command_reports::finish;
@@ -13,8 +14,9 @@ use exit_status::Status;
 use outside_io::Outside;
 use std::alloc::Global;
 
-/// Runs `init` over the names of a network's file, a base timetable's and a new journal: opens and reads the two files,
-/// begins a journal for them on the disk of the third name, which must be empty, and reports where something refused.
+/// Runs `init` over the names of a network's file, a base timetable's and a new journal: opens and
+/// reads the two files, begins a journal for them on the disk of the third name, which must be
+/// empty, and reports where something refused.
 pub fn run_init<O: Outside>(
     alloc: Global,
     network: &str,
@@ -32,7 +34,8 @@ pub fn run_init<O: Outside>(
         (scene O.Outside outside.new) }
     // Names that are given are never refused as words.
     ensures words { result ≢ Status.Words }
-    // Whatever the status, all that was opened is put back, no sink but the report gained anything, and no other disk changed.
+    // Whatever the status, all that was opened is put back, no sink but the report gained
+    // anything, and no other disk changed.
     ensures back { Undisturbed (O.standing outside.old) (O.standing outside.new) }
     ensures sinks { Untouched (O.sinks outside.old) (O.sinks outside.new) }
     ensures disks { (name : List ℕ) → name ≢ journal.now
@@ -42,8 +45,9 @@ pub fn run_init<O: Outside>(
     finish(outcome, outside)
 }
 
-/// Runs `init` with the name of an old journal beside the three: a journal of version 1, of the same two files. Its
-/// entries are moved to the disk of the new journal, which must be empty; the old disk is only read.
+/// Runs `init` with the name of an old journal beside the three: a journal of version 1, of
+/// the same two files. Its entries are moved to the disk of the new journal, which must be
+/// empty; the old disk is only read.
 pub fn run_move<O: Outside>(
     alloc: Global,
     network: &str,
@@ -62,7 +66,8 @@ pub fn run_move<O: Outside>(
         (scene O.Outside outside.new) }
     // Names that are given are never refused as words.
     ensures words { result ≢ Status.Words }
-    // Whatever the status, all that was opened is put back, no sink but the report gained anything, and no other disk changed.
+    // Whatever the status, all that was opened is put back, no sink but the report gained
+    // anything, and no other disk changed.
     ensures back { Undisturbed (O.standing outside.old) (O.standing outside.new) }
     ensures sinks { Untouched (O.sinks outside.old) (O.sinks outside.new) }
     ensures disks { (name : List ℕ) → name ≢ journal.now → name ≢ from.now

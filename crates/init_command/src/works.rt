@@ -1,4 +1,5 @@
-//! The work of `init`: reads the network and the base timetable, and then begins a journal, or moves one.
+//! The work of `init`: reads the network and the base timetable, and then
+//! begins a journal, or moves one.
 
 ghost use Rattle.file_rounds.specs.Scenes.{scene};
 ghost use Rattle.named_network.specs.Named.{IsNamed};

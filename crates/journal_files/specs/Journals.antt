@@ -28,7 +28,8 @@ abbrev pub TellsEntries : NetworkFile → BaseFile → List Entry → List ℕ �
 TellsEntries network base entries file =
     TellsHistory (timetable_on network base) 2 network.digest base.digest file entries
 
--- the disk has a journal of these files with these entries, and was only read; a crash leaves what was read
+-- the disk has a journal of these files with these entries, and was only read;
+-- a crash leaves what was read
 pub record IsHistoryOn {D : Type 0} (disk : Ghosts D) (network : NetworkFile) (base : BaseFile)
     (entries : List Entry) (before after : D) : Type 0 where
   pub tells : IfSome (disk.contents before) (TellsEntries network base entries)
@@ -36,8 +37,8 @@ pub record IsHistoryOn {D : Type 0} (disk : Ghosts D) (network : NetworkFile) (b
   pub read : IsOnlyRead disk before after
   pub quiet : disk.faults after ≡ disk.faults before
 
--- the disk is refused by its bytes, or failed, or memory was wanted; it was only read, and one that has a journal of these
--- files is refused by no byte
+-- the disk is refused by its bytes, or failed, or memory was wanted; it was only read, and one that
+-- has a journal of these files is refused by no byte
 pub record IsRefusedOn {D : Type 0} (disk : Ghosts D) (network : NetworkFile) (base : BaseFile)
     (fault : OpenFault) (before after : D) : Type 0 where
   pub refused : IfSome (disk.contents before) (λ file.
@@ -47,7 +48,8 @@ pub record IsRefusedOn {D : Type 0} (disk : Ghosts D) (network : NetworkFile) (b
   pub read : IsOnlyRead disk before after
   pub cause : HasFaultCause (disk.faults before) (disk.faults after) fault
 
--- what is reported of a journal that is refused: its text, and of a fault without one that memory was wanted
+-- what is reported of a journal that is refused: its text, and of a fault
+-- without one that memory was wanted
 abbrev pub TellsText : Option (List ℕ) → Refusal → Type 0
 TellsText (Some text) refusal = IsTold Journal (line_with (codes "journal: ") text) refusal
 TellsText None refusal = refusal ≡ Memory
@@ -83,7 +85,8 @@ JournalSays disk network base name old new (Ok history) =
 JournalSays disk network base name old new (Err refusal) =
     IsNotOpened name old new refusal ⊎ IsJournalRefused disk network base name old new refusal
 
--- The step that reads the history of a journal by these files: its disk is opened once, and nothing else changes.
+-- The step that reads the history of a journal by these files: its disk is opened
+-- once, and nothing else changes.
 pub record JournalStep {Src Snk Dsk : Type 0} (disk : Ghosts Dsk) (network : NetworkFile)
     (base : BaseFile) (name : List ℕ) (old new : Scene Src Snk Dsk)
     (result : Result Register Refusal) : Type 0 where

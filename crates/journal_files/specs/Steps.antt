@@ -1,4 +1,5 @@
--- The work of a command over a journal: three files are read to a history, and what is told of it is written.
+-- The work of a command over a journal: three files are read to a history, and
+-- what is told of it is written.
 use Rattle.std.specs.Prelude.{◌≡◌, ◌⊎◌, ℕ, List, [], ◌∷◌, Result, Ok}
 use Rattle.outside_io.specs.Openings.{Opening, source_at, sink_at, disk_at}
 use Rattle.outside_io.specs.Places.{Place, Replaces}
@@ -55,7 +56,8 @@ Prints source sink disk network base journal out Says old new result =
     Follows (ReadsHistory source disk network base journal)
     (λ (history : Register). WritesTold sink out Says history) old new result
 
--- the opening calls of such a command, in order: the three files, and what is written once nothing else refuses
+-- the opening calls of such a command, in order: the three files, and what is
+-- written once nothing else refuses
 abbrev pub print_calls : List ℕ → List ℕ → List ℕ → List ℕ → List Opening
 print_calls network base journal out =
     source_at network ∷ source_at base ∷ disk_at journal ∷ sink_at out ∷ []
@@ -73,7 +75,8 @@ pub record HasRead {Src Snk Dsk : Type 0} (source : Sources Src) (disk : Disks D
       BaseStep source network_file.named.network.zones base first second (Ok base_file)
   pub read_journal : JournalStep disk network_file base_file journal second new (Ok history)
 
--- the three files were read, and what is told of their history was written whole, behind what the sink held at first
+-- the three files were read, and what is told of their history was written whole,
+-- behind what the sink held at first
 pub record IsPrinted {Src Snk Dsk : Type 0} (source : Sources Src) (sink : Sinks Snk)
     (disk : Disks Dsk) (network base journal out : List ℕ) (Says : Telling)
     (old new : Scene Src Snk Dsk) : Type 0 where

@@ -12,8 +12,8 @@ use grant_log::History;
 use outside_io::Outside;
 use std::alloc::Global;
 
-/// Opens and reads a network's file, then a base timetable's, and then the journal of both, each once. The first that
-/// refuses ends it.
+/// Opens and reads a network's file, then a base timetable's, and then the journal of both, each
+/// once. The first that refuses ends it.
 pub fn read_history_files<O: Outside>(
     alloc: Global,
     network: &str,

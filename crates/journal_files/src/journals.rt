@@ -29,9 +29,10 @@ pub(crate) enum NotRead {
     Refused(OpenFault),
 }
 
-/// Opens the disk of a journal, reads its history by the network and the base timetable of these files, and puts the disk
-/// back. The disk is only read. A name that could not be opened refuses, as `open: NAME`; a disk that fails, as
-/// `disk: NAME`; and a journal of other files, of another version or with damage, as `journal: F`.
+/// Opens the disk of a journal, reads its history by the network and the base timetable of these
+/// files, and puts the disk back. The disk is only read. A name that could not be opened refuses,
+/// as `open: NAME`; a disk that fails, as `disk: NAME`; and a journal of other files, of another
+/// version or with damage, as `journal: F`.
 pub fn read_journal_file<O: Outside>(
     alloc: Global,
     network: NetworkFile,

@@ -1,5 +1,5 @@
-//! What commands over a journal share: its history, read by its network and its base timetable, of which something is
-//! written.
+//! What commands over a journal share: its history, read by its network and its base timetable,
+//! of which something is written.
 #![tactic(auto)]
 
 mod files;

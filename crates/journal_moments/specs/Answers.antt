@@ -21,9 +21,10 @@ pub record Leaves {D : Type 0} (disk : Ghosts D) (old new : Timed D) (header : L
 abbrev pub with_body : List (List ℕ) → List ℕ → List (List ℕ)
 with_body bodies body = bodies ++ body ∷ []
 
--- once it is done the entry is settled, and the moment is kept; after a fault of the record the history is as before;
--- and after a fault of the gate the entry is pending
-abbrev pub Enters : {D : Type 0} → Ghosts D → Timed D → Timed D → List ℕ → List (List ℕ) → List ℕ → Written → Type 0
+-- once it is done the entry is settled, and the moment is kept; after a fault of the record the
+-- history is as before; and after a fault of the gate the entry is pending
+abbrev pub Enters : {D : Type 0} → Ghosts D → Timed D → Timed D → List ℕ → List (List ℕ) → List ℕ
+    → Written → Type 0
 Enters disk old new header bodies body Done =
     Leaves disk old new header (with_body bodies body)
     (old.moments ++ disk.clock new.journal.disk ∷ [])
@@ -42,7 +43,8 @@ HasSettled disk old new bodies =
     ⊎ ((settled_of old < length bodies)
     × (new.moments ≡ old.moments ++ disk.clock new.journal.disk ∷ [])))
 
-abbrev pub Settles : {D : Type 0} → Ghosts D → Timed D → Timed D → List ℕ → List (List ℕ) → Settled → Type 0
+abbrev pub Settles : {D : Type 0} → Ghosts D → Timed D → Timed D → List ℕ → List (List ℕ) → Settled
+    → Type 0
 Settles disk old new header bodies Put =
     Leaves disk old new header bodies new.moments (ReadsAsPrefix header bodies (settled_of old))
     × HasSettled disk old new bodies

@@ -1,5 +1,6 @@
 -- What a journal keeps of a history, and what its moments tell.
-use Rattle.std.specs.Prelude.{◌≡◌, ◌⊎◌, ℕ, ◌+◌, ◌≤◌, ◌<◌, ◌^◌, List, [], ◌∷◌, ◌++◌, length, slice_index, All}
+use Rattle.std.specs.Prelude.{◌≡◌, ◌⊎◌, ℕ, ◌+◌, ◌≤◌, ◌<◌, ◌^◌, List, [], ◌∷◌, ◌++◌, length}
+use Rattle.std.specs.Prelude.{slice_index, All}
 use Rattle.outside_io.specs.Disks.{Spans}
 use Rattle.outside_io.specs.declared.disks.Disk.{Ghosts}
 use Rattle.grant_journal.specs.Gates.{Gated}
@@ -7,13 +8,16 @@ use Rattle.grant_journal.specs.Journals.{IsAtRest, IsPending}
 use Rattle.journal_text.specs.Histories.{counted, front_of, ReadsAsPrefix}
 use Rattle.journal_moments.specs.Timed.{Timed}
 
--- each image since a moment reads as a prefix of the history, which has the first entries up to this count
-abbrev pub HasSince : {D : Type 0} → (D → ℕ → List ℕ → Type 0) → D → ℕ → List ℕ → List (List ℕ) → ℕ → Type 0
+-- each image since a moment reads as a prefix of the history, which has the
+-- first entries up to this count
+abbrev pub HasSince : {D : Type 0} → (D → ℕ → List ℕ → Type 0) → D → ℕ → List ℕ → List (List ℕ) → ℕ
+    → Type 0
 HasSince since disk moment header bodies least =
     (image : List ℕ) → since disk moment image → ReadsAsPrefix header bodies least image
 
--- what the moments tell: each image since the making reads as a prefix of the history that has the entries found then,
--- and each image since the moment kept for an entry reads as a prefix that has that entry
+-- what the moments tell: each image since the making reads as a prefix of the history
+-- that has the entries found then, and each image since the moment kept for an entry
+-- reads as a prefix that has that entry
 pub record Remembers {D : Type 0} (clock : D → ℕ) (since : D → ℕ → List ℕ → Type 0) (disk : D)
     (header : List ℕ) (bodies : List (List ℕ)) (made found : ℕ) (moments : List ℕ) : Type 0 where
   pub made_before : made ≤ clock disk
@@ -37,10 +41,12 @@ pub record AllAreSettled {D : Type 0} (images : D → List ℕ → Type 0) (jour
   pub count : settled ≡ length bodies
   pub rest : IsAtRest images journal (front_of header bodies)
 
--- what is kept: each image of now reads as the history, or, where its last entry is pending, as the history with it or
--- without; and what the moments tell
-pub record IsKept {D : Type 0} (images : D → List ℕ → Type 0) (clock : D → ℕ) (since : D → ℕ → List ℕ → Type 0)
-    (journal : Gated D) (header : List ℕ) (bodies : List (List ℕ)) (made found : ℕ) (moments : List ℕ) : Type 0 where
+-- what is kept: each image of now reads as the history, or, where its last entry is pending, as the
+-- history with it or without; and what the moments tell
+pub record IsKept {D : Type 0} (images : D → List ℕ → Type 0) (clock : D → ℕ)
+    (since : D → ℕ → List ℕ → Type 0)
+    (journal : Gated D) (header : List ℕ) (bodies : List (List ℕ)) (made found : ℕ)
+    (moments : List ℕ) : Type 0 where
   pub now : AllAreSettled images journal header bodies (found + length moments)
       ⊎ LastIsPending images journal header bodies (found + length moments)
   pub short : All (λ body. length body < 2 ^ 32) bodies
@@ -49,10 +55,11 @@ pub record IsKept {D : Type 0} (images : D → List ℕ → Type 0) (clock : D �
 -- the same of a journal with its moments
 abbrev pub Keeps : {D : Type 0} → Ghosts D → Timed D → List ℕ → List (List ℕ) → Type 0
 Keeps disk timed header bodies =
-    IsKept disk.images disk.clock disk.since timed.journal header bodies timed.made timed.found timed.moments
+    IsKept disk.images disk.clock disk.since timed.journal header bodies timed.made timed.found
+    timed.moments
 
--- a crash at each moment from the old state of a disk to the new one left what has P, the moment of the old state
--- among them
+-- a crash at each moment from the old state of a disk to the new one left what has P, the
+-- moment of the old state among them
 pub record Left {D : Type 0} (disk : Ghosts D) (old new : D) (P : List ℕ → Type 0) : Type 0 where
   pub spans : Spans disk.clock disk.since old new P
   pub began : (image : List ℕ) → disk.since new (disk.clock old) image → P image

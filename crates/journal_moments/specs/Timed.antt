@@ -2,8 +2,8 @@
 use Rattle.std.specs.Prelude.{ℕ, ◌+◌, List, length}
 use Rattle.grant_journal.specs.Gates.{Gated}
 
--- the journal, the moment of the making, how many entries stood in it then, the moment at which each later entry was
--- settled, and for how many more moments there is room
+-- the journal, the moment of the making, how many entries stood in it then, the moment at which
+-- each later entry was settled, and for how many more moments there is room
 pub record Timed (D : Type 0) : Type 0 where
   pub journal : Gated D
   pub made : ℕ

@@ -1,5 +1,5 @@
-//! A journal that keeps, for each entry settled since it was made, the moment of its disk's clock from which on a crash
-//! leaves that entry.
+//! A journal that keeps, for each entry settled since it was made, the moment of its disk's clock
+//! from which on a crash leaves that entry.
 #![tactic(auto)]
 
 mod timed;

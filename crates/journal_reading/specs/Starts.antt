@@ -3,7 +3,9 @@ use Rattle.std.specs.Prelude.{◌≡◌, ◌≢◌, ◌⊎◌, ℕ, ◌<◌, Lis
 use Rattle.std.specs.Int.{w32, to_be_bytes}
 use Rattle.journal_text.specs.Headers.{header_of_version, magic}
 use Rattle.journal_reading.specs.declared.faults.OpenFault.{OpenFault}
-use Rattle.journal_reading.specs.declared.faults.OpenFault.TheVariants.{Empty, OldVersion, NotAJournal, OtherNetwork, OtherBase}
+use Rattle.journal_reading.specs.declared.faults.OpenFault.TheVariants.{Empty, OldVersion}
+use Rattle.journal_reading.specs.declared.faults.OpenFault.TheVariants.{NotAJournal, OtherNetwork}
+use Rattle.journal_reading.specs.declared.faults.OpenFault.TheVariants.{OtherBase}
 
 -- the twelve bytes with which each journal of a version begins
 abbrev pub start_of : ℕ → List ℕ
@@ -46,7 +48,8 @@ pub record IsNoJournal (version : ℕ) (file : List ℕ) (at : ℕ) : Type 0 whe
   pub new : ¬ IsOldVersion version file
   pub place : DiffersAt (start_of version) file at ⊎ EndsEarly (start_of version) file at
 
--- why the beginning of a file is refused that should be a journal of this version with these digests
+-- why the beginning of a file is refused that should be a journal of
+-- this version with these digests
 abbrev pub StartIsRefused : ℕ → List ℕ → List ℕ → List ℕ → OpenFault → Type 0
 StartIsRefused version network base file Empty = file ≡ []
 StartIsRefused version network base file OldVersion = IsOldVersion version file

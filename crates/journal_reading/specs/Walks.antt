@@ -17,7 +17,8 @@ pub record BeginsShut (left : List ℕ) : Type 0 where
   pub split : left ≡ gate ∷ rest
   pub closed : gate ≢ 1
 
--- a whole record stands here: an open gate, the length, the body, and behind it at least the next gate
+-- a whole record stands here: an open gate, the length, the body, and
+-- behind it at least the next gate
 pub record BeginsWhole (left body rest : List ℕ) : Type 0 where
   pub split : left ≡ 1 ∷ (counted body ++ rest)
   pub short : length body < 2 ^ 32
@@ -32,8 +33,8 @@ pub record IsCut (left : List ℕ) : Type 0 where
 abbrev pub IsSpelledIn : ℕ → Entry → Type 0
 IsSpelledIn version entry = HasBody entry × (version ≡ 1 → kind_byte entry.deed ≢ 5)
 
--- these entries stand here one behind the other, legal by the timetable, and the rest behind them; behind an entry that
--- is at least the next gate
+-- these entries stand here one behind the other, legal by the timetable, and the rest behind them;
+-- behind an entry that is at least the next gate
 pub record Passes (timetable : Timetable) (version : ℕ) (left : List ℕ) (entries : List Entry)
     (rest : List ℕ) : Type 0 where
   pub split : left ≡ opened (bodies_of entries) ++ rest
@@ -42,7 +43,8 @@ pub record Passes (timetable : Timetable) (version : ℕ) (left : List ℕ) (ent
   pub spelled : All (IsSpelledIn version) entries
   pub legal : IsLegal timetable entries
 
--- behind these entries stands a gate that isn't open, at this offset; the first byte has the offset `at`
+-- behind these entries stands a gate that isn't open, at this offset; the
+-- first byte has the offset `at`
 pub record IsReadTo (timetable : Timetable) (version : ℕ) (left : List ℕ) (at : ℕ)
     (entries : List Entry) (gate : ℕ) : Type 0 where
   pub rest : List ℕ
@@ -50,8 +52,10 @@ pub record IsReadTo (timetable : Timetable) (version : ℕ) (left : List ℕ) (a
   pub shut : BeginsShut rest
   pub place : gate ≡ at + length (opened (bodies_of entries))
 
--- behind some entries, at this offset, stands neither a gate that isn't open nor a whole record of an entry
-pub record IsDamagedAt (timetable : Timetable) (version : ℕ) (left : List ℕ) (at gate : ℕ) : Type 0 where
+-- behind some entries, at this offset, stands neither a gate that isn't open
+-- nor a whole record of an entry
+pub record IsDamagedAt (timetable : Timetable) (version : ℕ) (left : List ℕ)
+    (at gate : ℕ) : Type 0 where
   pub entries : List Entry
   pub rest : List ℕ
   pub passes : Passes timetable version left entries rest
@@ -61,7 +65,8 @@ pub record IsDamagedAt (timetable : Timetable) (version : ℕ) (left : List ℕ)
   pub place : gate ≡ at + length (opened (bodies_of entries))
 
 -- behind so many entries stands one that doesn't join them
-pub record IsIllegalAt (timetable : Timetable) (version : ℕ) (left : List ℕ) (position : ℕ) : Type 0 where
+pub record IsIllegalAt (timetable : Timetable) (version : ℕ) (left : List ℕ)
+    (position : ℕ) : Type 0 where
   pub entries : List Entry
   pub rest : List ℕ
   pub passes : Passes timetable version left entries rest
@@ -72,7 +77,8 @@ pub record IsIllegalAt (timetable : Timetable) (version : ℕ) (left : List ℕ)
   pub stale : ¬ Joins timetable entries entry
   pub place : position ≡ length entries
 
--- What stands next: a gate that isn't open; a whole record of an entry, and the reader is behind it; or neither.
+-- What stands next: a gate that isn't open; a whole record of an entry, and the
+-- reader is behind it; or neither.
 abbrev pub NextIs : ℕ → Unread → Unread → Next → Type 0
 NextIs version old new Shut = BeginsShut old.left
 NextIs version old new (Record entry) =

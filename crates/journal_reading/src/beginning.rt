@@ -1,4 +1,5 @@
-ghost use Rattle.std.specs.Prelude.{◌≡◌, ◌∷◌, ◌++◌, [], ℕ, List, Some, IfErr, IfSome, OnErr, OnOk, length};
+ghost use Rattle.std.specs.Prelude.{◌≡◌, ◌∷◌, ◌++◌, [], ℕ, List, Some, IfErr, IfSome, OnErr, OnOk};
+ghost use Rattle.std.specs.Prelude.{length};
 ghost use Rattle.outside_io.specs.Disks.{Spans};
 ghost use Rattle.journal_text.specs.Headers.{header_of};
 ghost use Rattle.journal_text.specs.Histories.{ReadsAs};
@@ -16,8 +17,8 @@ pub enum InitFault {
     Fault,
 }
 
-/// Begins a journal on an empty disk, for a network's file and a base timetable's file with these digests: the header and
-/// a closed gate, in one write, and a sync. It takes no memory.
+/// Begins a journal on an empty disk, for a network's file and a base timetable's file with these
+/// digests: the header and a closed gate, in one write, and a sync. It takes no memory.
 pub fn init<D: Disk>(disk: &mut D, network: &[u8; 32], base: &[u8; 32]) -> Result<(), InitFault>
     ensures reads { OnOk result ((image : List ℕ) → D.images disk.new image →
         ReadsAs (header_of network.now base.now) [] image) }

@@ -1,4 +1,5 @@
-//! How the file of a journal is begun, and how it is read: its header, and behind it the bodies of its entries.
+//! How the file of a journal is begun, and how it is read: its header, and behind
+//! it the bodies of its entries.
 #![tactic(auto)]
 
 mod beginning;

@@ -1,6 +1,8 @@
-ghost use Rattle.std.specs.Prelude.{◌≡◌, ◌↔◌, ◌++◌, ◌≤◌, [], ℕ, List, IfErr, IfOk, IfSome, IsNone, IsTrue, length};
+ghost use Rattle.std.specs.Prelude.{◌≡◌, ◌↔◌, ◌++◌, ◌≤◌, [], ℕ, List, IfErr, IfOk, IfSome, IsNone};
+ghost use Rattle.std.specs.Prelude.{IsTrue, length};
 ghost use Rattle.journal_text.specs.Headers.{header_of_version};
-ghost use Rattle.journal_reading.specs.Starts.{DiffersAt, IsOldVersion, NoneDiffers, StartIsRefused, start_of};
+ghost use Rattle.journal_reading.specs.Starts.{DiffersAt, IsOldVersion, NoneDiffers};
+ghost use Rattle.journal_reading.specs.Starts.{StartIsRefused, start_of};
 
 use crate::OpenFault;
 use journal_text::HEADER_BYTES;
@@ -65,7 +67,8 @@ fn is_old(file: &[u8], version: u32) -> bool
     version != 1 && begins_with(file, &start(1))
 }
 
-// Both digests of a file that begins as a journal of this version, and what stands behind the header.
+// Both digests of a file that begins as a journal of this version, and
+// what stands behind the header.
 fn digests<'a>(file: &'a [u8], start: &[u8]) -> (&'a [u8], &'a [u8], &'a [u8])
     requires size { 76 ≤ length file.now }
     requires start { length start.now ≡ 12 }

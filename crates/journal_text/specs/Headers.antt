@@ -1,4 +1,5 @@
--- The bytes at the beginning of a journal: what it is, in which version, and to which files it belongs.
+-- The bytes at the beginning of a journal: what it is, in which version,
+-- and to which files it belongs.
 use Rattle.std.specs.Prelude.{ℕ, List, ◌++◌, codes}
 use Rattle.std.specs.Int.{w32, to_be_bytes}
 

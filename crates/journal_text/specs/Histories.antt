@@ -18,7 +18,8 @@ opened bodies = flat_map (λ body. 1 ∷ counted body) bodies
 abbrev pub front_of : List ℕ → List (List ℕ) → List ℕ
 front_of header bodies = header ++ opened bodies
 
--- the file reads as these bodies behind this header: then comes a gate that isn't open, and later bytes mean nothing
+-- the file reads as these bodies behind this header: then comes a gate that isn't open,
+-- and later bytes mean nothing
 abbrev pub ReadsAs : List ℕ → List (List ℕ) → List ℕ → Type 0
 ReadsAs header bodies file = EndsBehind (front_of header bodies) file
 
@@ -27,7 +28,8 @@ abbrev pub ReadsAsEither : List ℕ → List (List ℕ) → List (List ℕ) → 
 ReadsAsEither header before after file = ReadsAs header before file ⊎ ReadsAs header after file
 
 -- the file reads as a prefix of these bodies, which has the first of them up to this count
-pub record ReadsAsPrefix (header : List ℕ) (bodies : List (List ℕ)) (least : ℕ) (file : List ℕ) : Type 0 where
+pub record ReadsAsPrefix (header : List ℕ) (bodies : List (List ℕ)) (least : ℕ)
+    (file : List ℕ) : Type 0 where
   pub count : ℕ
   pub enough : least ≤ count
   pub within : count ≤ length bodies
@@ -41,6 +43,7 @@ bodies_of entries = map body_of entries
 abbrev pub record_of : Entry → List ℕ
 record_of entry = counted (body_of entry) ++ 0 ∷ []
 
--- how many bytes of a journal count that stands for these entries: the header with the first gate, and a record of each
+-- how many bytes of a journal count that stands for these entries: the header with the
+-- first gate, and a record of each
 abbrev pub bytes_of : List Entry → ℕ
 bytes_of entries = 77 + sum_by (λ entry. length (body_of entry) + 5) entries

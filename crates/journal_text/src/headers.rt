@@ -3,11 +3,12 @@
 ghost use Rattle.std.specs.Prelude.{◌≡◌, ◌+◌, ◌≤◌, ◌++◌, length, take, drop};
 ghost use Rattle.journal_text.specs.Headers.{header_of};
 
-/// How many bytes a header has: eight letters, four bytes of version, and two digests of 32 bytes. The first gate
-/// stands behind them.
+/// How many bytes a header has: eight letters, four bytes of version, and two digests of 32 bytes.
+/// The first gate stands behind them.
 pub const HEADER_BYTES: usize = 76;
 
-/// The header of a journal for a network's file and a base timetable's file with these SHA-256 digests.
+/// The header of a journal for a network's file and a base timetable's
+/// file with these SHA-256 digests.
 pub fn header(network: &[u8; 32], base: &[u8; 32]) -> [u8; HEADER_BYTES]
     ensures { result ≡ header_of network.now base.now }
 {

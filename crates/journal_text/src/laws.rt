@@ -5,8 +5,8 @@ ghost use Rattle.rail_types.specs.declared.entries.Entry.{Entry as entry_type};
 ghost use Rattle.journal_text.specs.Headers.{header_of};
 ghost use Rattle.journal_text.specs.Histories.{bodies_of, bytes_of, front_of};
 
-/// A header has 76 bytes, and the bytes of a file that count are those up to its first gate that is not open, with
-/// that gate.
+/// A header has 76 bytes, and the bytes of a file that count are those up to its first gate that
+/// is not open, with that gate.
 pub fn bytes_are_counted()
     ensures header { (network base : List ℕ) → length network ≡ 32 → length base ≡ 32 →
         length (header_of network base) ≡ 76 }

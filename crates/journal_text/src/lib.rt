@@ -1,5 +1,5 @@
-//! How a journal is spelled: a header, and behind it the records of a history, each of which counts once the gate
-//! before it is open.
+//! How a journal is spelled: a header, and behind it the records of a history, each of which counts
+//! once the gate before it is open.
 #![tactic(auto)]
 
 mod headers;

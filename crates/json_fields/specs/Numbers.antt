@@ -1,5 +1,7 @@
 -- Numbers of a file. After quoting, a number stands as it is or is spelled by a text.
-use Rattle.std.specs.Prelude.{ℕ, ◌/◌, ◌^◌, ℤ, pos, ◌*ℤ◌, unsigned_abs, List, Bool, false, if◌then◌else◌, nat_lt, Option, Some, None, option_and_then, Result, Ok, Err}
+use Rattle.std.specs.Prelude.{ℕ, ◌/◌, ◌^◌, ℤ, pos, ◌*ℤ◌, unsigned_abs, List, Bool, false}
+use Rattle.std.specs.Prelude.{if◌then◌else◌, nat_lt, Option, Some, None, option_and_then, Result}
+use Rattle.std.specs.Prelude.{Ok, Err}
 use Rattle.serde_json.specs.Data.{Data}
 use Rattle.serde_json.specs.Find.{as_number, as_str, as_i64}
 use Rattle.decimal_quote.specs.Values.{whole_of, scaled_of, count_told, units}
@@ -9,16 +11,19 @@ use Rattle.decimal_quote.specs.declared.values.NotWhole.TheVariants.{Shape, Rang
 -- a number as it stands, in units or thousandths, of at most 18 digits
 abbrev pub in_units : ℤ → Bool → Result ℤ NotWhole
 in_units number milli =
-    if nat_lt (unsigned_abs number) (10 ^ 18 / units milli) then Ok (number *ℤ pos (units milli)) else Err Range
+    if nat_lt (unsigned_abs number) (10 ^ 18 / units milli) then Ok (number *ℤ pos (units milli))
+    else Err Range
 
 -- a number as it stands, else what a text spells
-abbrev pub number_or_text : {A : Type 0} → (ℤ → A) → (List ℕ → A) → A → Option ℤ → Option (List ℕ) → A
+abbrev pub number_or_text : {A : Type 0} → (ℤ → A) → (List ℕ → A) → A → Option ℤ → Option (List ℕ)
+    → A
 number_or_text stands spelled other (Some number) text = stands number
 number_or_text stands spelled other None (Some text) = spelled text
 number_or_text stands spelled other None None = other
 
 abbrev pub of_value : {A : Type 0} → (ℤ → A) → (List ℕ → A) → A → Data → A
-of_value stands spelled other d = number_or_text stands spelled other (option_and_then as_i64 (as_number d)) (as_str d)
+of_value stands spelled other d =
+    number_or_text stands spelled other (option_and_then as_i64 (as_number d)) (as_str d)
 
 -- the whole number that a value is or spells
 abbrev pub whole_value : Data → Result ℤ NotWhole

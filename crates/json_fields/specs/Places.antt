@@ -2,8 +2,8 @@
 use Rattle.std.specs.Prelude.{ℕ, List, [], ◌∷◌, ◌++◌, codes, decimal, Option, Some, None}
 use Rattle.json_fields.specs.declared.spots.Spot.{Spot}
 
--- A place: the element of that index of that list, in it behind those fields, and there that item of a list. Without an
--- index it is the whole file.
+-- A place: the element of that index of that list, in it behind those fields, and there that item
+-- of a list. Without an index it is the whole file.
 pub record FilePlace : Type 0 where
   pub list : List ℕ
   pub index : Option ℕ
@@ -17,10 +17,20 @@ abbrev pub element : List ℕ → ℕ → FilePlace
 element list index = record { list = list; index = Some index; within = []; item = None }
 
 abbrev pub part_of : FilePlace → List ℕ → FilePlace
-part_of place within = record { list = place.list; index = place.index; within = within; item = None }
+part_of place within = record {
+  list = place.list;
+  index = place.index;
+  within = within;
+  item = None;
+}
 
 abbrev pub item_of : FilePlace → List ℕ → ℕ → FilePlace
-item_of place within item = record { list = place.list; index = place.index; within = within; item = Some item }
+item_of place within item = record {
+  list = place.list;
+  index = place.index;
+  within = within;
+  item = Some item;
+}
 
 -- `ports.B1`, `parts[2]`
 abbrev pub leading : List ℕ → Option ℕ → List ℕ

@@ -12,7 +12,8 @@ abbrev pub or_fault : {A F : Type 0} → F → Option A → Result A F
 or_fault fault None = Err fault
 or_fault fault (Some x) = Ok x
 
--- What a call returned, as its view shows it, is what the reading gives, unless it returned want of memory.
+-- What a call returned, as its view shows it, is what the reading gives,
+-- unless it returned want of memory.
 abbrev pub Gives : {X Y F : Type 0} → F → (X → Y) → Result X F → Result Y F → Type 0
 Gives memory see (Ok x) reading = reading ≡ Ok (see x)
 Gives memory see (Err e) reading = (e ≡ memory → ⊥) → reading ≡ Err e

@@ -6,8 +6,8 @@ ghost use Rattle.json_fields.specs.Escapes.{escaped, escaped_byte, is_plain, hex
 use no_memory::NoMemory;
 use std::alloc::Global;
 
-/// A name without spaces and line ends: each byte outside 33 to 126, and `%`, is `%` and two upper-case hexadecimal
-/// digits.
+/// A name without spaces and line ends: each byte outside 33 to 126, and `%`, is `%` and two
+/// upper-case hexadecimal digits.
 pub fn escaped(alloc: Global, name: &[u8]) -> Result<Vec<u8>, NoMemory>
     ensures { IfOk result (λ text. text.items ≡ escaped name.now) }
 {

@@ -1,5 +1,5 @@
-//! What the readers of JSON files share: the value of a file's bytes, the places where its parts stand, and the
-//! numbers in them.
+//! What the readers of JSON files share: the value of a file's bytes, the places where its parts
+//! stand, and the numbers in them.
 #![tactic(auto)]
 
 mod escapes;

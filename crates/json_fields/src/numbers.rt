@@ -7,7 +7,8 @@ ghost use Rattle.json_fields.specs.Numbers.{whole_value, scaled_value, count_val
 use decimal_quote::{NotWhole, count_of, scaled, whole};
 use serde_json::Value;
 
-/// The whole number that a value is or spells. Refuses as `decimal_quote::whole` does; `Shape` is what is no number.
+/// The whole number that a value is or spells. Refuses as `decimal_quote::whole` does;
+/// `Shape` is what is no number.
 pub fn whole_in(value: &Value) -> Result<i64, NotWhole>
     ensures { result ≡ whole_value (view value.now) }
 {
@@ -20,8 +21,8 @@ pub fn whole_in(value: &Value) -> Result<i64, NotWhole>
     whole(text.as_bytes())
 }
 
-/// The number that a value is or spells, in units, or in thousandths where `milli`, rounded up where `up` and else
-/// down. Refuses as `decimal_quote::scaled` does; `Shape` is what is no number.
+/// The number that a value is or spells, in units, or in thousandths where `milli`, rounded up
+/// where `up` and else down. Refuses as `decimal_quote::scaled` does; `Shape` is what is no number.
 pub fn scaled_in(value: &Value, up: bool, milli: bool) -> Result<i64, NotWhole>
     ensures { result ≡ scaled_value (view value.now) up milli }
 {

@@ -1,7 +1,8 @@
 //! Where the values of a file stand.
 
 ghost use Rattle.std.specs.Prelude.{◌≡◌, IfOk};
-ghost use Rattle.json_fields.specs.Places.{whole_file, element, part_of, item_of, spot_of, path_to, leading};
+ghost use Rattle.json_fields.specs.Places.{whole_file, element, part_of, item_of, spot_of, path_to};
+ghost use Rattle.json_fields.specs.Places.{leading};
 
 use crate::Spot;
 use itoa::Buffer;
@@ -81,7 +82,8 @@ impl<'a> Place<'a> {
         }
     }
 
-    /// The spot of a field of the object that stands here, or its own spot where the field is empty.
+    /// The spot of a field of the object that stands here, or its own
+    /// spot where the field is empty.
     pub fn spot(&self, alloc: Global, field: &str) -> Result<Spot, NoMemory>
         ensures { IfOk result (λ spot. spot ≡ spot_of self.now field.now) }
     {

@@ -7,8 +7,9 @@ use itoa::Buffer;
 use no_memory::NoMemory;
 use rail_types::Name;
 
-/// A place in a file, written `list[index].field`. What stands alone, a field of the whole file or the file itself, is
-/// the list, without index and field; an element without a field has an empty one.
+/// A place in a file, written `list[index].field`. What stands alone, a field of the
+/// whole file or the file itself, is the list, without index and field; an element
+/// without a field has an empty one.
 #[derive(Debug, Drop)]
 pub struct Spot {
     pub list: Name,

@@ -33,8 +33,8 @@ impl From<NoMemory> for Unread {
     }
 }
 
-/// The value of a text of JSON (RFC 8259) in which numbers stand between quotation marks where a float would be needed
-/// to hold them: no float is ever made.
+/// The value of a text of JSON (RFC 8259) in which numbers stand between quotation marks where a
+/// float would be needed to hold them: no float is ever made.
 pub fn value_of(alloc: Global, bytes: &[u8]) -> Result<Value, Unread>
     ensures { (quoted : List ℕ) → IsQuoted bytes.now quoted →
         Gives Memory view result (or_fault NotJson (data_of quoted)) }

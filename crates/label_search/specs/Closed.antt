@@ -10,7 +10,8 @@ use Rattle.label_search.specs.Free.{Book}
 use Rattle.free_windows.specs.Free.{Holds}
 use Rattle.label_search.specs.declared.limits.Limits.{Limits}
 use Rattle.label_search.specs.Limits.{IsBelow}
-use Rattle.label_search.specs.Paths.{IsMove, MoveFits, Enters, WaitFits, place_at, move_at, target_of, leave_of}
+use Rattle.label_search.specs.Paths.{IsMove, MoveFits, Enters, WaitFits, place_at, move_at}
+use Rattle.label_search.specs.Paths.{target_of, leave_of}
 
 abbrev pub IsHeld : List Member → ℕ → ℤ → Type 0
 IsHeld members place tick = Any (λ member. (member.place ≡ place)
@@ -25,8 +26,8 @@ Admits trip Held End leave = ¬ Holds trip.arrive leave
 abbrev pub IsFreeMove : Plan → Book → ℕ → Step → Type 0
 IsFreeMove plan book place step = IsMove plan place step × MoveFits plan book place step
 
--- the members hold what each free move from the start and from a member leads to, and no free end arrives in the
--- window of arrival
+-- the members hold what each free move from the start and from a member leads to, and no free end
+-- arrives in the window of arrival
 pub record IsClosed (plan : Plan) (trip : Trip) (book : Book) (members : List Member) : Type 0 where
   pub start : (step : Step) → Holds trip.depart step.enter → IsFreeMove plan book 0 step
       → Admits trip (IsHeld members) (target_of plan 0 step) (leave_of plan 0 step)
@@ -36,7 +37,8 @@ pub record IsClosed (plan : Plan) (trip : Trip) (book : Book) (members : List Me
       → Admits trip (IsHeld members) (target_of plan place step) (leave_of plan place step)
 
 -- the same of all that may end below a limit, for places and ticks that are held somehow
-pub record IsClosedBelow (plan : Plan) (limits : Limits) (trip : Trip) (book : Book) (Held : ℕ → ℤ → Type 0) : Type 0 where
+pub record IsClosedBelow (plan : Plan) (limits : Limits) (trip : Trip) (book : Book)
+    (Held : ℕ → ℤ → Type 0) : Type 0 where
   pub start : (step : Step) → Holds trip.depart step.enter → IsFreeMove plan book 0 step
       → IsBelow limits (target_of plan 0 step) (leave_of plan 0 step)
       → Admits trip Held (target_of plan 0 step) (leave_of plan 0 step)

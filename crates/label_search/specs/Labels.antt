@@ -1,5 +1,6 @@
 -- What labels say.
-use Rattle.std.specs.Prelude.{◌≡◌, ◌⊎◌, ℕ, ◌≤◌, ◌<◌, ℤ, pos, ◌+ℤ◌, ◌≤ℤ◌, List, [], ◌++◌, Bool, true, false, length, slice_index_or, All, Any, map, filter, not}
+use Rattle.std.specs.Prelude.{◌≡◌, ◌⊎◌, ℕ, ◌≤◌, ◌<◌, ℤ, pos, ◌+ℤ◌, ◌≤ℤ◌, List, [], ◌++◌, Bool, true}
+use Rattle.std.specs.Prelude.{false, length, slice_index_or, All, Any, map, filter, not}
 use Rattle.rail_types.specs.declared.paths.Span.{Span}
 use Rattle.rail_types.specs.declared.paths.Claim.{Claim}
 use Rattle.label_search.specs.declared.plans.Member.{Member}
@@ -72,7 +73,8 @@ HasAllFrom from labels fronts = (number : ℕ) → from ≤ number → number < 
     → IsIn fronts (label_at labels number).place (label_at labels number).ready tick
 
 -- a label that has the tick, before a number, with its origin
-pub record IsSourceOf (labels : List Label) (until : ℕ) (place : ℕ) (ready : Bool) (tick : ℤ) (source : Source) : Type 0 where
+pub record IsSourceOf (labels : List Label) (until : ℕ) (place : ℕ) (ready : Bool) (tick : ℤ)
+    (source : Source) : Type 0 where
   pub before : source.number < until
   pub has : ((label_at labels source.number).place ≡ place)
       × ((label_at labels source.number).ready ≡ ready)

@@ -1,5 +1,6 @@
 -- Paths over places, and when they fit.
-use Rattle.std.specs.Prelude.{◌≡◌, ℕ, ◌<◌, ℤ, pos, ◌+ℤ◌, ◌<ℤ◌, ◌≤ℤ◌, List, [], ◌∷◌, false, length, slice_index_or, IsTrue}
+use Rattle.std.specs.Prelude.{◌≡◌, ℕ, ◌<◌, ℤ, pos, ◌+ℤ◌, ◌<ℤ◌, ◌≤ℤ◌, List, [], ◌∷◌, false, length}
+use Rattle.std.specs.Prelude.{slice_index_or, IsTrue}
 use Rattle.label_search.specs.declared.plans.Target.{Target}
 use Rattle.label_search.specs.declared.plans.Target.TheVariants.{Place as To, End}
 use Rattle.label_search.specs.declared.plans.Move.{Move}
@@ -50,8 +51,8 @@ abbrev pub WaitFits : Book → Place → ℤ → ℤ → Type 0
 WaitFits book place arrive enter = (tick : ℤ) → arrive ≤ℤ tick → tick <ℤ enter
     → Fits book place.waits tick
 
--- what follows a move: nothing behind an end, which lies in the window of arrival; else a move from the place that
--- is reached, after the wait there
+-- what follows a move: nothing behind an end, which lies in the window of arrival; else a move from
+-- the place that is reached, after the wait there
 abbrev pub IsRest : Plan → Trip → Target → ℤ → List Step → Type 0
 IsRest plan trip End leave [] = Holds trip.arrive leave
 IsRest plan trip End leave (step ∷ steps) = ⊥

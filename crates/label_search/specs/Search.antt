@@ -1,5 +1,6 @@
 -- What holds of the labels of a search and of the best end that it has found.
-use Rattle.std.specs.Prelude.{◌≡◌, ℕ, ◌<◌, ℤ, pos, ◌+ℤ◌, ◌-ℤ◌, ◌<ℤ◌, ◌≤ℤ◌, List, length, take, slice_index_or, Bool, true, false, IsTrue, Option, None, Some, IfSome}
+use Rattle.std.specs.Prelude.{◌≡◌, ℕ, ◌<◌, ℤ, pos, ◌+ℤ◌, ◌-ℤ◌, ◌<ℤ◌, ◌≤ℤ◌, List, length, take}
+use Rattle.std.specs.Prelude.{slice_index_or, Bool, true, false, IsTrue, Option, None, Some, IfSome}
 use Rattle.std.specs.Int.{int_min}
 use Rattle.rail_types.specs.declared.paths.Window.{Window}
 use Rattle.label_search.specs.declared.plans.Target.{Target}
@@ -37,13 +38,15 @@ abbrev pub entered_at : Plan → ℕ → ℕ → ℤ → ℤ
 entered_at plan place number leave = leave -ℤ (move_at plan place number).run
 
 -- the tick came from a wait
-pub record IsWaited (plan : Plan) (book : Book) (labels : List Label) (arrivals : Window) (place : ℕ) (tick : ℤ) : Type 0 where
+pub record IsWaited (plan : Plan) (book : Book) (labels : List Label) (arrivals : Window)
+    (place : ℕ) (tick : ℤ) : Type 0 where
   pub standing : IsTrue (place_at plan place).standing
   pub came : IsReached labels place false (came_at plan place arrivals tick)
   pub fits : WaitFits book (place_at plan place) (came_at plan place arrivals tick) tick
 
 -- the tick came from a move
-pub record IsMoved (plan : Plan) (book : Book) (labels : List Label) (from : ℕ) (before : Bool) (number : ℕ) (place : ℕ) (tick : ℤ) : Type 0 where
+pub record IsMoved (plan : Plan) (book : Book) (labels : List Label) (from : ℕ) (before : Bool)
+    (number : ℕ) (place : ℕ) (tick : ℤ) : Type 0 where
   pub inside : from < length plan.places
   pub target : (move_at plan from number).target ≡ To place
   pub came : CanGo plan labels from before (entered_at plan from number tick)
@@ -59,13 +62,15 @@ IsCome plan trip book labels (Move from before number) place ready tick = (ready
     × IsMoved plan book labels from before number place tick
 
 -- ticks that a search may note: within the plan, and each came from somewhere
-pub record IsWanted (plan : Plan) (trip : Trip) (book : Book) (labels : List Label) (label : Label) : Type 0 where
+pub record IsWanted (plan : Plan) (trip : Trip) (book : Book) (labels : List Label)
+    (label : Label) : Type 0 where
   pub place : label.place < length plan.places
   pub ticks : (pos 0 ≤ℤ label.ticks.from) × (label.ticks.to ≤ℤ plan.horizon)
   pub come : (tick : ℤ) → Holds label.ticks tick → IsCome plan trip book labels label.origin
       label.place label.ready tick
 
-pub record IsLabelOf (plan : Plan) (trip : Trip) (book : Book) (labels : List Label) (label : Label) : Type 0 where
+pub record IsLabelOf (plan : Plan) (trip : Trip) (book : Book) (labels : List Label)
+    (label : Label) : Type 0 where
   pub wanted : IsWanted plan trip book labels label
   pub some : label.ticks.from ≤ℤ label.ticks.to
 
@@ -75,7 +80,8 @@ IsSound plan trip book labels = (number : ℕ) (d : Label) → number < length l
     → IsLabelOf plan trip book (take number labels) (slice_index_or labels number d)
 
 -- an end in the window of arrival, by a free move at a tick that is reached
-pub record IsEnd (plan : Plan) (trip : Trip) (book : Book) (labels : List Label) (place : ℕ) (ready : Bool) (number : ℕ) (leave : ℤ) : Type 0 where
+pub record IsEnd (plan : Plan) (trip : Trip) (book : Book) (labels : List Label) (place : ℕ)
+    (ready : Bool) (number : ℕ) (leave : ℤ) : Type 0 where
   pub inside : place < length plan.places
   pub target : (move_at plan place number).target ≡ End
   pub came : CanGo plan labels place ready (entered_at plan place number leave)
@@ -121,7 +127,8 @@ AreWaitsExplored plan book place tick search = (enter : ℤ)
     → IsReached search.labels.labels place true enter
 
 -- all that a train can do at a tick of a place is in the search
-pub record IsExplored (plan : Plan) (trip : Trip) (book : Book) (search : Search) (place : ℕ) (ready : Bool) (tick : ℤ) : Type 0 where
+pub record IsExplored (plan : Plan) (trip : Trip) (book : Book) (search : Search) (place : ℕ)
+    (ready : Bool) (tick : ℤ) : Type 0 where
   pub waits : IsTrue (place_at plan place).standing → ready ≡ false
       → AreWaitsExplored plan book place tick search
   pub moves : (IsTrue (place_at plan place).standing → ready ≡ true) → (number : ℕ)

@@ -13,7 +13,8 @@ use Rattle.label_search.specs.Closed.{IsClosed, IsClosedBelow, IsHeld, IsMemberO
 use Rattle.label_search.specs.Found.{IsLeast, ArriveFrom}
 
 -- a path that fits, none of which arrives earlier, with members that are closed for what would
-pub record IsFound (plan : Plan) (trip : Trip) (book : Book) (steps : List Step) (members : List Member) : Type 0 where
+pub record IsFound (plan : Plan) (trip : Trip) (book : Book) (steps : List Step)
+    (members : List Member) : Type 0 where
   pub path : IsPath plan trip steps
   pub fits : PathFits plan book steps
   pub least : (other : List Step) → IsPath plan trip other → PathFits plan book other

@@ -1,5 +1,5 @@
-//! What is ahead of each place: the ticks of the fastest moves from there to an end. They are found without proof
-//! and tested.
+//! What is ahead of each place: the ticks of the fastest moves from there to an end. They are
+//! found without proof and tested.
 
 ghost use Rattle.std.specs.Prelude.{◌≡◌, ℕ, ◌<◌, pos, ◌+ℤ◌, ◌≤ℤ◌, All, IfOk, IsTrue, length};
 ghost use Rattle.label_search.specs.Free.{Book};
@@ -74,7 +74,8 @@ fn is_bound(plan: &Plan, ahead: &List<Ahead>, place: usize) -> bool
     true
 }
 
-// Whether a move from a place with the wait before it takes the ticks by which it brings the end nearer.
+// Whether a move from a place with the wait before it takes the ticks by
+// which it brings the end nearer.
 fn is_least(place: &Place, step: &Move, here: &Ahead, there: &Ahead) -> bool
     requires dwell { IsShort place.now.dwell }
     requires run { IsShort step.now.run }

@@ -1,5 +1,5 @@
-//! The path that arrives first where no members are asked for: only what may end below a limit is searched, which
-//! grows until there is an end or no path can come.
+//! The path that arrives first where no members are asked for: only what may end below a limit is
+//! searched, which grows until there is an end or no path can come.
 
 ghost use Rattle.std.specs.Prelude.{◌≡◌, ◌⊎◌, ℤ, pos, ◌+ℤ◌, ◌<ℤ◌, ◌≤ℤ◌, false, All, IfOk, IsTrue};
 ghost use Rattle.label_search.specs.Plans.{IsPlan, IsShort};
@@ -29,7 +29,8 @@ pub(crate) struct Reach {
     pub(crate) slack: Tick,
 }
 
-/// Looks for a path that fits and arrives as early as any, by the ticks ahead of each place at least.
+/// Looks for a path that fits and arrives as early as any, by the ticks
+/// ahead of each place at least.
 pub fn find(
     alloc: Global,
     plan: &Plan,

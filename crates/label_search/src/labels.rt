@@ -1,11 +1,15 @@
 //! Labels: places with windows of ticks that the train can have there, and where these came from.
 
 ghost use Rattle.rail_types.specs.declared.limits.TheConstants.{FAR_TICK};
-ghost use Rattle.std.specs.Prelude.{◌≡◌, ℕ, ◌<◌, ◌≤◌, ℤ, ◌+ℤ◌, ◌<ℤ◌, ◌≤ℤ◌, [], ◌∷◌, ◌++◌, ◌↔◌, false, length, take, All, Bool as bool_type, IfOk, IsTrue, OnOk};
+ghost use Rattle.std.specs.Prelude.{◌≡◌, ℕ, ◌<◌, ◌≤◌, ℤ, ◌+ℤ◌, ◌<ℤ◌, ◌≤ℤ◌, [], ◌∷◌, ◌++◌, ◌↔◌};
+ghost use Rattle.std.specs.Prelude.{false, length, take, All, Bool as bool_type, IfOk, IsTrue};
+ghost use Rattle.std.specs.Prelude.{OnOk};
 ghost use Rattle.free_windows.specs.Free.{Holds};
 ghost use Rattle.rail_types.specs.Limits.{IsNear};
 ghost use Rattle.label_search.specs.Spans.{IsNearBelow};
-ghost use Rattle.label_search.specs.Labels.{AreFronts, AreJoined, GoesOn, HasAllFrom, IsCovered, IsGrown, IsIn, IsPartOf, IsSourceOf, IsReached, IsUnseen, as_front, as_member, label_at, members_of};
+ghost use Rattle.label_search.specs.Labels.{AreFronts, AreJoined, GoesOn, HasAllFrom, IsCovered};
+ghost use Rattle.label_search.specs.Labels.{IsGrown, IsIn, IsPartOf, IsSourceOf, IsReached};
+ghost use Rattle.label_search.specs.Labels.{IsUnseen, as_front, as_member, label_at, members_of};
 ghost use Rattle.std.specs.Prelude.{List as list_of};
 ghost use Rattle.label_search.specs.declared.labels.Front.{Front as front_type};
 ghost use Rattle.label_search.specs.Closed.{IsHeld};

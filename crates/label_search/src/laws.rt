@@ -13,8 +13,8 @@ ghost use Rattle.label_search.specs.Closed.{IsClosed, IsClosedBelow, IsHeld, bef
 
 use crate::plans::LATEST;
 
-/// Where members are closed no path is possible, and where they are closed for a window of arrival that ends before
-/// a tick, each path that fits arrives at that tick or later.
+/// Where members are closed no path is possible, and where they are closed for a window of arrival
+/// that ends before a tick, each path that fits arrives at that tick or later.
 pub fn closed_members_exclude_paths()
     ensures none { (plan : plan_type) (trip : trip_type) (book : Book) (members : List
         member_type) → IsClosed plan trip book members → Possible plan trip book → ⊥ }
@@ -24,8 +24,8 @@ pub fn closed_members_exclude_paths()
         → tick ≤ℤ arrival plan steps }
 {}
 
-/// Where members are closed below a limit and what is ahead of the places is consistent, each path that fits arrives
-/// at the limit or later.
+/// Where members are closed below a limit and what is ahead of the places is consistent, each path
+/// that fits arrives at the limit or later.
 pub fn closed_below_excludes_earlier_paths()
     ensures { (plan : plan_type) (trip : trip_type) (book : Book) (limits : limits_type) (members
         : List member_type) → IsConsistent plan limits.ahead
@@ -33,7 +33,8 @@ pub fn closed_below_excludes_earlier_paths()
         → IsPath plan trip steps → PathFits plan book steps → limits.below ≤ℤ arrival plan steps }
 {}
 
-/// Where nothing is ahead and the limit lies behind the horizon, members are closed below it where they are closed.
+/// Where nothing is ahead and the limit lies behind the horizon, members are closed
+/// below it where they are closed.
 pub fn closed_below_all_is_closed()
     ensures unlimited { (plan : plan_type) (limits : limits_type) → limits.ahead ≡ []
         → plan.horizon <ℤ limits.below → IsUnlimited plan limits }

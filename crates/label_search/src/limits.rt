@@ -1,7 +1,8 @@
 //! What a search may leave out.
 
 ghost use Rattle.std.specs.Prelude.{◌≡◌, [], All};
-ghost use Rattle.label_search.specs.Limits.{IsAhead, ahead_at as place_ahead, ahead_to as next_ahead};
+ghost use Rattle.label_search.specs.Limits.{IsAhead, ahead_at as place_ahead};
+ghost use Rattle.label_search.specs.Limits.{ahead_to as next_ahead};
 
 use crate::plans::Target;
 use rail_types::{FAR_TICK, List, Tick};
@@ -13,7 +14,8 @@ pub struct Ahead {
     pub ticks: Tick,
 }
 
-/// What is ahead of each place, nothing where the list has none, and a tick: what cannot end below it may be left out.
+/// What is ahead of each place, nothing where the list has none, and a tick: what cannot
+/// end below it may be left out.
 #[derive(Debug, Drop)]
 pub struct Limits {
     pub ahead: List<Ahead>,

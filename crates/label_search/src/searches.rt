@@ -1,16 +1,21 @@
 //! The search over labels, each explored once, in the order in which they came.
 
-ghost use Rattle.std.specs.Prelude.{◌≡◌, ◌⊎◌, ℕ, ◌+◌, ◌<◌, ◌≤◌, ℤ, pos, ◌+ℤ◌, ◌-ℤ◌, ◌<ℤ◌, ◌≤ℤ◌, false, true, length, All, Bool as bool_type, IfOk, IfSome, IsTrue, OnOk};
+ghost use Rattle.std.specs.Prelude.{◌≡◌, ◌⊎◌, ℕ, ◌+◌, ◌<◌, ◌≤◌, ℤ, pos, ◌+ℤ◌, ◌-ℤ◌, ◌<ℤ◌, ◌≤ℤ◌};
+ghost use Rattle.std.specs.Prelude.{false, true, length, All, Bool as bool_type, IfOk, IfSome};
+ghost use Rattle.std.specs.Prelude.{IsTrue, OnOk};
 ghost use Rattle.std.specs.Int.{int_max, int_min};
 ghost use Rattle.label_search.specs.Free.{Fits};
 ghost use Rattle.free_windows.specs.Free.{Holds};
 ghost use Rattle.rail_types.specs.Limits.{IsNear};
 ghost use Rattle.label_search.specs.Plans.{IsPlan, IsShort};
-ghost use Rattle.label_search.specs.Paths.{place_at as place_of, move_at as move_of, target_of, leave_of};
+ghost use Rattle.label_search.specs.Paths.{place_at as place_of, move_at as move_of, target_of};
+ghost use Rattle.label_search.specs.Paths.{leave_of};
 ghost use Rattle.label_search.specs.Closed.{IsFreeMove};
 ghost use Rattle.label_search.specs.Limits.{IsAhead, IsBelow, IsLimits, last_enter};
 ghost use Rattle.label_search.specs.Labels.{IsIn, IsReached};
-ghost use Rattle.label_search.specs.Search.{AreWaitsExplored, IsAdmitted, IsBeaten, IsExplored, IsExploredTo, IsFrontOf, IsFurther, IsMoveExplored, IsOneOf, IsSearch, IsStarted, IsWaited, step_at};
+ghost use Rattle.label_search.specs.Search.{AreWaitsExplored, IsAdmitted, IsBeaten, IsExplored};
+ghost use Rattle.label_search.specs.Search.{IsExploredTo, IsFrontOf, IsFurther, IsMoveExplored};
+ghost use Rattle.label_search.specs.Search.{IsOneOf, IsSearch, IsStarted, IsWaited, step_at};
 
 use crate::labels::{Front, Label, Labels, Origin};
 use crate::limits::{Ahead, Limits, ahead_to};
@@ -22,8 +27,8 @@ use occupation_book::Occupations;
 use rail_types::Window;
 use std::alloc::Global;
 
-/// An end: the place before it, whether the train had to be ready there, the number of the move, and the ticks of
-/// arrival, of which a path takes the first.
+/// An end: the place before it, whether the train had to be ready there, the number of the move,
+/// and the ticks of arrival, of which a path takes the first.
 #[derive(Clone, Copy, Debug)]
 pub struct Ending {
     pub place: u32,
@@ -126,7 +131,8 @@ fn departures(trip: &Trip, plan: &Plan) -> Window
     }
 }
 
-// Explores ticks of a place: the waits, where the train stands there and has not waited, else the moves.
+// Explores ticks of a place: the waits, where the train stands there and
+// has not waited, else the moves.
 fn explore(
     plan: &Plan,
     book: &Occupations,
@@ -402,7 +408,8 @@ pub(crate) fn move_at(plan: &Plan, place: u32, number: usize) -> &Move
     &place_at(plan, place).moves.as_slice()[number]
 }
 
-// The ticks of a label at which a move can be entered, leave by the horizon and end below the limit.
+// The ticks of a label at which a move can be entered, leave by the
+// horizon and end below the limit.
 fn enters(front: &Front, plan: &Plan, limits: &Limits, step: &Move) -> Window
     requires horizon { IsShort plan.now.horizon }
     requires run { IsShort step.now.run }
@@ -464,7 +471,8 @@ fn until_the_horizon(ticks: &Window, plan: &Plan) -> Window
     }
 }
 
-// The ticks at which the train can go on that stands at free ticks: it may leave as the last of them ends.
+// The ticks at which the train can go on that stands at free ticks: it may
+// leave as the last of them ends.
 fn ready_ticks(free: &Window, place: &Place, plan: &Plan) -> Window
     requires near { IsNear free.now.from × IsNear free.now.to }
     requires dwell { IsShort place.now.dwell }

@@ -21,8 +21,9 @@ pub enum Sought {
     NoPath(List<Member>),
 }
 
-/// Looks for a path that fits and arrives as early as any, below a limit. Beside it the members are closed below the
-/// limit for the trip that would arrive before it, and beside `NoPath` for the trip itself.
+/// Looks for a path that fits and arrives as early as any, below a limit. Beside it the
+/// members are closed below the limit for the trip that would arrive before it, and beside
+/// `NoPath` for the trip itself.
 pub fn search(
     alloc: Global,
     plan: &Plan,

@@ -1,5 +1,6 @@
 -- What a line is answered.
-use Rattle.std.specs.Prelude.{◌≡◌, ◌⊎◌, Bool, ℕ, ◌+◌, ◌<◌, ◌≤◌, List, [], ◌∷◌, ◌++◌, length, Option, Some, None, slice_get}
+use Rattle.std.specs.Prelude.{◌≡◌, ◌⊎◌, Bool, ℕ, ◌+◌, ◌<◌, ◌≤◌, List, [], ◌∷◌, ◌++◌, length, Option}
+use Rattle.std.specs.Prelude.{Some, None, slice_get}
 use Rattle.client_lines.specs.Cuts.{fields_of}
 use Rattle.client_lines.specs.Forms.{IsFirstWrong, Spells}
 use Rattle.client_lines.specs.Lines.{a_line}
@@ -30,8 +31,9 @@ use Rattle.tail_states.specs.Listed.{HasMoreThan}
 use Rattle.ask_turns.specs.Searched.{AreMissed, FitsAt, IsEarliestAt, IsPossibleAt}
 use Rattle.book_gate.specs.Views.{StartsWith}
 
--- Who sends a line: what the line may name, the timetable by which it is judged, the client's name, the number of the
--- line in its session, the first of the client's rules that says no to the line at a history, and whether it has rules.
+-- Who sends a line: what the line may name, the timetable by which it is judged, the client's name,
+-- the number of the line in its session, the first of the client's rules that says no to the line
+-- at a history, and whether it has rules.
 pub record Caller : Type 0 where
   pub known : Names
   pub timetable : Timetable
@@ -151,8 +153,8 @@ IsNarrowLine caller line =
 
 -- ---- the rows
 
--- A search was made for the line: its front is reached, its number is new, no rule denies it, and its places are not too
--- many.
+-- A search was made for the line: its front is reached, its number is new, no rule denies it, and
+-- its places are not too many.
 pub record IsSearched (caller : Caller) (line : Line) (number : ℕ) (request : Request)
     (h g : List Entry) : Type 0 where
   pub reached : IsReached line h
@@ -162,8 +164,8 @@ pub record IsSearched (caller : Caller) (line : Line) (number : ℕ) (request : 
   pub allowed : IsAllowed caller line h
   pub narrow : IsNarrow caller request
 
--- The path is one that a search found: it could be granted at some entries, a beginning of g that has all of h, and no path
--- that could be there leaves last earlier.
+-- The path is one that a search found: it could be granted at some entries, a beginning of g that
+-- has all of h, and no path that could be there leaves last earlier.
 pub record IsEarliestBetween (timetable : Timetable) (request : Request) (path : Path)
     (h g : List Entry) : Type 0 where
   pub searched : List Entry
@@ -171,15 +173,16 @@ pub record IsEarliestBetween (timetable : Timetable) (request : Request) (path :
   pub within : StartsWith g searched
   pub earliest : IsEarliestAt timetable request searched path
 
--- an entry for which the line asks joins the history, and its record has no room; for a path that is sought the entry of
--- one that keeps the request and fits
+-- an entry for which the line asks joins the history, and its record has no room; for a path that
+-- is sought the entry of one that keeps the request and fits
 abbrev pub IsFull : Caller → Ask → List Entry → Type 0
 IsFull caller ask g =
     (entry : Entry) × IsEntryOf caller ask entry × Joins caller.timetable g entry
     × HasNoRoom caller g entry
 
--- A line is answered so by the history: h is the one that the first turn of the call found, g the one that the last turn
--- found, and left what that turn left. The front that a reply tells is that of left.
+-- A line is answered so by the history: h is the one that the first turn of the call
+-- found, g the one that the last turn found, and left what that turn left. The front that
+-- a reply tells is that of left.
 abbrev pub Gives : Caller → Line → Reply → List Entry → List Entry → List Entry → Type 0
 Gives caller line (reply.Held number at front) h g left =
     IsHold line.ask × IsReached line h
@@ -259,8 +262,8 @@ Gives caller line (reply.Unsettled number at front) h g left =
 Gives caller line reply.DiskFault h g left = left ≡ g
 Gives caller line reply.NoMemory h g left = left ≡ g
 
--- the bytes of a line spell what is asked, and it is answered so; or its first wrong field is told, or memory was wanted
--- before it was read
+-- the bytes of a line spell what is asked, and it is answered so; or its first wrong field is told,
+-- or memory was wanted before it was read
 abbrev pub GivesLine : Caller → List ℕ → Reply → List Entry → List Entry → List Entry → Type 0
 GivesLine caller bytes (reply.Bad field) h g left =
     IsFirstWrong (a_line caller.known) (fields_of bytes) field × (left ≡ g)

@@ -27,8 +27,10 @@ HasRoomIn text told = (runs : ℕ) × IsBehindEntry runs told × (room_for runs 
 abbrev pub asking : Option ℕ → ℕ → Request → Line
 asking after number request = record { after = after; ask = asks.Path number request }
 
--- The reply of a call whose turns so far took the pass from v to u: one turn, in which the client's number was new.
-abbrev pub AnswersBehind : {D : Type 0} → Shared D → List ℕ → ℕ → ℕ → Request → Reply → Sight → Sight
+-- The reply of a call whose turns so far took the pass from v to u: one turn, in which
+-- the client's number was new.
+abbrev pub AnswersBehind : {D : Type 0} → Shared D → List ℕ → ℕ → ℕ → Request → Reply → Sight
+    → Sight
     → Type 0
 AnswersBehind shared name line_number number request told u w =
     (v : Sight) (after : Option ℕ) → Looks v u → IsReached after u.found.list

@@ -33,13 +33,15 @@ AnswersLine caller line told v w =
     (bytes : List ℕ) → IsReadAs caller.known bytes line → AnswersBetween caller bytes told v w
 
 -- *inside*: the reply to a line of that client, whatever rules it has that do not deny the line
-abbrev pub AnswersAllowed : {D : Type 0} → Shared D → List ℕ → ℕ → Line → Reply → Sight → Sight → Type 0
+abbrev pub AnswersAllowed : {D : Type 0} → Shared D → List ℕ → ℕ → Line → Reply → Sight → Sight
+    → Type 0
 AnswersAllowed shared name line_number line told v w =
     (rules : List Ruled) → denial rules line ≡ None
     → AnswersLine (caller_of shared rules name line_number) line told v w
 
 -- *inside*: the same where the first of its rules that denies the line is this one
-abbrev pub AnswersDenied : {D : Type 0} → Shared D → List ℕ → ℕ → Line → RuleName → Reply → Sight → Sight
+abbrev pub AnswersDenied : {D : Type 0} → Shared D → List ℕ → ℕ → Line → RuleName → Reply → Sight
+    → Sight
     → Type 0
 AnswersDenied shared name line_number line rule told v w =
     (rules : List Ruled) → denial rules line ≡ Some rule

@@ -1,5 +1,6 @@
 -- The turns of a call, and what they show of its reply.
-use Rattle.std.specs.Prelude.{◌≡◌, ◌≢◌, ◌⊎◌, ℕ, ◌+◌, ◌≤◌, Bool, true, false, All, Contains, List, [], ◌∷◌, ◌++◌, length, take}
+use Rattle.std.specs.Prelude.{◌≡◌, ◌≢◌, ◌⊎◌, ℕ, ◌+◌, ◌≤◌, Bool, true, false, All, Contains, List}
+use Rattle.std.specs.Prelude.{[], ◌∷◌, ◌++◌, length, take}
 use Rattle.book_gate.specs.declared.views.Turn.{Turn}
 use Rattle.book_gate.specs.Views.{StartsWith, own}
 use Rattle.client_lines.specs.Cuts.{fields_of}
@@ -23,14 +24,15 @@ use Rattle.line_answers.specs.Points.{added, unsettled_by}
 
 -- ---- events
 
--- an entry for which the bytes of a line ask: so it bears the client's name, the number of the line, and the number and
--- the deed that the line tells
+-- an entry for which the bytes of a line ask: so it bears the client's name, the number of the
+-- line, and the number and the deed that the line tells
 pub record IsOf (caller : Caller) (bytes : List ℕ) (entry : Entry) : Type 0 where
   pub line : Line
   pub spelled : Spells (a_line caller.known) (fields_of bytes) line
   pub own : IsEntryOf caller line.ask entry
 
--- an event of the client of this number in a world: a turn without an entry, or one with an entry for which the line asks
+-- an event of the client of this number in a world: a turn without an entry, or one with an
+-- entry for which the line asks
 abbrev pub IsEventOf : Caller → List ℕ → ℕ → Event → Type 0
 IsEventOf caller bytes client (event.Turn other) = other ≡ client
 IsEventOf caller bytes client (event.Commit other entry) =
@@ -57,7 +59,8 @@ TakesEvents caller bytes client old new =
 abbrev pub pair : List Entry → ℕ → Pair
 pair entries settled = record { entries = entries; settled = settled }
 
--- the turn is such an event, by what its marks say of beginnings of a history, whatever number the client has
+-- the turn is such an event, by what its marks say of beginnings of a history,
+-- whatever number the client has
 pub record IsTurnOf (caller : Caller) (bytes : List ℕ) (history : List Entry) (t : Turn)
     : Type 0 where
   pub grows : t.found.entries ≤ t.left.entries
@@ -85,14 +88,15 @@ pub record EndPending (turns : List Turn) : Type 0 where
   pub fault : EndInFault turns
   pub pending : fault.last.left.settled ≡ fault.last.found.entries
 
--- every turn first settles what is not settled; where that fails, or the own entry's writes do, the reply tells it, and an
--- entry that it calls unsettled is so
+-- every turn first settles what is not settled; where that fails, or the own entry's writes do, the
+-- reply tells it, and an entry that it calls unsettled is so
 abbrev pub Settle : Reply → List Turn → Type 0
 Settle reply.DiskFault turns = EndInFault turns
 Settle (reply.Unsettled number at front) turns = EndPending turns
 Settle other turns = All IsSettled turns
 
--- a line that cannot be read takes no turn; want of memory may come without one; every other reply has one
+-- a line that cannot be read takes no turn; want of memory may come without
+-- one; every other reply has one
 abbrev pub HasTurns : Reply → List Turn → Type 0
 HasTurns (reply.Bad field) turns = turns ≡ []
 HasTurns reply.NoMemory turns = Unit {0}
@@ -109,8 +113,8 @@ LastFound [] entries = Unit {0}
 LastFound (t ∷ []) entries = t.found.entries ≡ entries
 LastFound (t ∷ u ∷ us) entries = LastFound (u ∷ us) entries
 
--- the turn left all settled, or changed nothing, or added one entry that is not settled and stands at one of these
--- positions
+-- the turn left all settled, or changed nothing, or added one entry that is not settled and
+-- stands at one of these positions
 abbrev pub IsToldIn : List ℕ → Turn → Type 0
 IsToldIn unsettled t =
     (t.left.settled ≡ t.left.entries)
@@ -118,7 +122,8 @@ IsToldIn unsettled t =
     ⊎ ((t.left.settled ≡ t.found.entries) × (t.left.entries ≡ t.found.entries + 1)
     × Contains unsettled t.found.entries))
 
--- a line that is answered in one turn: all but a path that is sought, and a Free of a client that has rules
+-- a line that is answered in one turn: all but a path that is sought, and a
+-- Free of a client that has rules
 abbrev pub TakesOneTurn : Bool → Ask → Type 0
 TakesOneTurn ruled (asks.Hold number claims reason) = Unit {0}
 TakesOneTurn ruled (asks.Pin number path) = Unit {0}
@@ -144,8 +149,9 @@ AreLooks [] (entries ∷ others) = ⊥
 AreLooks (t ∷ turns) [] = ⊥
 AreLooks (t ∷ turns) (entries ∷ others) = IsLook t entries × AreLooks turns others
 
--- Where the reply is that each of three searches was missed, the call took four turns: each search stood at what the turn
--- before it found and left, and what the turn behind it found is where it was missed.
+-- Where the reply is that each of three searches was missed, the call took four turns:
+-- each search stood at what the turn before it found and left, and what the turn behind it
+-- found is where it was missed.
 abbrev pub AreSearches : Caller → List ℕ → Reply → List Turn → List Entry → List Entry → Type 0
 AreSearches caller bytes (reply.Again number at searched front) turns h g =
     (line : Line) × (request : Request) × Spells (a_line caller.known) (fields_of bytes) line
@@ -154,7 +160,8 @@ AreSearches caller bytes (reply.Again number at searched front) turns h g =
     × AreLooks turns (h ∷ missed.second ∷ missed.third ∷ g ∷ []))
 AreSearches caller bytes other turns h g = Unit {0}
 
--- The reply to a line over the turns of the call: the first found h, the last found g and left this.
+-- The reply to a line over the turns of the call: the first found h,
+-- the last found g and left this.
 pub record Answers (caller : Caller) (bytes : List ℕ) (told : Reply) (turns : List Turn)
     (h g left : List Entry) : Type 0 where
   pub gives : GivesLine caller bytes told h g left
@@ -170,7 +177,8 @@ pub record Answers (caller : Caller) (bytes : List ℕ) (told : Reply) (turns : 
       → TakesOneTurn caller.ruled line.ask → AreAtOnce turns h g
   pub searches : AreSearches caller bytes told turns h g
 
--- The call took the pass from v to w, and that reply answers the line. Where it took no turn, it saw nothing more.
+-- The call took the pass from v to w, and that reply answers the line. Where it took
+-- no turn, it saw nothing more.
 pub record AnswersBetween (caller : Caller) (bytes : List ℕ) (told : Reply) (v w : Sight)
     : Type 0 where
   pub turns : List Turn

@@ -16,10 +16,11 @@ use Rattle.reply_texts.specs.declared.replies.Reply.TheVariants as reply
 use Rattle.line_answers.specs.Answers.{Caller, IsAllowed, IsFull, IsNarrow, IsNewNumber, IsReached}
 use Rattle.line_answers.specs.Calls.{AnswersBetween}
 
--- Nothing hinders a path that a line seeks, in a call whose first turn found h and whose last one found g: the front that
--- the line names is reached, its number is new, no rule denies it, its places are not too many, some path that keeps the
--- request fits, and none that joins the history lacks room in the journal; no entry came between the first turn and the
--- last, and in no turn the count of faults rose.
+-- Nothing hinders a path that a line seeks, in a call whose first turn found h and whose last
+-- one found g: the front that the line names is reached, its number is new, no rule denies it,
+-- its places are not too many, some path that keeps the request fits, and none that joins the
+-- history lacks room in the journal; no entry came between the first turn and the last, and in
+-- no turn the count of faults rose.
 pub record IsUnhindered (caller : Caller) (line : Line) (turns : List Turn) (h g : List Entry)
     : Type 0 where
   pub number : ℕ
@@ -40,8 +41,8 @@ IsGranted (reply.Granted number at front runs) = Unit {0}
 IsGranted reply.NoMemory = Unit {0}
 IsGranted other = ⊥
 
--- The reply to the bytes of a line, of a call that took the pass from v to w: where they seek a path that nothing hinders, it
--- is granted, or memory was wanted.
+-- The reply to the bytes of a line, of a call that took the pass from v to w: where they seek a
+-- path that nothing hinders, it is granted, or memory was wanted.
 abbrev pub GrantsIfUnhindered : Caller → List ℕ → Reply → Sight → Sight → Type 0
 GrantsIfUnhindered caller bytes told v w =
     (answers : AnswersBetween caller bytes told v w) → (line : Line)

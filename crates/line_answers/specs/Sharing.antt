@@ -6,8 +6,8 @@ use Rattle.tail_states.specs.Following.{AreFollowers}
 use Rattle.client_turns.specs.Turns.{timetable_at}
 use Rattle.line_answers.specs.declared.shared.Shared.{Shared}
 
--- what lines may name is of the network that the gate's book goes by, with the blocks that follow one another there, and
--- the settings are the book's
+-- what lines may name is of the network that the gate's book goes by, with the blocks that follow
+-- one another there, and the settings are the book's
 pub record IsShared {D : Type 0} (shared : Shared D) : Type 0 where
   pub known : AreSound shared.known
   pub network : shared.known.railway.network ≡ (timetable_at shared.gate).net

@@ -22,7 +22,8 @@ halt_reply halt.DiskFault = reply.DiskFault
 halt_reply halt.NoMemory = reply.NoMemory
 halt_reply (halt.Ahead after front) = reply.Ahead after front
 
--- verdicts that a hold, a path of a client's own, and a Free may be told, but that they are kept or fresh
+-- verdicts that a hold, a path of a client's own, and a Free may be told,
+-- but that they are kept or fresh
 abbrev pub IsOfHold : Verdict → Type 0
 IsOfHold (verdict.Gone at freer) = Unit {0}
 IsOfHold (verdict.Other at) = Unit {0}

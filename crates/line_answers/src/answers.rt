@@ -36,12 +36,13 @@ use reply_texts::{Reply, replies_have_room, reply_room, reply_text};
 use std::alloc::Global;
 use std::sync::Wait;
 
-/// Answers one line of a client, of so many bytes without its end, in at most four turns: the reply, whose text comes
-/// behind what stood in the buffer. For want of memory for the text nothing comes there, and nothing was added to the
-/// history. `between` is called behind each search that found a path. The client's rules are asked as they stand, and
-/// told of the entry that the reply tells as the line's own. Where proofs are wanted and the reply tells that a path was
-/// granted or that there is none, the text of a proof takes the place of what the buffer of the proof held; else that
-/// buffer is emptied. A path that nothing hinders is granted, unless memory is wanted.
+/// Answers one line of a client, of so many bytes without its end, in at most four turns: the
+/// reply, whose text comes behind what stood in the buffer. For want of memory for the text nothing
+/// comes there, and nothing was added to the history. `between` is called behind each search that
+/// found a path. The client's rules are asked as they stand, and told of the entry that the reply
+/// tells as the line's own. Where proofs are wanted and the reply tells that a path was granted or
+/// that there is none, the text of a proof takes the place of what the buffer of the proof held;
+/// else that buffer is emptied. A path that nothing hinders is granted, unless memory is wanted.
 pub fn answer_one<R: Wait, L: Rule, D: Disk, B: Between>(
     rt: &R,
     alloc: Global,
@@ -114,7 +115,8 @@ pub fn answer_one<R: Wait, L: Rule, D: Disk, B: Between>(
     Ok(reply)
 }
 
-// Reads a line and answers it. There is room for the reply, or it tells of no entry that was added and of no fault.
+// Reads a line and answers it. There is room for the reply, or it tells of no entry
+// that was added and of no fault.
 fn answer_bytes<R: Wait, L: Rule, D: Disk, B: Between>(
     rt: &R,
     alloc: Global,

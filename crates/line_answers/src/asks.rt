@@ -89,7 +89,8 @@ pub(crate) fn ask<R: Wait, D: Disk, B: Between>(
     }
 }
 
-// The grant of a path without runs for a request: of a path that is asked for the request alone counts.
+// The grant of a path without runs for a request: of a path that is asked
+// for the request alone counts.
 pub(crate) fn deed_of(alloc: Global, request: &Request) -> Result<Deed, NoMemory>
     ensures { IfOk result (λ deed.
         (path : path_type) × (deed ≡ Grant (Asked request.now) path)) }

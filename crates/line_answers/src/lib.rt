@@ -1,4 +1,5 @@
-//! A client's line and its answer: the line is read, takes a turn, and is told what the history says of it.
+//! A client's line and its answer: the line is read, takes a turn, and is told
+//! what the history says of it.
 #![tactic(auto)]
 
 mod answers;

@@ -6,7 +6,9 @@ ghost use Rattle.byte_fields.specs.Buffered.{Buffered};
 ghost use Rattle.reply_texts.specs.Rooms.{room_for};
 ghost use Rattle.line_answers.specs.Asked.{HasRoomIn, IsOutcomeTold, TellsAsk, TellsPath};
 ghost use Rattle.line_answers.specs.Proved.{kept_text};
-ghost use Rattle.line_answers.specs.Tells.{AddsNothing, IsFreeTold, IsHoldTold, IsPinTold, TellsAgain, TellsFree, TellsHold, TellsPin, fault_reply, halt_reply};
+ghost use Rattle.line_answers.specs.Tells.{AddsNothing, IsFreeTold, IsHoldTold, IsPinTold};
+ghost use Rattle.line_answers.specs.Tells.{TellsAgain, TellsFree, TellsHold, TellsPin, fault_reply};
+ghost use Rattle.line_answers.specs.Tells.{halt_reply};
 
 use ask_turns::Outcome;
 use byte_fields::Buffer;
@@ -223,7 +225,8 @@ fn path_told(number: u64, entered: Entered, runs: List<Run>, front: u64) -> Repl
     }
 }
 
-// Keeps the text of a proof where one is wanted and stands beside the reply, and empties the buffer else.
+// Keeps the text of a proof where one is wanted and stands beside the reply,
+// and empties the buffer else.
 pub(crate) fn keep_proof(proves: bool, reply: &Reply, proof: &mut Buffer)
     ensures { proof.new.held ≡ kept_text proves reply.now proof.old.held }
 {

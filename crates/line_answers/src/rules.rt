@@ -14,7 +14,8 @@ ghost use Rattle.line_answers.specs.Asked.{HasRoomIn};
 ghost use Rattle.line_answers.specs.Callers.{AnswersDenied, AnswersLine, caller_of};
 ghost use Rattle.line_answers.specs.Points.{added};
 ghost use Rattle.line_answers.specs.Proved.{ShowsLine};
-ghost use Rattle.line_answers.specs.Rules.{IsNoFree, IsSentWith, TellsLine, is_some_added, told_free, told_grant, wished};
+ghost use Rattle.line_answers.specs.Rules.{IsNoFree, IsSentWith, TellsLine, is_some_added};
+ghost use Rattle.line_answers.specs.Rules.{told_free, told_grant, wished};
 ghost use Rattle.line_answers.specs.Sharing.{IsShared};
 ghost use Rattle.line_answers.specs.Tells.{AddsNothing};
 
@@ -326,8 +327,8 @@ fn deny_deed<R: Wait, D: Disk>(
     }
 }
 
-// Frees an entry of a client with rules: what it had been granted is known before it is freed, so that the rules can be
-// told of it.
+// Frees an entry of a client with rules: what it had been granted is known before it is freed, so
+// that the rules can be told of it.
 fn free_ruled<R: Wait, L: Rule, D: Disk>(
     rt: &R,
     alloc: Global,

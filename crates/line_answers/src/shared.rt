@@ -7,8 +7,8 @@ use path_commit::Book;
 use rail_types::Settings;
 use tail_states::Followers;
 
-/// The gate that keeps the book, what lines may name, the settings of the book's timetable, and which blocks of its
-/// network follow one another.
+/// The gate that keeps the book, what lines may name, the settings of the book's timetable, and
+/// which blocks of its network follow one another.
 #[derive(Drop)]
 pub struct Shared<D: Disk> {
     pub gate: Gate<Book<D>>,

@@ -2,7 +2,10 @@
 ghost use Rattle.std.specs.Prelude.{◌≡◌, ◌+◌, ◌⊎◌, ◌≤◌};
 ghost use Rattle.book_gate.specs.Passes.{turns_left, view};
 ghost use Rattle.client_lines.specs.Within.{IsAskWithin};
-ghost use Rattle.client_lines.specs.declared.asks.Ask.TheVariants.{Hold as hold_of, Pin as pin_of, Free as free_of, Show as show_of, Front as front_of};
+ghost use Rattle.client_lines.specs.declared.asks.Ask.TheVariants.{Hold as hold_of, Pin as pin_of};
+ghost use Rattle.client_lines.specs.declared.asks.Ask.TheVariants.{Free as free_of};
+ghost use Rattle.client_lines.specs.declared.asks.Ask.TheVariants.{Show as show_of};
+ghost use Rattle.client_lines.specs.declared.asks.Ask.TheVariants.{Front as front_of};
 ghost use Rattle.rail_types.specs.Limits.{IsClientName};
 ghost use Rattle.reply_texts.specs.Rooms.{IsBehindEntry};
 ghost use Rattle.client_turns.specs.Clients.{Knows};

@@ -1,5 +1,6 @@
 -- How a session ends, and what its source gave and its sink got.
-use Rattle.std.specs.Prelude.{◌≡◌, ◌≢◌, ◌⊎◌, ℕ, ◌<◌, ◌≤◌, List, [], ◌∷◌, ◌++◌, length, take, All, Option}
+use Rattle.std.specs.Prelude.{◌≡◌, ◌≢◌, ◌⊎◌, ℕ, ◌<◌, ◌≤◌, List, [], ◌∷◌, ◌++◌, length, take, All}
+use Rattle.std.specs.Prelude.{Option}
 use Rattle.std.specs.Io.KnownBytes.{Appends, Consumes, IsAtEnd}
 use Rattle.outside_io.specs.Stops.{ReadStopsAt, StopsAt}
 use Rattle.client_lines.specs.declared.lines.TheConstants.{MAX_LINE_BYTES}
@@ -9,14 +10,16 @@ use Rattle.reply_texts.specs.declared.replies.Reply.TheVariants as reply
 use Rattle.line_sessions.specs.declared.sessions.TheConstants.{MAX_LINES}
 use Rattle.line_sessions.specs.declared.sessions.Ended.{Ended}
 use Rattle.line_sessions.specs.declared.sessions.Why.{Why}
-use Rattle.line_sessions.specs.declared.sessions.Why.TheVariants.{Input, ReadFault, WriteFault, LongLine, LineCount, Memory}
+use Rattle.line_sessions.specs.declared.sessions.Why.TheVariants.{Input, ReadFault, WriteFault}
+use Rattle.line_sessions.specs.declared.sessions.Why.TheVariants.{LongLine, LineCount, Memory}
 use Rattle.line_sessions.specs.Lines.{lines_of, ended, IsLine, HasNoEnd}
 use Rattle.line_sessions.specs.Proofs.{faults_by, held_by, is_wanted}
 use Rattle.line_sessions.specs.declared.proofs.Proofs.{Proofs}
 use Rattle.line_sessions.specs.Told.{Told, lines_told, proofs_told, text_told, AreAnswered}
 
--- what a session took out of its source, what it put into the sink of the replies and into that of their proofs, and the
--- lines that were answered; where no proofs are wanted their text still counts as proved, and no sink gets it
+-- what a session took out of its source, what it put into the sink of the replies and into that of
+-- their proofs, and the lines that were answered; where no proofs are wanted their text still
+-- counts as proved, and no sink gets it
 pub record Traffic : Type 0 where
   pub taken : List ℕ
   pub gained : List ℕ
@@ -25,27 +28,30 @@ pub record Traffic : Type 0 where
 
 -- ---- the lines
 
--- the bytes taken are these lines, each with its end, and then a rest; none of the lines is too long, nor are they too
--- many
+-- the bytes taken are these lines, each with its end, and then a rest; none of the lines is
+-- too long, nor are they too many
 pub record Begins (taken : List ℕ) (lines : List (List ℕ)) (rest : List ℕ) : Type 0 where
   pub text : taken ≡ ended lines ++ rest
   pub lines_are : All IsLine lines
   pub count : length lines ≤ MAX_LINES
 
--- the bytes taken are the whole of these lines; none of the lines is too long, nor are they too many
+-- the bytes taken are the whole of these lines; none of the lines is
+-- too long, nor are they too many
 pub record AreAll (taken : List ℕ) (lines : List (List ℕ)) : Type 0 where
   pub text : lines ≡ lines_of taken
   pub lines_are : All IsLine lines
   pub count : length lines ≤ MAX_LINES
 
--- the source is at its end and the lines are those of the whole input, or they are those of its beginning
+-- the source is at its end and the lines are those of the whole input, or
+-- they are those of its beginning
 abbrev pub AreLinesOf : Type 0 → List ℕ → List (List ℕ) → Type 0
 AreLinesOf AtEnd taken lines =
     (AtEnd × AreAll taken lines) ⊎ ((rest : List ℕ) × Begins taken lines rest)
 
 -- ---- the replies
 
--- the replies to these lines and their proofs are all that the sinks gained, and so many lines are counted
+-- the replies to these lines and their proofs are all that the sinks gained,
+-- and so many lines are counted
 pub record AreCounted (gained proved : List ℕ) (told : List Told) (lines : ℕ) : Type 0 where
   pub replies : gained ≡ text_told told
   pub proofs : proved ≡ proofs_told told
@@ -90,7 +96,8 @@ pub record EndsAtLineCount (traffic : Traffic) (lines : ℕ) : Type 0 where
 abbrev pub told_wanting : List ℕ → Told
 told_wanting line = record { line = line; reply = reply.NoMemory; proof = [] }
 
--- nothing was answered behind these lines, or memory was wanted for the reply to one more, of which the sinks got nothing
+-- nothing was answered behind these lines, or memory was wanted for the reply to one more,
+-- of which the sinks got nothing
 abbrev pub IsWantedBehind : List Told → List Told → Type 0
 IsWantedBehind told counted =
     (told ≡ counted) ⊎ ((line : List ℕ) × (told ≡ counted ++ told_wanting line ∷ []))
@@ -102,8 +109,8 @@ pub record EndsAtMemory (traffic : Traffic) (lines : ℕ) (AtEnd : Type 0) : Typ
   pub wanted : IsWantedBehind traffic.told before
   pub counted : AreCounted traffic.gained traffic.proved before lines
 
--- The sinks took the replies to some lines and their proofs whole, and of the last line's proof and reply a part: of the
--- reply never all, and nothing where the proof is not whole.
+-- The sinks took the replies to some lines and their proofs whole, and of the last line's proof and
+-- reply a part: of the reply never all, and nothing where the proof is not whole.
 pub record EndsAtWriteFault (traffic : Traffic) (lines : ℕ) (AtEnd : Type 0) : Type 0 where
   pub before : List Told
   pub last : Told
@@ -117,7 +124,8 @@ pub record EndsAtWriteFault (traffic : Traffic) (lines : ℕ) (AtEnd : Type 0) :
   pub gained : traffic.gained ≡ text_told before ++ take part (reply_text last.reply)
   pub number : lines ≡ length before
 
--- what an end says of what passed, where so many lines are counted and AtEnd is that the source is at its end
+-- what an end says of what passed, where so many lines are counted and AtEnd is
+-- that the source is at its end
 abbrev pub EndsBy : Why → Traffic → ℕ → Type 0 → Type 0
 EndsBy Input traffic lines AtEnd = EndsAtInput traffic lines AtEnd
 EndsBy ReadFault traffic lines AtEnd = EndsAtReadFault traffic lines
@@ -152,7 +160,8 @@ pub record StopsInReply {Src Snk : Type 0} (streams : Streams Src Snk) (traffic 
   pub whole : traffic.proved ≡ proofs_told traffic.told
   pub quiet : faults_by streams.write_faults proofs' ≡ faults_by streams.write_faults proofs
 
--- the sink of the proofs failed within the last proof, and of its reply, behind so many others, nothing was written
+-- the sink of the proofs failed within the last proof, and of its reply, behind so
+-- many others, nothing was written
 pub record StopsInProof {Src Snk : Type 0} (streams : Streams Src Snk) (lines : ℕ)
     (traffic : Traffic) (sink sink' : Snk) (proofs proofs' : Proofs Snk) : Type 0 where
   pub stops : StopsAt (held_by streams.held) (faults_by streams.write_faults)
@@ -161,8 +170,8 @@ pub record StopsInProof {Src Snk : Type 0} (streams : Streams Src Snk) (lines : 
   pub nothing : traffic.gained ≡ text_told (take lines traffic.told)
   pub quiet : streams.write_faults sink' ≡ streams.write_faults sink
 
--- A session ended so, and this passed between the states of its source and its sinks before and after. A fault of any of
--- them ends a session at once.
+-- A session ended so, and this passed between the states of its source and its sinks before and
+-- after. A fault of any of them ends a session at once.
 pub record Passes {Src Snk : Type 0} (streams : Streams Src Snk) (ended : Ended)
     (traffic : Traffic) (source source' : Src) (sink sink' : Snk)
     (proofs proofs' : Proofs Snk) : Type 0 where

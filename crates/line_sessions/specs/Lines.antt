@@ -19,7 +19,8 @@ without_empty_last [] = []
 without_empty_last (part ∷ []) = unless_empty part
 without_empty_last (part ∷ next ∷ parts) = part ∷ without_empty_last (next ∷ parts)
 
--- the lines of a whole input: each ends with the line end, and a last one without it counts where it is not empty
+-- the lines of a whole input: each ends with the line end, and a last one without it
+-- counts where it is not empty
 abbrev pub lines_of : List ℕ → List (List ℕ)
 lines_of input = without_empty_last (slice_split (λ byte. nat_eq byte line_end) input)
 

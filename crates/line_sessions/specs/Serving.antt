@@ -8,7 +8,9 @@ use Rattle.reply_texts.specs.declared.replies.Reply.TheVariants as reply
 use Rattle.line_sessions.specs.Proofs.{faults_by, held_by}
 use Rattle.line_sessions.specs.declared.proofs.Proofs.{Proofs}
 use Rattle.line_sessions.specs.declared.sessions.Answered.{Answered}
-use Rattle.line_sessions.specs.declared.sessions.Answered.TheVariants.{Whole, WriteFault as part_written, Memory as no_memory}
+use Rattle.line_sessions.specs.declared.sessions.Answered.TheVariants.{Whole}
+use Rattle.line_sessions.specs.declared.sessions.Answered.TheVariants.{WriteFault as part_written}
+use Rattle.line_sessions.specs.declared.sessions.Answered.TheVariants.{Memory as no_memory}
 use Rattle.line_sessions.specs.declared.sessions.Ended.{Ended}
 use Rattle.line_sessions.specs.declared.sessions.Why.TheVariants.{Input, WriteFault, Memory}
 
@@ -23,7 +25,8 @@ module _ {Desk Snk : Type 0} (answers : Desk → ℕ → List ℕ → Reply → 
     pub proved : Appends (held_by held proofs) (held_by held proofs') proof
     pub wrote : Appends (held sink) (held sink') (reply_text reply)
 
-  -- the proof was taken whole, and then the sink of the reply failed before it took the whole of that
+  -- the proof was taken whole, and then the sink of the reply failed
+  -- before it took the whole of that
   pub record TellsPart (old : Desk) (number : ℕ) (line : List ℕ) (new : Desk)
       (sink sink' : Snk) (proofs proofs' : Proofs Snk) : Type 0 where
     pub reply : Reply
@@ -35,7 +38,8 @@ module _ {Desk Snk : Type 0} (answers : Desk → ℕ → List ℕ → Reply → 
     pub stops : StopsAt held faults sink sink' (take part (reply_text reply))
     pub proper : part < length (reply_text reply)
 
-  -- the sink of the proof failed before it took the whole of that, and nothing of the reply was written
+  -- the sink of the proof failed before it took the whole of that, and
+  -- nothing of the reply was written
   pub record ProvesPart (old : Desk) (number : ℕ) (line : List ℕ) (new : Desk)
       (sink sink' : Snk) (proofs proofs' : Proofs Snk) : Type 0 where
     pub reply : Reply

@@ -4,7 +4,8 @@ use Rattle.std.specs.Io.KnownBytes.{Consumes, IsAtEnd, Keeps}
 use Rattle.outside_io.specs.Faults.{Rose}
 use Rattle.client_lines.specs.declared.lines.TheConstants.{MAX_LINE_BYTES}
 use Rattle.line_sessions.specs.declared.streams.Step.{Step}
-use Rattle.line_sessions.specs.declared.streams.Step.TheVariants.{Line, Last, End, LongLine, ReadFault, Memory as step_memory}
+use Rattle.line_sessions.specs.declared.streams.Step.TheVariants.{Line, Last, End, LongLine}
+use Rattle.line_sessions.specs.declared.streams.Step.TheVariants.{ReadFault, Memory as step_memory}
 use Rattle.line_sessions.specs.declared.streams.Found.{Found}
 use Rattle.line_sessions.specs.declared.streams.Found.TheVariants.{Ending, Part, TooMany, Memory}
 use Rattle.line_sessions.specs.declared.streams.More.{More}
@@ -55,7 +56,8 @@ pub record CamePart (left left' : Option (List ℕ)) (pending : List ℕ) : Type
   pub partial : HasNoEnd rest
   pub short : length rest ≤ MAX_LINE_BYTES
 
--- a part of a line came up to some state without a fault, and then the source failed, and gave nothing more
+-- a part of a line came up to some state without a fault, and then the source
+-- failed, and gave nothing more
 pub record PartThenFault {Src : Type 0} (left : Src → Option (List ℕ)) (faults : Src → ℕ)
     (src src' : Src) (pending : List ℕ) : Type 0 where
   pub at_fault : Src

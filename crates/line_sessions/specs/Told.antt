@@ -3,7 +3,8 @@ use Rattle.std.specs.Prelude.{◌≡◌, ℕ, ◌+◌, List, [], ◌∷◌, flat
 use Rattle.reply_texts.specs.Replies.{reply_text}
 use Rattle.reply_texts.specs.declared.replies.Reply.{Reply}
 
--- a line, the reply that it was told, and the text of the reply's proof, which is empty where it has none
+-- a line, the reply that it was told, and the text of the reply's proof,
+-- which is empty where it has none
 pub record Told : Type 0 where
   pub line : List ℕ
   pub reply : Reply
@@ -21,8 +22,8 @@ text_told told = flat_map (λ one. reply_text one.reply) told
 abbrev pub proofs_told : List Told → List ℕ
 proofs_told told = flat_map (λ one. one.proof) told
 
--- the desk answered these lines one after another, the first of which has this number, and came from one state to the
--- other
+-- the desk answered these lines one after another, the first of which has this number, and
+-- came from one state to the other
 abbrev pub AreAnswered : {Desk : Type 0}
     → (Desk → ℕ → List ℕ → Reply → List ℕ → Desk → Type 0)
     → ℕ → List Told → Desk → Desk → Type 0

@@ -14,8 +14,8 @@ use std::sync::Wait;
 
 /// Answers the lines of one client, one after another.
 pub trait Desk {
-    /// A line of this number, counted from 1, was told this reply, with a proof of this text, which took the desk from one
-    /// state to the other.
+    /// A line of this number, counted from 1, was told this reply, with a proof of this text, which
+    /// took the desk from one state to the other.
     ghost answers: { Self → ℕ → List ℕ → reply_type → List ℕ → Self → Type 0 };
 
     /// How many lines it may still be asked at least.
@@ -24,8 +24,9 @@ pub trait Desk {
     /// What it needs before an answer, and keeps.
     ghost is_sound: { Self → Type 0 };
 
-    /// Answers a line, and appends the reply's text. The text of the reply's proof takes the place of what `proof` held; it
-    /// is empty where the reply has no proof. Where memory is wanted the reply's text is as before.
+    /// Answers a line, and appends the reply's text. The text of the reply's proof takes the
+    /// place of what `proof` held; it is empty where the reply has no proof. Where memory is
+    /// wanted the reply's text is as before.
     fn answer<R: Wait>(
         &mut self,
         rt: &R,

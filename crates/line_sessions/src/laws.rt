@@ -5,7 +5,8 @@ ghost use Rattle.client_lines.specs.declared.lines.TheConstants.{MAX_LINE_BYTES}
 ghost use Rattle.line_sessions.specs.declared.sessions.TheConstants.{MAX_LINES};
 ghost use Rattle.line_sessions.specs.Lines.{ended, HasNoEnd, lines_of, unless_empty};
 
-/// An input is cut at its line ends: behind lines with their ends a last part counts where it is not empty.
+/// An input is cut at its line ends: behind lines with their ends a last part
+/// counts where it is not empty.
 pub fn inputs_are_cut_at_line_ends()
     ensures { (lines : List (List ℕ)) (rest : List ℕ) → All HasNoEnd lines → HasNoEnd rest
         → lines_of (ended lines ++ rest) ≡ lines ++ unless_empty rest }

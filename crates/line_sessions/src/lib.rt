@@ -1,5 +1,5 @@
-//! The session of one client: lines cut out of a source, each answered by a desk, the replies put into a sink, and before
-//! each its proof into another one, where proofs are wanted.
+//! The session of one client: lines cut out of a source, each answered by a desk, the replies put
+//! into a sink, and before each its proof into another one, where proofs are wanted.
 #![tactic(auto)]
 
 mod cuts;

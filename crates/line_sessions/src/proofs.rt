@@ -27,10 +27,11 @@ impl<T: Sink> Proofs<T> {
         }
     }
 
-    // Puts the text of a proof into the sink, if there is one. `Stopped` comes only where that sink failed in this call, and
-    // it then took the first `taken` bytes.
+    // Puts the text of a proof into the sink, if there is one. `Stopped` comes only where that sink
+    // failed in this call, and it then took the first `taken` bytes.
     pub(crate) fn put(&mut self, text: &[u8]) -> Result<(), Stopped>
-        ensures all { OnOk result (Appends (held_by T.held self.old) (held_by T.held self.new) text.now) }
+        ensures all { OnOk result
+            (Appends (held_by T.held self.old) (held_by T.held self.new) text.now) }
         ensures quiet { OnOk result (faults_by T.faults self.new ≡ faults_by T.faults self.old) }
         ensures part { IfErr result (λ stop. stop.taken < length text.now) }
         ensures stopped { IfErr result (λ stop. StopsAt (held_by T.held) (faults_by T.faults)

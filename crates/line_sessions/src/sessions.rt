@@ -61,8 +61,9 @@ struct Texts {
     proof: Buffer,
 }
 
-/// Serves a client: the desk answers each line of the source, one after another, and the sink gets each reply. Where
-/// proofs are wanted their sink gets the proof of a reply before that reply is written.
+/// Serves a client: the desk answers each line of the source, one after another, and the
+/// sink gets each reply. Where proofs are wanted their sink gets the proof of a reply
+/// before that reply is written.
 pub fn serve_lines<R: Wait, K: Desk, S: Source, T: Sink>(
     rt: &R,
     alloc: Global,

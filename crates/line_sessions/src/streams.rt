@@ -3,7 +3,8 @@
 ghost use Rattle.std.specs.Prelude.{◌≡◌, ◌≢◌, ◌≤◌, [], length, IfOk};
 ghost use Rattle.client_lines.specs.declared.lines.TheConstants.{MAX_LINE_BYTES};
 ghost use Rattle.outside_io.specs.Faults.{Rose};
-ghost use Rattle.line_sessions.specs.Streams.{IsLastStep, PartThenFault, Says, SaysFound, SaysMore, SaysRefilled};
+ghost use Rattle.line_sessions.specs.Streams.{IsLastStep, PartThenFault, Says, SaysFound, SaysMore};
+ghost use Rattle.line_sessions.specs.Streams.{SaysRefilled};
 
 use crate::cuts::cut_at;
 use byte_fields::Buffer;
@@ -82,7 +83,8 @@ impl Model for LineReader {
 }
 
 impl LineReader {
-    /// A reader that holds nothing. It takes the memory for what it reads at once and for the longest line.
+    /// A reader that holds nothing. It takes the memory for what it reads at
+    /// once and for the longest line.
     pub fn new(alloc: Global) -> Result<LineReader, NoMemory>
         ensures { IfOk result (λ reader. reader.pending ≡ []) }
     {

@@ -1,5 +1,6 @@
 -- Lines that ask for a path.
-use Rattle.std.specs.Prelude.{ℕ, ◌+◌, Bool, List, [], ◌∷◌, Option, None, Some, bytes_eq, codes, get_or, if◌then◌else◌}
+use Rattle.std.specs.Prelude.{ℕ, ◌+◌, Bool, List, [], ◌∷◌, Option, None, Some, bytes_eq, codes}
+use Rattle.std.specs.Prelude.{get_or, if◌then◌else◌}
 use Rattle.client_lines.specs.Cuts.{fields_of}
 
 -- the first field of a line
@@ -10,7 +11,8 @@ first_field line = get_or (fields_of line) 0 []
 abbrev pub is_ask : List ℕ → Bool
 is_ask line = bytes_eq (first_field line) (codes "ask")
 
--- the number of the first line whose first field is not `ask`, where the first of these lines has this number
+-- the number of the first line whose first field is not `ask`, where the first
+-- of these lines has this number
 abbrev pub first_no_ask : ℕ → List (List ℕ) → Option ℕ
 first_no_ask number [] = None
 first_no_ask number (line ∷ lines) =

@@ -6,12 +6,13 @@ use Rattle.line_sessions.specs.Ends.{AreAll, Begins}
 use Rattle.line_sessions.specs.Lines.{HasNoEnd}
 use Rattle.line_sessions.specs.declared.sessions.TheConstants.{MAX_LINES}
 use Rattle.list_lines.specs.declared.lists.ListFault.{ListFault}
-use Rattle.list_lines.specs.declared.lists.ListFault.TheVariants.{ReadFault, LongLine, LineCount, Memory}
+use Rattle.list_lines.specs.declared.lists.ListFault.TheVariants.{ReadFault, LongLine, LineCount}
+use Rattle.list_lines.specs.declared.lists.ListFault.TheVariants.{Memory}
 use Rattle.outside_io.specs.Stops.{ReadStopsAt}
 use Rattle.outside_io.specs.declared.sources.Source.{Ghosts as Sources}
 
--- the source was read to its end without a fault, and these are its lines, none of which is too long, nor are they too
--- many
+-- the source was read to its end without a fault, and these are its lines, none of which is
+-- too long, nor are they too many
 pub record IsWhole {Src : Type 0} (source : Sources Src) (before after : Src)
     (lines : List (List ℕ)) : Type 0 where
   pub taken : List ℕ

@@ -1,5 +1,6 @@
 -- The numbers by which lines ask.
-use Rattle.std.specs.Prelude.{◌≡◌, ℕ, Bool, List, [], ◌∷◌, ◌++◌, Option, None, Some, if◌then◌else◌, nat_eq}
+use Rattle.std.specs.Prelude.{◌≡◌, ℕ, Bool, List, [], ◌∷◌, ◌++◌, Option, None, Some, if◌then◌else◌}
+use Rattle.std.specs.Prelude.{nat_eq}
 use Rattle.std.specs.List.{list_any}
 use Rattle.client_lines.specs.Cuts.{fields_of}
 use Rattle.client_lines.specs.Forms.{Spells}
@@ -39,7 +40,8 @@ NumbersAreOne = (known : Names) (lines : List (List ℕ)) (numbers others : List
 abbrev pub has : List ℕ → ℕ → Bool
 has numbers number = list_any (nat_eq number) numbers
 
--- the first number that is the one of an earlier line, where these are the numbers of the lines before
+-- the first number that is the one of an earlier line, where these are
+-- the numbers of the lines before
 abbrev pub first_repeat : List ℕ → List (Option ℕ) → Option ℕ
 first_repeat before [] = None
 first_repeat before (None ∷ numbers) = first_repeat before numbers

@@ -7,7 +7,8 @@ ghost use Rattle.list_lines.specs.Asks.{first_field, first_no_ask, is_ask};
 use line_sessions::cut_at;
 use rail_types::Name;
 
-/// The number of the first line, counted from 1, whose first field is not `ask`, and None where there is none.
+/// The number of the first line, counted from 1, whose first field is not `ask`,
+/// and None where there is none.
 pub fn first_no_ask(lines: &[Name]) -> Option<u32>
     requires { length lines.now ≤ MAX_LINES }
     ensures { result ≡ first_no_ask 1 lines.now }

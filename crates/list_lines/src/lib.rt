@@ -1,4 +1,5 @@
-//! The list of a batch: its lines read as a whole, the numbers by which they ask, and the first of them that no batch has.
+//! The list of a batch: its lines read as a whole, the numbers by which they ask, and the
+//! first of them that no batch has.
 #![tactic(auto)]
 
 mod asks;

@@ -2,7 +2,8 @@
 
 ghost use Rattle.std.specs.Prelude.{◌≡◌, ◌≤◌, [], All, IfOk, length};
 ghost use Rattle.client_lines.specs.declared.lines.TheConstants.{MAX_LINE_BYTES};
-ghost use Rattle.list_lines.specs.Numbers.{AreNumbered, asked_number, first_repeat, has, IsNumbered};
+ghost use Rattle.list_lines.specs.Numbers.{AreNumbered, asked_number, first_repeat, has};
+ghost use Rattle.list_lines.specs.Numbers.{IsNumbered};
 
 use client_lines::{Ask, Known, Line, LineFault, read_line};
 use indexmap::IndexSet;
@@ -10,7 +11,8 @@ use no_memory::NoMemory;
 use rail_types::Name;
 use std::alloc::Global;
 
-/// The number by which each line asks for a path: None for a line that does not, or that is not in the form.
+/// The number by which each line asks for a path: None for a line that does
+/// not, or that is not in the form.
 pub fn numbers_of(
     alloc: Global,
     lines: &[Name],

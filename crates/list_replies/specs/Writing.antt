@@ -16,7 +16,8 @@ pub record WroteAll {Snk : Type 0} (sink : Sinks Snk) (texts : List (List ℕ)) 
   pub took : TookAll sink (text_of_all texts) before after
   pub ended_is : ended ≡ record { lines = length texts; why = Input }
 
--- the sink took some of the texts, and a proper part from the front of the next one, and then failed
+-- the sink took some of the texts, and a proper part from the front of
+-- the next one, and then failed
 pub record WroteSome {Snk : Type 0} (sink : Sinks Snk) (texts : List (List ℕ)) (before after : Snk)
     (ended : Ended) : Type 0 where
   pub count : ℕ

@@ -1,5 +1,5 @@
-//! The replies to the lines of a list: their texts in the order of the list, whoever answered which line and when, and how
-//! they are written.
+//! The replies to the lines of a list: their texts in the order of the list, whoever answered which
+//! line and when, and how they are written.
 #![tactic(auto)]
 
 mod texts;

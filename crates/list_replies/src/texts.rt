@@ -22,8 +22,8 @@ pub fn empty_texts(alloc: Global, count: usize) -> Result<Vec<List<u8>>, NoMemor
     Ok(texts)
 }
 
-/// The texts of the answers to all lines of a list, in the order of the list: first these, and then in parts. Each takes the
-/// place of a text that is there. None where memory is wanted for a text.
+/// The texts of the answers to all lines of a list, in the order of the list: first these, and then
+/// in parts. Each takes the place of a text that is there. None where memory is wanted for a text.
 pub fn texts_in_order(
     alloc: Global,
     mut texts: Vec<List<u8>>,

@@ -8,8 +8,8 @@ use line_sessions::{Ended, Why};
 use outside_io::{Sink, write_all};
 use rail_types::List;
 
-/// Writes the texts of replies, one after another, and tells how many of them the sink took whole, and what ended it: all
-/// were taken, or the sink failed.
+/// Writes the texts of replies, one after another, and tells how many of them the sink took whole,
+/// and what ended it: all were taken, or the sink failed.
 pub fn write_texts<T: Sink>(texts: &[List<u8>], sink: &mut T) -> Ended
     requires { length texts.now ≤ MAX_LINES }
     ensures { Writes T.Sink texts.now sink.old sink.new result }

@@ -1,5 +1,7 @@
 -- Inside: the name that a text spells, byte by byte.
-use Rattle.std.specs.Prelude.{ℕ, ◌+◌, ◌*◌, ◌-◌, ◌<◌, Bool, ◌&&◌, not, List, [], ◌∷◌, ◌++◌, Option, Some, None, nat_eq, nat_le, option_map, option_and_then, if◌then◌else◌}
+use Rattle.std.specs.Prelude.{ℕ, ◌+◌, ◌*◌, ◌-◌, ◌<◌, Bool, ◌&&◌, not, List, [], ◌∷◌, ◌++◌, Option}
+use Rattle.std.specs.Prelude.{Some, None, nat_eq, nat_le, option_map, option_and_then}
+use Rattle.std.specs.Prelude.{if◌then◌else◌}
 use Rattle.name_text.specs.declared.spellings.Escape.{Escape}
 use Rattle.name_text.specs.declared.spellings.Escape.TheVariants.{Outside, Begun, Halfway}
 use Rattle.name_text.specs.declared.spellings.Step.{Step}
@@ -15,7 +17,8 @@ hex_value byte =
     if nat_le 48 byte && nat_le byte 57 then Some (byte - 48)
     else if_so (nat_le 65 byte && nat_le byte 70) (byte - 55)
 
--- a byte of a spelled name: the byte of the name that it ends, if it ends one, and how far the next escape is read
+-- a byte of a spelled name: the byte of the name that it ends, if it ends one, and
+-- how far the next escape is read
 abbrev pub step_of : Escape → ℕ → Option Step
 step_of Outside byte =
     if nat_eq byte 37 then Some (record { found = None; escape = Begun })

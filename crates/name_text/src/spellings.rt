@@ -16,17 +16,19 @@ enum Escape {
     Halfway(u8),
 }
 
-/// What a byte of a spelled name ends: a byte of the name, if it ends one, and how far the next escape is read.
+/// What a byte of a spelled name ends: a byte of the name, if it ends one, and how
+/// far the next escape is read.
 #[derive(Clone, Copy, Debug, PartialEq, Eq)]
 struct Step {
     found: Option<u8>,
     escape: Escape,
 }
 
-/// The name that a text spells, None where it spells none. Each byte has one spelling, so that no name is spelled
-/// twice.
+/// The name that a text spells, None where it spells none. Each byte has one spelling, so
+/// that no name is spelled twice.
 pub fn unescaped(alloc: Global, text: &[u8]) -> Result<Option<Vec<u8>>, NoMemory>
-    ensures spelled { IfOk result (λ name. Spells text.now (option_map (λ bytes. bytes.items) name)) }
+    ensures spelled { IfOk result
+        (λ name. Spells text.now (option_map (λ bytes. bytes.items) name)) }
     ensures read { IfOk result (λ name. option_map (λ bytes. bytes.items) name ≡ name_in text.now) }
 {
     names_are_spelled_once();

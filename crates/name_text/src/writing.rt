@@ -8,8 +8,8 @@ use crate::spellings::is_plain;
 use byte_fields::Buffer;
 use no_memory::NoMemory;
 
-/// Appends a name as a text spells it. Where there is room for it, no memory is taken; for want of memory a part of it
-/// may be there.
+/// Appends a name as a text spells it. Where there is room for it, no memory is taken; for want of
+/// memory a part of it may be there.
 pub fn push_escaped(name: &[u8], to: &mut Buffer) -> Result<(), NoMemory>
     ensures ok { OnOk result (to.new.held ≡ to.old.held ++ escaped name.now) }
     ensures kept { StartsWith to.new.held to.old.held }

@@ -1,4 +1,5 @@
-//! A network with the names of its operational points, blocks and zones, as its infrastructure gives them.
+//! A network with the names of its operational points, blocks and zones, as
+//! its infrastructure gives them.
 #![tactic(auto)]
 
 ghost use Rattle.std.specs.Prelude.{◌≡◌, IfOk};
@@ -7,7 +8,8 @@ use no_memory::NoMemory;
 use rail_types::{List, Name, Network};
 use std::alloc::Global;
 
-/// A piece of a track: the track's name, and where the piece begins and ends, in metres from the track's begin.
+/// A piece of a track: the track's name, and where the piece begins and ends, in
+/// metres from the track's begin.
 #[derive(Debug, Drop)]
 pub struct TrackPiece {
     pub track: Name,
@@ -15,7 +17,8 @@ pub struct TrackPiece {
     pub end: u32,
 }
 
-/// The pieces of a zone, in the order in which pieces are numbered: by track in file order, then along the track.
+/// The pieces of a zone, in the order in which pieces are numbered: by track in file
+/// order, then along the track.
 #[derive(Debug, Drop)]
 pub struct ZoneName {
     pub pieces: List<TrackPiece>,

@@ -1,5 +1,6 @@
 -- The claims that a book holds, zone by zone, and what a new claim meets among them.
-use Rattle.std.specs.Prelude.{◌≡◌, ℕ, ◌+◌, ◌<◌, ◌^◌, ◌⊎◌, ◌≤ℤ◌, Bool, false, not, nat_eq, List, [], length, map, filter, slice_index_or, All, AllPairs, Any}
+use Rattle.std.specs.Prelude.{◌≡◌, ℕ, ◌+◌, ◌<◌, ◌^◌, ◌⊎◌, ◌≤ℤ◌, Bool, false, not, nat_eq, List, []}
+use Rattle.std.specs.Prelude.{length, map, filter, slice_index_or, All, AllPairs, Any}
 use Rattle.std.specs.List.{flat_map}
 use Rattle.rail_types.specs.declared.paths.Claim.{Claim}
 use Rattle.rail_types.specs.declared.entries.Owner.{Owner}
@@ -28,7 +29,8 @@ IsFree claims claim = All (λ other. ¬ Clash other.0 claim) claims
 abbrev pub AreNear : List HeldClaim → Type 0
 AreNear claims = All (λ one. IsNearSpan one.0.span) claims
 
--- claims of one zone: each has ticks, which are near, and ends by the tick at which any behind it begins
+-- claims of one zone: each has ticks, which are near, and ends by the tick
+-- at which any behind it begins
 pub record AreInOrder (number : ℕ) (claims : List HeldClaim) : Type 0 where
   pub on_zone : All (λ one. one.0.zone ≡ number) claims
   pub ticks : All (λ one. HasTicks one.0.span) claims

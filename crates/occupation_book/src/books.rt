@@ -1,12 +1,16 @@
 //! The claims of all zones.
 
-ghost use Rattle.std.specs.Prelude.{◌≡◌, ◌≢◌, ℕ, ◌+◌, ◌-◌, ◌<◌, ◌≤◌, ◌∷◌, ◌↔◌, [], false, length, map, min, option_map, slice_index_or, All, AllPairs, Contains, IfOk, IsNone, IsOk, IsTrue, OnErr, OnOk, ◌⊎◌};
+ghost use Rattle.std.specs.Prelude.{◌≡◌, ◌≢◌, ℕ, ◌+◌, ◌-◌, ◌<◌, ◌≤◌, ◌∷◌, ◌↔◌, [], false, length};
+ghost use Rattle.std.specs.Prelude.{map, min, option_map, slice_index_or, All, AllPairs, Contains};
+ghost use Rattle.std.specs.Prelude.{IfOk, IsNone, IsOk, IsTrue, OnErr, OnOk, ◌⊎◌};
 ghost use Rattle.std.specs.List.Sorted.{IsPermutation};
 ghost use Rattle.rail_types.specs.declared.paths.Claim.{Claim as claim_type};
 ghost use Rattle.rail_types.specs.FirstClash.{AreApart, first_clash as first_of};
 ghost use Rattle.rail_types.specs.Limits.{IsNearSpan};
 ghost use Rattle.rail_types.specs.Occupation.{HasTicks};
-ghost use Rattle.occupation_book.specs.Held.{AreInOrder, AreNear, AreOnZonesOf, claims_by_zone, claims_of, claims_of_others, HasEndedBefore, held, IsBook, IsFree, IsWithout, zone_at};
+ghost use Rattle.occupation_book.specs.Held.{AreInOrder, AreNear, AreOnZonesOf, claims_by_zone};
+ghost use Rattle.occupation_book.specs.Held.{claims_of, claims_of_others, HasEndedBefore, held};
+ghost use Rattle.occupation_book.specs.Held.{IsBook, IsFree, IsWithout, zone_at};
 
 use crate::zones::{ZoneClaims, first_clashing_of};
 use no_memory::NoMemory;
@@ -14,8 +18,8 @@ use rail_types::{Claim, Owner, first_clashes_are_first};
 use std::alloc::Global;
 use std::marker::Model;
 
-/// Claims with their owners, no two of which clash, and for each zone the room for more. Contracts see a list of
-/// zones; those of a zone are sorted by begin.
+/// Claims with their owners, no two of which clash, and for each zone the room for more. Contracts
+/// see a list of zones; those of a zone are sorted by begin.
 #[derive(Debug, Drop)]
 pub struct Occupations {
     zones: Vec<ZoneClaims>,
@@ -56,7 +60,8 @@ impl Occupations {
         self.zones.len() as u32
     }
 
-    /// Whether no held claim clashes with this one. One that ends where the other begins does not clash.
+    /// Whether no held claim clashes with this one. One that ends where the
+    /// other begins does not clash.
     pub fn free(&self, claim: &Claim) -> bool
         requires { claim.now.zone < length self.now }
         ensures { IsTrue result ↔ IsFree (held self.now) claim.now }
@@ -100,7 +105,8 @@ impl Occupations {
         claims.as_slice()
     }
 
-    /// Makes room for `n` more claims on a zone. The claims stay; where memory is wanting nothing changes.
+    /// Makes room for `n` more claims on a zone. The claims stay; where
+    /// memory is wanting nothing changes.
     pub fn reserve(&mut self, zone: u32, n: u32) -> Result<(), NoMemory>
         requires { zone < length self.old }
         ensures claims { claims_by_zone self.new ≡ claims_by_zone self.old }
@@ -137,8 +143,8 @@ impl Occupations {
         claims.insert(claim, owner);
     }
 
-    /// Takes out all claims of an owner, which are on the zones of these claims, and counts them, up to the greatest
-    /// number of its kind. It looks at those zones alone and takes no memory.
+    /// Takes out all claims of an owner, which are on the zones of these claims, and counts them,
+    /// up to the greatest number of its kind. It looks at those zones alone and takes no memory.
     pub fn take_out(&mut self, claims: &[Claim], owner: Owner) -> u32
         requires zones { All (λ claim. claim.zone < length self.old) claims.now }
         requires all { AreOnZonesOf owner (held self.old) claims.now }
@@ -161,8 +167,9 @@ impl Occupations {
         count
     }
 
-    /// Takes out all claims of an owner and counts them, up to the greatest number of its kind. It looks at all zones:
-    /// the plain double of `take_out`, for those who do not know the owner's claims. It takes no memory.
+    /// Takes out all claims of an owner and counts them, up to the greatest number of its kind.
+    /// It looks at all zones: the plain double of `take_out`, for those who do not know the
+    /// owner's claims. It takes no memory.
     pub fn remove(&mut self, owner: Owner) -> u32
         ensures claims { claims_by_zone self.new
             ≡ map (claims_of_others owner) (claims_by_zone self.old) }

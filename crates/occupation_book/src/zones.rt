@@ -1,19 +1,22 @@
 //! The claims of one zone.
 
-ghost use Rattle.std.specs.Prelude.{◌≡◌, ◌+◌, ◌-◌, ◌<◌, ◌≤◌, ◌<ℤ◌, ◌≤ℤ◌, [], ◌∷◌, length, min, take, drop, IfOk, IfSome, IsNone, OnErr, OnOk, ◌↔◌, IsOk};
+ghost use Rattle.std.specs.Prelude.{◌≡◌, ◌+◌, ◌-◌, ◌<◌, ◌≤◌, ◌<ℤ◌, ◌≤ℤ◌, [], ◌∷◌, length, min};
+ghost use Rattle.std.specs.Prelude.{take, drop, IfOk, IfSome, IsNone, OnErr, OnOk, ◌↔◌, IsOk};
 ghost use Rattle.std.specs.List.{AllWithin};
 ghost use Rattle.std.specs.List.Sorted.{IsPermutation};
 ghost use Rattle.rail_types.specs.FirstClash.{IsFirstClash};
 ghost use Rattle.rail_types.specs.Limits.{IsNearSpan};
 ghost use Rattle.rail_types.specs.Occupation.{HasTicks};
-ghost use Rattle.occupation_book.specs.Held.{AreInOrder, claims_of, claims_of_others, is_same_owner as same_owner, IsFree, IsWithout};
+ghost use Rattle.occupation_book.specs.Held.{AreInOrder, claims_of, claims_of_others};
+ghost use Rattle.occupation_book.specs.Held.{is_same_owner as same_owner, IsFree, IsWithout};
 
 use no_memory::NoMemory;
 use rail_types::{Claim, Owner};
 use std::alloc::Global;
 use std::marker::Model;
 
-/// The claims on one zone with their owners, sorted by begin. Contracts see them and the room for more.
+/// The claims on one zone with their owners, sorted by begin. Contracts
+/// see them and the room for more.
 #[derive(Debug, Drop)]
 pub(crate) struct ZoneClaims {
     claims: Vec<(Claim, Owner)>,

@@ -1,7 +1,10 @@
 //! Options with their values, and the words that spell them.
 
-ghost use Rattle.std.specs.Prelude.{◌≡◌, ◌≢◌, ◌<◌, ◌↔◌, ◌∷◌, ℕ, List, IfNone, IfOk, IfSome, IsErrOf, IsTrue, length, map, string_bytes};
-ghost use Rattle.option_words.specs.Spelling.{AreReadAs, Begins, dash, dashed, equals_sign, IsCutAt, IsSetting, IsValue, Lacks, Setting as setting, Spell, Word};
+ghost use Rattle.std.specs.Prelude.{◌≡◌, ◌≢◌, ◌<◌, ◌↔◌, ◌∷◌, ℕ, List, IfNone, IfOk, IfSome};
+ghost use Rattle.std.specs.Prelude.{IsErrOf, IsTrue, length, map, string_bytes};
+ghost use Rattle.option_words.specs.Spelling.{AreReadAs, Begins, dash, dashed, equals_sign};
+ghost use Rattle.option_words.specs.Spelling.{IsCutAt, IsSetting, IsValue, Lacks};
+ghost use Rattle.option_words.specs.Spelling.{Setting as setting, Spell, Word};
 
 use crate::faults::WordsFault;
 use std::alloc::Global;
@@ -38,8 +41,8 @@ impl<'a> Setting<'a> {
     }
 }
 
-/// Reads words as options with values, `--option value` or `--option=value`. A value is not empty and does not begin
-/// with `-`. Any other words are `NotUnderstood`.
+/// Reads words as options with values, `--option value` or `--option=value`. A value is not empty
+/// and does not begin with `-`. Any other words are `NotUnderstood`.
 pub fn read_settings<'a>(alloc: Global, words: &'a [String]) -> Result<Vec<Setting<'a>>, WordsFault>
     ensures understood { IfOk result
         (λ settings. AreReadAs settings.items (map string_bytes words.now)) }
@@ -125,7 +128,8 @@ fn behind_dash(word: &str) -> Option<&str>
     }
 }
 
-/// What stands before the first `=` of a text, and what stands behind it: None where the text has none.
+/// What stands before the first `=` of a text, and what stands behind it:
+/// None where the text has none.
 pub fn cut_at_equals(text: &str) -> Option<(&str, &str)>
     ensures found { IfSome result (λ parts. IsCutAt equals_sign text.now parts.0.now parts.1.now) }
     ensures absent { IfNone result (Lacks equals_sign text.now) }

@@ -1,9 +1,11 @@
 //! The values under an option.
 
-ghost use Rattle.std.specs.Prelude.{◌≡◌, ◌∷◌, [], List, ℕ, Option, IfNone, IfOk, IfSome, IsErrOf, map, option_map};
+ghost use Rattle.std.specs.Prelude.{◌≡◌, ◌∷◌, [], List, ℕ, Option, IfNone, IfOk, IfSome, IsErrOf};
+ghost use Rattle.std.specs.Prelude.{map, option_map};
 ghost use Rattle.std.specs.List.{list_any};
 ghost use Rattle.std.specs.Str.{bytes_eq};
-ghost use Rattle.option_words.specs.Spelling.{are_among, at_most_one, is_among as among, values_under};
+ghost use Rattle.option_words.specs.Spelling.{are_among, at_most_one, is_among as among};
+ghost use Rattle.option_words.specs.Spelling.{values_under};
 
 use crate::faults::WordsFault;
 use crate::settings::Setting;

@@ -4,7 +4,8 @@ use Rattle.batch_command.specs.Works.{batch_calls}
 use Rattle.check_command.specs.Works.{check_calls}
 use Rattle.command_words.specs.Orders.{AreWords}
 use Rattle.command_words.specs.declared.orders.Order.{Order}
-use Rattle.command_words.specs.declared.orders.Order.TheVariants.{Tables, Init, Stairs, Capacity, Serve, Demo, Check, Batch}
+use Rattle.command_words.specs.declared.orders.Order.TheVariants.{Tables, Init, Stairs, Capacity}
+use Rattle.command_words.specs.declared.orders.Order.TheVariants.{Serve, Demo, Check, Batch}
 use Rattle.command_files.specs.Files.{HasNetworkFault}
 use Rattle.command_files.specs.declared.files.FileKind.TheVariants as file
 use Rattle.demo_command.specs.Works.{demo_calls}
@@ -20,7 +21,8 @@ use Rattle.outside_io.specs.declared.disks.Disk.{Ghosts as Disks}
 use Rattle.outside_io.specs.declared.sinks.Sink.{Ghosts as Sinks}
 use Rattle.outside_io.specs.declared.sources.Source.{Ghosts as Sources}
 use Rattle.serve_command.specs.Works.{serve_calls}
-use Rattle.osrd_stdcm.specs.Ready.{AreReady, AreRight, HasJournalOf, HasLines, HasOldJournalOf, HasTrains, IsEmptyDisk, IsRight}
+use Rattle.osrd_stdcm.specs.Ready.{AreReady, AreRight, HasJournalOf, HasLines, HasOldJournalOf}
+use Rattle.osrd_stdcm.specs.Ready.{HasTrains, IsEmptyDisk, IsRight}
 
 -- the files of a command over a journal are right, and the journal stands
 pub record AreRightWithJournal {Src Snk Dsk : Type 0} (source : Sources Src) (disk : Disks Dsk)
@@ -28,8 +30,9 @@ pub record AreRightWithJournal {Src Snk Dsk : Type 0} (source : Sources Src) (di
   pub files : AreRight source old network base
   pub journal_stands : HasJournalOf disk old journal files.network_bytes files.base_bytes
 
--- Nothing hinders an order: each name of it and the report stand ready when their turn comes, the files have no fault, the
--- journal stands, or the disk is empty where one is begun, the clients keep within the limits of lines, and no count rose.
+-- Nothing hinders an order: each name of it and the report stand ready when their turn comes, the
+-- files have no fault, the journal stands, or the disk is empty where one is begun, the clients
+-- keep within the limits of lines, and no count rose.
 abbrev pub IsUnhindered : {Src Snk Dsk : Type 0} → Sources Src → Sinks Snk → Disks Dsk
     → Scene Src Snk Dsk → Scene Src Snk Dsk → Order → Type 0
 IsUnhindered source sink disk old new (Tables network out) =

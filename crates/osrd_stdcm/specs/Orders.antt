@@ -8,7 +8,8 @@ use Rattle.outside_io.specs.declared.sinks.Sink.{Ghosts as Sinks}
 use Rattle.outside_io.specs.declared.sources.Source.{Ghosts as Sources}
 use Rattle.file_rounds.specs.Scenes.{Scene}
 use Rattle.command_words.specs.declared.orders.Order.{Order}
-use Rattle.command_words.specs.declared.orders.Order.TheVariants.{Tables, Init, Stairs, Capacity, Serve, Demo, Check, Batch}
+use Rattle.command_words.specs.declared.orders.Order.TheVariants.{Tables, Init, Stairs, Capacity}
+use Rattle.command_words.specs.declared.orders.Order.TheVariants.{Serve, Demo, Check, Batch}
 use Rattle.command_reports.specs.Works.{Runs}
 use Rattle.batch_command.specs.Runs.{IsBatchDone, IsRefusedList, RunsBatch}
 use Rattle.capacity_command.specs.Capacities.{HasNoCapacity, stretch_of, TellsCapacity}
@@ -34,18 +35,21 @@ OrderSays source sink disk kind handed (Init network base journal (Some from)) o
 OrderSays source sink disk kind handed (Stairs network base journal entry out) old new status =
     Runs sink (print_calls network base journal out)
     (Prints source sink disk network base journal out (TellsStairs entry)) old new status
-OrderSays source sink disk kind handed (Capacity network base journal first last from to out) old new status =
+OrderSays source sink disk kind handed (Capacity network base journal first last from to out)
+    old new status =
     Runs sink (print_calls network base journal out)
     (Prints source sink disk network base journal out
     (TellsCapacity (stretch_of first last from to))) old new status
-OrderSays source sink disk kind handed (Serve network trains base journal clients proofs rules) old new status =
+OrderSays source sink disk kind handed (Serve network trains base journal clients proofs rules)
+    old new status =
     RunsServe source sink disk kind network base trains journal clients proofs handed old new
     status
 OrderSays source sink disk kind handed (Demo number out) old new status =
     Runs sink (demo_calls out) (DemoWorks sink number out) old new status
 OrderSays source sink disk kind handed (Check network trains base journal proof) old new status =
     RunsCheck source sink disk network trains base journal proof old new status
-OrderSays source sink disk kind handed (Batch network trains base journal client workers rules) old new status =
+OrderSays source sink disk kind handed (Batch network trains base journal client workers rules)
+    old new status =
     RunsBatch source sink disk kind network trains base journal client workers handed old new
     status
 
@@ -60,18 +64,22 @@ OrderIsDone source sink disk kind handed (Init network base journal (Some from))
     IsDone source network base (MoveOver disk journal from) old new
 OrderIsDone source sink disk kind handed (Stairs network base journal entry out) old new =
     IsPrinted source sink disk network base journal out (TellsStairs entry) old new
-OrderIsDone source sink disk kind handed (Capacity network base journal first last from to out) old new =
+OrderIsDone source sink disk kind handed (Capacity network base journal first last from to out)
+    old new =
     IsPrinted source sink disk network base journal out
     (TellsCapacity (stretch_of first last from to)) old new
-OrderIsDone source sink disk kind handed (Serve network trains base journal clients proofs rules) old new =
+OrderIsDone source sink disk kind handed (Serve network trains base journal clients proofs rules)
+    old new =
     IsServed source sink disk kind network base trains journal clients proofs handed old new
 OrderIsDone source sink disk kind handed (Demo number out) old new = IsShown sink number out old new
 OrderIsDone source sink disk kind handed (Check network trains base journal proof) old new =
     IsChecked source sink disk network trains base journal proof old new
-OrderIsDone source sink disk kind handed (Batch network trains base journal client workers rules) old new =
+OrderIsDone source sink disk kind handed (Batch network trains base journal client workers rules)
+    old new =
     IsBatchDone source sink disk kind network trains base journal client workers handed old new
 
--- why an order was answered with its command's own no; only stairways, capacities, proofs and batches have one
+-- why an order was answered with its command's own no; only stairways,
+-- capacities, proofs and batches have one
 abbrev pub OrderIsRefused : {Src Snk Dsk : Type 0} → Sources Src → Disks Dsk → Order
     → Scene Src Snk Dsk → Type 0
 OrderIsRefused source disk (Tables network out) old = ⊥

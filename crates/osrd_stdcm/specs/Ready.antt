@@ -1,8 +1,10 @@
--- What stands in the way of nothing: names that are ready, files without a fault, a journal that stands, and no fault.
+-- What stands in the way of nothing: names that are ready, files without a fault, a
+-- journal that stands, and no fault.
 use Rattle.std.specs.Prelude.{◌≡◌, ◌≤◌, ℕ, List, [], ◌++◌, All, Some, length}
 use Rattle.client_streams.specs.Clients.{AreDistinct}
 use Rattle.client_words.specs.declared.clients.ClientWord.{ClientWord}
-use Rattle.command_files.specs.Files.{HasBaseFault, HasNetworkFault, HasTrainFault, IsBaseFile, IsNetworkFile}
+use Rattle.command_files.specs.Files.{HasBaseFault, HasNetworkFault, HasTrainFault, IsBaseFile}
+use Rattle.command_files.specs.Files.{IsNetworkFile}
 use Rattle.command_files.specs.Kinds.{limit_of}
 use Rattle.command_files.specs.declared.bases.BaseFile.{BaseFile}
 use Rattle.command_files.specs.declared.files.FileKind.{FileKind}
@@ -50,7 +52,8 @@ IsQuietAt {Src} {Snk} {Dsk} source sink disk old new (disk_at name) =
     (before after : Dsk) → old.disks name ≡ kept before → new.disks name ≡ kept after
     → ¬ Rose (disk.faults before) (disk.faults after)
 
--- No two of these calls are the same, each stands ready, the outside tells what it hands out, and no count of that rose.
+-- No two of these calls are the same, each stands ready, the outside tells what it hands
+-- out, and no count of that rose.
 pub record AreReady {Src Snk Dsk : Type 0} (source : Sources Src) (sink : Sinks Snk)
     (disk : Disks Dsk) (old new : Scene Src Snk Dsk) (calls : List Opening) : Type 0 where
   pub apart : AreDistinct calls
@@ -135,8 +138,8 @@ HasOldJournalOf disk old name network_bytes base_bytes =
 
 -- ---- lines
 
--- an input whose lines are not too long and not too many: wherever one begins the bytes before an end are at most so many,
--- and behind so many lines nothing comes
+-- an input whose lines are not too long and not too many: wherever one begins the bytes before an
+-- end are at most so many, and behind so many lines nothing comes
 pub record IsWithinLines (input : List ℕ) : Type 0 where
   pub short : (lines : List (List ℕ)) (line rest : List ℕ) → input ≡ ended lines ++ (line ++ rest)
       → HasNoEnd line → length line ≤ MAX_LINE_BYTES

@@ -15,7 +15,8 @@ use Rattle.command_reports.specs.Refusals.{IsTold, line_with}
 use Rattle.command_reports.specs.Reports.{TellsRefusal}
 use Rattle.command_reports.specs.declared.refusals.Refusal.{Refusal}
 use Rattle.command_reports.specs.declared.refusals.Refusal.TheVariants.{Memory}
-use Rattle.osrd_stdcm.specs.Orders.{HasNoClients, NamesNoDisk, OrderIsDone, OrderIsRefused, OrderSays}
+use Rattle.osrd_stdcm.specs.Orders.{HasNoClients, NamesNoDisk, OrderIsDone, OrderIsRefused}
+use Rattle.osrd_stdcm.specs.Orders.{OrderSays}
 
 -- words that spell no order
 abbrev pub AskNothing : List Word → Type 0

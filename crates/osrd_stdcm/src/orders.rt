@@ -5,7 +5,8 @@ ghost use Rattle.outside_io.specs.Openings.{Undisturbed};
 ghost use Rattle.outside_io.specs.Places.{Untouched};
 ghost use Rattle.command_words.specs.Orders.{IsWithinLimits};
 ghost use Rattle.file_rounds.specs.Scenes.{scene};
-ghost use Rattle.osrd_stdcm.specs.Orders.{HasNoClients, NamesNoDisk, OrderIsDone, OrderIsRefused, OrderSays};
+ghost use Rattle.osrd_stdcm.specs.Orders.{HasNoClients, NamesNoDisk, OrderIsDone, OrderIsRefused};
+ghost use Rattle.osrd_stdcm.specs.Orders.{OrderSays};
 
 use admission_rules::Rule;
 use batch_command::run_batch;

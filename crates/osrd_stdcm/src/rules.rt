@@ -9,7 +9,8 @@ use command_words::{WordsFault, rule_words};
 use no_memory::NoMemory;
 use std::alloc::Global;
 
-/// The rules that the words ask for, in the words' order, to be handed to `run`: none where the words are not understood.
+/// The rules that the words ask for, in the words' order, to be handed to `run`: none where
+/// the words are not understood.
 pub fn rules_of_words(
     alloc: Global,
     words: &[String],

@@ -5,7 +5,8 @@ ghost use Rattle.outside_io.specs.Openings.{Undisturbed};
 ghost use Rattle.outside_io.specs.Places.{Untouched};
 ghost use Rattle.file_rounds.specs.Scenes.{scene};
 ghost use Rattle.osrd_stdcm.specs.Complete.{AreUnhindered, IsAnswered};
-ghost use Rattle.osrd_stdcm.specs.Runs.{AskNoClients, AskNoDisk, AskNothing, IsDone, IsRefused, RunSays, TellsWords};
+ghost use Rattle.osrd_stdcm.specs.Runs.{AskNoClients, AskNoDisk, AskNothing, IsDone, IsRefused};
+ghost use Rattle.osrd_stdcm.specs.Runs.{RunSays, TellsWords};
 
 use crate::orders::obey;
 use admission_rules::Rule;
@@ -22,29 +23,36 @@ use std::thread::Threads;
 ///
 /// `list --network F --out F` writes the table of a network's zones and blocks.
 ///
-/// `init --network F --base F --journal F` begins a journal; with `--from G` the entries of an old journal are moved to it.
+/// `init --network F --base F --journal F` begins a journal; with `--from G` the entries of an
+/// old journal are moved to it.
 ///
-/// `serve --network F --trains F --base F --journal F --client NAME=IN:OUT`, with 1 to 16 clients, answers the lines of all
-/// clients at once, over the journal. With `--rule NAME=quota:N`, `--rule NAME=curfew:FROM:TO` or `--rule NAME=longest:METRES`,
-/// any number of them, paths are denied to clients by rules. These are made by the caller, and handed in: those of a client
-/// are in the elements with its name, in order. Elements with other names are dropped. With `--proof NAME=F`, at most one
-/// for a client, the proof of each reply to it that grants a path, or tells that there is none, is written to F before the
-/// reply.
+/// `serve --network F --trains F --base F --journal F --client NAME=IN:OUT`, with 1 to 16 clients,
+/// answers the lines of all clients at once, over the journal. With `--rule NAME=quota:N`,
+/// `--rule NAME=curfew:FROM:TO` or `--rule NAME=longest:METRES`, any number of them, paths are
+/// denied to clients by rules. These are made by the caller, and handed in: those of a client are
+/// in the elements with its name, in order. Elements with other names are dropped. With
+/// `--proof NAME=F`, at most one for a client, the proof of each reply to it that grants a path, or
+/// tells that there is none, is written to F before the reply.
 ///
-/// `stairs --network F --base F --journal F --entry I --out F` writes the stairway table of a grant.
+/// `stairs --network F --base F --journal F --entry I --out F` writes
+/// the stairway table of a grant.
 ///
-/// `capacity --network F --base F --journal F --first A --last B --from T --to T --out F` writes how full a stretch is.
+/// `capacity --network F --base F --journal F --first A --last B --from T --to T --out F`
+/// writes how full a stretch is.
 ///
-/// `check --network F --trains F --base F --journal F --proof F` judges proofs that requests could not be granted, each by the
-/// first entries of the journal's history that it names, and reports how many there are, or the first that does not hold.
+/// `check --network F --trains F --base F --journal F --proof F` judges proofs that requests could
+/// not be granted, each by the first entries of the journal's history that it names, and reports
+/// how many there are, or the first that does not hold.
 ///
-/// `batch --network F --trains F --base F --journal F --client NAME=IN:OUT --workers W` reads a list of asks as a whole, has its
-/// lines answered by 1 to 16 workers at once, over the journal, and writes the replies in the order of the list. A worker is a
-/// client of its own: the first is `NAME_01`. With `--rule NAME_01=quota:N` and the like paths are denied to workers by rules,
-/// which are made and handed in as those of `serve` are. A list with a line that does not ask, or with a number that stands
-/// twice, is refused as a whole.
+/// `batch --network F --trains F --base F --journal F --client NAME=IN:OUT --workers W` reads a
+/// list of asks as a whole, has its lines answered by 1 to 16 workers at once, over the journal,
+/// and writes the replies in the order of the list. A worker is a client of its own: the first is
+/// `NAME_01`. With `--rule NAME_01=quota:N` and the like paths are denied to workers by rules,
+/// which are made and handed in as those of `serve` are. A list with a line that does not ask, or
+/// with a number that stands twice, is refused as a whole.
 ///
-/// `demo --number N --out F` asks a thousand times on a railway of its own, and writes how many asks were granted.
+/// `demo --number N --out F` asks a thousand times on a railway of its own, and
+/// writes how many asks were granted.
 ///
 /// Any other words are not understood, and this is reported.
 pub fn run<R: AllocGlobal + Threads + Wait + Sync, O: Outside, L: Rule + Send>(
@@ -57,7 +65,8 @@ pub fn run<R: AllocGlobal + Threads + Wait + Sync, O: Outside, L: Rule + Send>(
     ensures says { RunSays O.Src.Source O.Snk.Sink O.Dsk.Disk L.Rule rules.items
         (map string_bytes words.now) (scene O.Outside outside.old) (scene O.Outside outside.new)
         result }
-    // Words comes exactly where the words ask for nothing; want of memory alone may stand before it.
+    // Words comes exactly where the words ask for nothing; want of
+    // memory alone may stand before it.
     ensures words { result ≡ Status.Words → AskNothing (map string_bytes words.now) }
     ensures form { AskNothing (map string_bytes words.now)
         → (result ≡ Status.Words) ⊎ (result ≡ Status.Memory) }
@@ -68,16 +77,19 @@ pub fn run<R: AllocGlobal + Threads + Wait + Sync, O: Outside, L: Rule + Send>(
     // At No the command's own no was answered, for a reason that it has.
     ensures no { result ≡ Status.No → IsRefused O.Src.Source O.Dsk.Disk
         (map string_bytes words.now) (scene O.Outside outside.old) }
-    // Where nothing hinders what the words ask for, it is done, or the command's own no is answered, but for want of memory.
+    // Where nothing hinders what the words ask for, it is done, or the command's own no is
+    // answered, but for want of memory.
     ensures complete { AreUnhindered O.Src.Source O.Snk.Sink O.Dsk.Disk
         (scene O.Outside outside.old) (scene O.Outside outside.new) (map string_bytes words.now)
         → IsAnswered result }
-    // At a refusal no sink gained anything: whatever the words, and at want of memory too where they serve no clients.
+    // At a refusal no sink gained anything: whatever the words, and at want of memory too
+    // where they serve no clients.
     ensures refused { result ≢ Status.Done → result ≢ Status.ClientEnd → result ≢ Status.Report
         → result ≢ Status.Memory → Untouched (O.sinks outside.old) (O.sinks outside.new) }
     ensures clean { AskNoClients (map string_bytes words.now) → result ≢ Status.Done
         → result ≢ Status.Report → Untouched (O.sinks outside.old) (O.sinks outside.new) }
-    // Whatever the status, all that was opened is put back, and no disk is touched but those that the words name.
+    // Whatever the status, all that was opened is put back, and no disk is touched
+    // but those that the words name.
     ensures back { Undisturbed (O.standing outside.old) (O.standing outside.new) }
     ensures disks { (name : List ℕ) → AskNoDisk (map string_bytes words.now) name
         → O.disks outside.new name ≡ O.disks outside.old name }

@@ -1,7 +1,7 @@
 //! What happens between the searches of a client.
 
-/// Called behind each search that found a path, before the path is written down. It may wait, and changes nothing
-/// that an answer rests on.
+/// Called behind each search that found a path, before the path is written down. It may wait, and
+/// changes nothing that an answer rests on.
 pub trait Between {
     /// Behind the client's search of this number, counted from 1.
     fn between(&mut self, search: u32);

@@ -1,6 +1,8 @@
-// What a crash leaves of a disk in memory: its changes are made again, and those behind the last sync are torn.
+// What a crash leaves of a disk in memory: its changes are made again, and those
+// behind the last sync are torn.
 
-ghost use Rattle.std.specs.Prelude.{◌≡◌, ◌∷◌, ◌↔◌, ◌⊎◌, ◌+◌, ◌-◌, ◌%◌, ◌<◌, ◌≤◌, ◌^◌, [], ℕ, List, Some, drop, length, slice_get, IfOk, IsTrue, OnOk};
+ghost use Rattle.std.specs.Prelude.{◌≡◌, ◌∷◌, ◌↔◌, ◌⊎◌, ◌+◌, ◌-◌, ◌%◌, ◌<◌, ◌≤◌, ◌^◌, [], ℕ, List};
+ghost use Rattle.std.specs.Prelude.{Some, drop, length, slice_get, IfOk, IsTrue, OnOk};
 ghost use Rattle.outside_io.specs.Disks.{Torn, write_over};
 ghost use Rattle.outside_io.specs.Logged.{IsMadeAgain, NoneSynced, bytes_in, changes_behind};
 ghost use Rattle.outside_io.specs.StoredDisks.{contents_after, contents_synced, IsImageAfter};
@@ -32,8 +34,8 @@ struct Arrival {
     is_foreign: bool,
 }
 
-// A piece that was not synced: how many bytes it has, how many of them lie before the end that was synced last, and
-// how many pieces stand before it that were not synced either.
+// A piece that was not synced: how many bytes it has, how many of them lie before the end that was
+// synced last, and how many pieces stand before it that were not synced either.
 #[derive(Clone, Copy, Debug)]
 struct Unsynced {
     count: usize,
@@ -81,8 +83,8 @@ fn part_that_arrives(alloc: Global, piece: &[u8], part: Arrival) -> Result<Vec<u
     Ok(some)
 }
 
-// How a crash tears a piece: the caller's choice, where the file ended when it was synced last, and how many pieces
-// stand before this one that were not synced either.
+// How a crash tears a piece: the caller's choice, where the file ended when it was synced last, and
+// how many pieces stand before this one that were not synced either.
 #[derive(Clone, Copy, Debug)]
 struct Tear {
     choice: u64,
@@ -159,7 +161,8 @@ fn make_again(
     is_whole: bool,
     tear: Tear,
 ) -> Result<(), NoMemory>
-    ensures { OnOk result (IsMadeAgain tear.choice change piece.now is_whole bytes.old.items bytes.new.items) }
+    ensures { OnOk result
+        (IsMadeAgain tear.choice change piece.now is_whole bytes.old.items bytes.new.items) }
 {
     match change {
         Logged::Wrote { at, count: _ } if is_whole => write_with_room(bytes, at, piece),
@@ -179,9 +182,12 @@ pub(crate) fn replay(
     choice: u64,
 ) -> Result<Vec<u8>, NoMemory>
     requires { bytes_in log.now ≡ length pieces.now }
-    ensures image { IfOk result (λ image. IsImageAfter first.now (changes_behind [] log.now pieces.now) image.items) }
-    ensures last_sync { choice % 8 ≡ 0 → IfOk result (λ image. image.items ≡ contents_synced first.now (changes_behind [] log.now pieces.now)) }
-    ensures as_read { choice % 8 ≡ 1 → IfOk result (λ image. image.items ≡ contents_after first.now (changes_behind [] log.now pieces.now)) }
+    ensures image { IfOk result
+        (λ image. IsImageAfter first.now (changes_behind [] log.now pieces.now) image.items) }
+    ensures last_sync { choice % 8 ≡ 0 → IfOk result
+        (λ image. image.items ≡ contents_synced first.now (changes_behind [] log.now pieces.now)) }
+    ensures as_read { choice % 8 ≡ 1 → IfOk result
+        (λ image. image.items ≡ contents_after first.now (changes_behind [] log.now pieces.now)) }
 {
     let durable = durable_changes(log);
     let mut image = Vec::from_slice(alloc, first)?;

@@ -1,14 +1,16 @@
 //! A disk that fails from some call on.
 
-ghost use Rattle.std.specs.Prelude.{◌≡◌, ◌≤◌, ◌<◌, ◌+◌, ◌-◌, ◌^◌, ◌↔◌, ℕ, List, Some, min, length, take, drop, is_some, option_map, IfOk, IfSome, OnErr, OnOk, IsErr, IsTrue};
+ghost use Rattle.std.specs.Prelude.{◌≡◌, ◌≤◌, ◌<◌, ◌+◌, ◌-◌, ◌^◌, ◌↔◌, ℕ, List, Some, min, length};
+ghost use Rattle.std.specs.Prelude.{take, drop, is_some, option_map, IfOk, IfSome, OnErr, OnOk};
+ghost use Rattle.std.specs.Prelude.{IsErr, IsTrue};
 ghost use Rattle.std.specs.Io.{ReadsAtMost};
 ghost use Rattle.outside_io.specs.Disks.{Follows, Looks, Passes, Torn, TornWhereTold, write_over};
 ghost use Rattle.outside_io.specs.Faults.{HasCause, next_count};
 
 use crate::{Disk, Failed};
 
-/// A disk behind a fuse: so many calls reach it, and each call after them fails and does not reach it. Its moment is
-/// that of the disk.
+/// A disk behind a fuse: so many calls reach it, and each call after them fails and does not reach
+/// it. Its moment is that of the disk.
 #[derive(Debug, Drop)]
 pub struct Fuse<D: Disk> {
     disk: D,
@@ -84,13 +86,17 @@ impl<D: Disk> Disk for Fuse<D> {
 
     ghost only_now = { λ f image since. D.only_now f.disk image since };
 
-    ghost since_earlier = { λ f earlier moment image le since. D.since_earlier f.disk earlier moment image le since };
+    ghost since_earlier = { λ f earlier moment image le since.
+        D.since_earlier f.disk earlier moment image le since };
 
     fn len(&mut self) -> Result<u64, Failed>
-        ensures length { IfOk result (λ count. IfSome (D.contents self.old.disk) (λ bytes. count ≡ length bytes)) }
+        ensures length { IfOk result
+            (λ count. IfSome (D.contents self.old.disk) (λ bytes. count ≡ length bytes)) }
         ensures contents { D.contents self.new.disk ≡ D.contents self.old.disk }
-        ensures time { Looks (D.clock self.old.disk) (D.clock self.new.disk) (D.since self.old.disk) (D.since self.new.disk) (D.images self.old.disk) (D.images self.new.disk) }
-        ensures cause { HasCause (min (D.faults self.old.disk + self.old.faults) (2 ^ 64 - 1)) (min (D.faults self.new.disk + self.new.faults) (2 ^ 64 - 1)) result }
+        ensures time { Looks (D.clock self.old.disk) (D.clock self.new.disk) (D.since self.old.disk)
+            (D.since self.new.disk) (D.images self.old.disk) (D.images self.new.disk) }
+        ensures cause { HasCause (min (D.faults self.old.disk + self.old.faults) (2 ^ 64 - 1))
+            (min (D.faults self.new.disk + self.new.faults) (2 ^ 64 - 1)) result }
         ensures used { self.new.calls ≡ self.old.calls - 1 }
         ensures blown { self.old.calls ≡ 0 → IsErr result }
         ensures unreached { self.old.calls ≡ 0 → self.new.disk ≡ self.old.disk }
@@ -104,10 +110,13 @@ impl<D: Disk> Disk for Fuse<D> {
 
     fn read(&mut self, at: u64, into: &mut [u8]) -> Result<usize, Failed>
         ensures bound { ReadsAtMost result into.new }
-        ensures bytes { IfOk result (λ count. IfSome (D.contents self.old.disk) (λ bytes. take count into.new ≡ take (length into.old) (drop at bytes))) }
+        ensures bytes { IfOk result (λ count. IfSome (D.contents self.old.disk)
+            (λ bytes. take count into.new ≡ take (length into.old) (drop at bytes))) }
         ensures contents { D.contents self.new.disk ≡ D.contents self.old.disk }
-        ensures time { Looks (D.clock self.old.disk) (D.clock self.new.disk) (D.since self.old.disk) (D.since self.new.disk) (D.images self.old.disk) (D.images self.new.disk) }
-        ensures cause { HasCause (min (D.faults self.old.disk + self.old.faults) (2 ^ 64 - 1)) (min (D.faults self.new.disk + self.new.faults) (2 ^ 64 - 1)) result }
+        ensures time { Looks (D.clock self.old.disk) (D.clock self.new.disk) (D.since self.old.disk)
+            (D.since self.new.disk) (D.images self.old.disk) (D.images self.new.disk) }
+        ensures cause { HasCause (min (D.faults self.old.disk + self.old.faults) (2 ^ 64 - 1))
+            (min (D.faults self.new.disk + self.new.faults) (2 ^ 64 - 1)) result }
         ensures used { self.new.calls ≡ self.old.calls - 1 }
         ensures blown { self.old.calls ≡ 0 → IsErr result }
         ensures unreached { self.old.calls ≡ 0 → self.new.disk ≡ self.old.disk }
@@ -120,12 +129,18 @@ impl<D: Disk> Disk for Fuse<D> {
     }
 
     fn write_at(&mut self, at: u64, piece: &[u8]) -> Result<(), Failed>
-        ensures written { OnOk result (D.contents self.new.disk ≡ option_map (write_over at piece.now) (D.contents self.old.disk)) }
+        ensures written { OnOk result (D.contents self.new.disk
+            ≡ option_map (write_over at piece.now) (D.contents self.old.disk)) }
         ensures tells { is_some (D.contents self.new.disk) ≡ is_some (D.contents self.old.disk) }
-        ensures failed { OnErr result (TornWhereTold at (length piece.now) (D.contents self.old.disk) (D.contents self.new.disk)) }
-        ensures crash { Follows (Torn at (length piece.now)) (D.images self.old.disk) (D.images self.new.disk) }
-        ensures time { Passes (D.clock self.old.disk) (D.clock self.new.disk) (D.since self.old.disk) (D.since self.new.disk) (D.images self.old.disk) (D.images self.new.disk) }
-        ensures cause { HasCause (min (D.faults self.old.disk + self.old.faults) (2 ^ 64 - 1)) (min (D.faults self.new.disk + self.new.faults) (2 ^ 64 - 1)) result }
+        ensures failed { OnErr result (TornWhereTold at (length piece.now)
+            (D.contents self.old.disk) (D.contents self.new.disk)) }
+        ensures crash { Follows (Torn at (length piece.now)) (D.images self.old.disk)
+            (D.images self.new.disk) }
+        ensures time { Passes (D.clock self.old.disk) (D.clock self.new.disk)
+            (D.since self.old.disk) (D.since self.new.disk) (D.images self.old.disk)
+            (D.images self.new.disk) }
+        ensures cause { HasCause (min (D.faults self.old.disk + self.old.faults) (2 ^ 64 - 1))
+            (min (D.faults self.new.disk + self.new.faults) (2 ^ 64 - 1)) result }
         ensures used { self.new.calls ≡ self.old.calls - 1 }
         ensures blown { self.old.calls ≡ 0 → IsErr result }
         ensures unreached { self.old.calls ≡ 0 → self.new.disk ≡ self.old.disk }
@@ -138,11 +153,16 @@ impl<D: Disk> Disk for Fuse<D> {
     }
 
     fn sync(&mut self) -> Result<(), Failed>
-        ensures durable { OnOk result ((image : List ℕ) → D.images self.new.disk image → D.contents self.old.disk ≡ Some image) }
+        ensures durable { OnOk result ((image : List ℕ) → D.images self.new.disk image
+            → D.contents self.old.disk ≡ Some image) }
         ensures contents { D.contents self.new.disk ≡ D.contents self.old.disk }
-        ensures crash { (image : List ℕ) → D.images self.new.disk image → D.images self.old.disk image }
-        ensures time { Passes (D.clock self.old.disk) (D.clock self.new.disk) (D.since self.old.disk) (D.since self.new.disk) (D.images self.old.disk) (D.images self.new.disk) }
-        ensures cause { HasCause (min (D.faults self.old.disk + self.old.faults) (2 ^ 64 - 1)) (min (D.faults self.new.disk + self.new.faults) (2 ^ 64 - 1)) result }
+        ensures crash { (image : List ℕ) → D.images self.new.disk image
+            → D.images self.old.disk image }
+        ensures time { Passes (D.clock self.old.disk) (D.clock self.new.disk)
+            (D.since self.old.disk) (D.since self.new.disk) (D.images self.old.disk)
+            (D.images self.new.disk) }
+        ensures cause { HasCause (min (D.faults self.old.disk + self.old.faults) (2 ^ 64 - 1))
+            (min (D.faults self.new.disk + self.new.faults) (2 ^ 64 - 1)) result }
         ensures used { self.new.calls ≡ self.old.calls - 1 }
         ensures blown { self.old.calls ≡ 0 → IsErr result }
         ensures unreached { self.old.calls ≡ 0 → self.new.disk ≡ self.old.disk }

@@ -1,8 +1,12 @@
-ghost use Rattle.std.specs.Prelude.{◌↔◌, ◌⊎◌, Contains, IsErr, IsTrue, OnErr, OnOk, is_some, option_map, ◌≡◌, ◌∷◌, ◌+◌, ◌-◌, ◌%◌, ◌<◌, ◌≤◌, ◌^◌, [], ℕ, List, Some, length, IfOk, IfSome, IsNone, take, drop};
+ghost use Rattle.std.specs.Prelude.{◌↔◌, ◌⊎◌, Contains, IsErr, IsTrue, OnErr, OnOk, is_some};
+ghost use Rattle.std.specs.Prelude.{option_map, ◌≡◌, ◌∷◌, ◌+◌, ◌-◌, ◌%◌, ◌<◌, ◌≤◌, ◌^◌, [], ℕ};
+ghost use Rattle.std.specs.Prelude.{List, Some, length, IfOk, IfSome, IsNone, take, drop};
 ghost use Rattle.std.specs.Io.{ReadsAtMost};
 ghost use Rattle.outside_io.specs.Disks.{Follows, Looks, Passes, Torn, TornWhereTold, write_over};
 ghost use Rattle.outside_io.specs.Faults.{HasCause, next_count};
-ghost use Rattle.outside_io.specs.StoredDisks.{contents_after, contents_synced, failed_at, room_used, synced, wrote, IsImageAfter, IsImageSince};
+ghost use Rattle.outside_io.specs.StoredDisks.{contents_after, contents_synced, failed_at};
+ghost use Rattle.outside_io.specs.StoredDisks.{room_used, synced, wrote, IsImageAfter};
+ghost use Rattle.outside_io.specs.StoredDisks.{IsImageSince};
 
 use crate::crashes::replay;
 use crate::logged::Logged;
@@ -36,9 +40,26 @@ impl Model for MemDisk {
 
     ghost use Rattle.outside_io.specs.Logged.{bytes_in, changes_behind};
 
-    ghost view = { λ d. record { first = d.first.items; changes = changes_behind [] d.log.items d.pieces.items; given = d.given; room = d.room; calls = d.calls; fails = d.fails.items; syncs = d.syncs; failing_syncs = d.failing_syncs.items; faults = d.faults } };
+    ghost view = { λ d. record {
+      first = d.first.items;
+      changes = changes_behind [] d.log.items d.pieces.items;
+      given = d.given;
+      room = d.room;
+      calls = d.calls;
+      fails = d.fails.items;
+      syncs = d.syncs;
+      failing_syncs = d.failing_syncs.items;
+      faults = d.faults;
+    } };
 
-    ghost invariant = { λ d. record { contents : d.bytes.items ≡ contents_after d.first.items (changes_behind [] d.log.items d.pieces.items); whole : bytes_in d.log.items ≡ length d.pieces.items; bytes_room : vec_len d.bytes + d.room ≤ vec_capacity d.bytes; log_room : vec_len d.log + d.room ≤ vec_capacity d.log; pieces_room : vec_len d.pieces + d.room ≤ vec_capacity d.pieces } };
+    ghost invariant = { λ d. record {
+      contents : d.bytes.items
+          ≡ contents_after d.first.items (changes_behind [] d.log.items d.pieces.items);
+      whole : bytes_in d.log.items ≡ length d.pieces.items;
+      bytes_room : vec_len d.bytes + d.room ≤ vec_capacity d.bytes;
+      log_room : vec_len d.log + d.room ≤ vec_capacity d.log;
+      pieces_room : vec_len d.pieces + d.room ≤ vec_capacity d.pieces;
+    } };
 }
 
 // The room that a write leaves, None where there is not enough.
@@ -56,30 +77,50 @@ fn room_behind(room: usize, len: usize, at: u64, count: usize) -> Option<usize>
 }
 
 impl MemDisk {
-    /// A disk with these bytes, and room for so much more: each write or sync uses 1, and a write the bytes that it
-    /// writes, and those between the old end and its place. `fails` lists the calls that fail, counted from 0. The
-    /// memory for all the room is taken here.
+    /// A disk with these bytes, and room for so much more: each write or sync uses 1, and a write
+    /// the bytes that it writes, and those between the old end and its place. `fails` lists the
+    /// calls that fail, counted from 0. The memory for all the room is taken here.
     pub fn new(
         alloc: Global,
         bytes: Vec<u8>,
         room: usize,
         fails: Vec<u64>,
     ) -> Result<MemDisk, NoMemory>
-        ensures { IfOk result (λ disk. disk ≡ record { first = bytes.items; changes = []; given = room; room = room; calls = 0; fails = fails.items; syncs = 0; failing_syncs = []; faults = 0 }) }
+        ensures { IfOk result (λ disk. disk ≡ record {
+          first = bytes.items;
+          changes = [];
+          given = room;
+          room = room;
+          calls = 0;
+          fails = fails.items;
+          syncs = 0;
+          failing_syncs = [];
+          faults = 0;
+        }) }
     {
         let none = Vec::new(alloc);
         MemDisk::failing(alloc, bytes, room, fails, none)
     }
 
-    /// A disk like that of `new`, of which the listed syncs fail, counted from 0, and any other call only for want of
-    /// room.
+    /// A disk like that of `new`, of which the listed syncs fail, counted from 0, and any
+    /// other call only for want of room.
     pub fn failing_syncs(
         alloc: Global,
         bytes: Vec<u8>,
         room: usize,
         syncs: Vec<u64>,
     ) -> Result<MemDisk, NoMemory>
-        ensures { IfOk result (λ disk. disk ≡ record { first = bytes.items; changes = []; given = room; room = room; calls = 0; fails = []; syncs = 0; failing_syncs = syncs.items; faults = 0 }) }
+        ensures { IfOk result (λ disk. disk ≡ record {
+          first = bytes.items;
+          changes = [];
+          given = room;
+          room = room;
+          calls = 0;
+          fails = [];
+          syncs = 0;
+          failing_syncs = syncs.items;
+          faults = 0;
+        }) }
     {
         let none = Vec::new(alloc);
         MemDisk::failing(alloc, bytes, room, none, syncs)
@@ -92,7 +133,17 @@ impl MemDisk {
         fails: Vec<u64>,
         failing_syncs: Vec<u64>,
     ) -> Result<MemDisk, NoMemory>
-        ensures { IfOk result (λ disk. disk ≡ record { first = bytes.items; changes = []; given = room; room = room; calls = 0; fails = fails.items; syncs = 0; failing_syncs = failing_syncs.items; faults = 0 }) }
+        ensures { IfOk result (λ disk. disk ≡ record {
+          first = bytes.items;
+          changes = [];
+          given = room;
+          room = room;
+          calls = 0;
+          fails = fails.items;
+          syncs = 0;
+          failing_syncs = failing_syncs.items;
+          faults = 0;
+        }) }
     {
         let mut bytes = bytes;
         let first = Vec::from_slice(alloc, bytes.as_slice())?;
@@ -119,16 +170,30 @@ impl MemDisk {
         &self.bytes
     }
 
-    /// A disk with what a crash now may leave of this one, with as much room as this one was given, and no failing
-    /// call. The choice counts modulo 8: 0 leaves what was synced last, 1 what is there, 2 the front of each piece
-    /// that was not synced, 3 its back, 4 a foreign byte in it, 5 what of it lies before the end that was synced last;
-    /// 6 leaves every other piece, from the first on, and 7 fronts and whole pieces in turn. From 2 on the pieces of
+    /// A disk with what a crash now may leave of this one, with as much room as this one was
+    /// given, and no failing call. The choice counts modulo 8: 0 leaves what was synced last, 1
+    /// what is there, 2 the front of each piece that was not synced, 3 its back, 4 a foreign
+    /// byte in it, 5 what of it lies before the end that was synced last; 6 leaves every other
+    /// piece, from the first on, and 7 fronts and whole pieces in turn. From 2 on the pieces of
     /// failed writes are among them.
     pub fn crash(&self, alloc: Global, choice: u64) -> Result<MemDisk, NoMemory>
-        ensures image { IfOk result (λ left. IsImageAfter self.now.first self.now.changes left.first) }
-        ensures last_sync { choice % 8 ≡ 0 → IfOk result (λ left. left.first ≡ contents_synced self.now.first self.now.changes) }
-        ensures as_read { choice % 8 ≡ 1 → IfOk result (λ left. left.first ≡ contents_after self.now.first self.now.changes) }
-        ensures fresh { IfOk result (λ left. left ≡ record { first = left.first; changes = []; given = self.now.given; room = self.now.given; calls = 0; fails = []; syncs = 0; failing_syncs = []; faults = 0 }) }
+        ensures image { IfOk result
+            (λ left. IsImageAfter self.now.first self.now.changes left.first) }
+        ensures last_sync { choice % 8 ≡ 0
+            → IfOk result (λ left. left.first ≡ contents_synced self.now.first self.now.changes) }
+        ensures as_read { choice % 8 ≡ 1
+            → IfOk result (λ left. left.first ≡ contents_after self.now.first self.now.changes) }
+        ensures fresh { IfOk result (λ left. left ≡ record {
+          first = left.first;
+          changes = [];
+          given = self.now.given;
+          room = self.now.given;
+          calls = 0;
+          fails = [];
+          syncs = 0;
+          failing_syncs = [];
+          faults = 0;
+        }) }
     {
         let image = replay(alloc, &self.first, &self.log, &self.pieces, choice)?;
         MemDisk::new(alloc, image, self.given, Vec::new(alloc))
@@ -172,7 +237,10 @@ impl MemDisk {
     // Uses up room for a write that fails.
     fn lose(&mut self, at: u64, piece: &[u8], room: usize)
         requires { room + length piece.now < self.old.room }
-        ensures { self.new ≡ record self.old { changes = failed_at at (length piece.now) ∷ self.old.changes; room = room } }
+        ensures { self.new ≡ record self.old {
+          changes = failed_at at (length piece.now) ∷ self.old.changes;
+          room = room;
+        } }
     {
         let Ok(()) = self.pieces.extend_from_slice(piece) else {
             unreachable!()
@@ -185,8 +253,12 @@ impl MemDisk {
     }
 
     fn keep(&mut self, at: u64, piece: &[u8], room: usize)
-        requires { room + (at - length (contents_after self.old.first self.old.changes)) + length piece.now + 1 ≡ self.old.room }
-        ensures { self.new ≡ record self.old { changes = wrote at piece.now ∷ self.old.changes; room = room } }
+        requires { room + (at - length (contents_after self.old.first self.old.changes))
+            + length piece.now + 1 ≡ self.old.room }
+        ensures { self.new ≡ record self.old {
+          changes = wrote at piece.now ∷ self.old.changes;
+          room = room;
+        } }
     {
         overwrite(&mut self.bytes, at as usize, piece);
         let Ok(()) = self.pieces.extend_from_slice(piece) else {
@@ -201,7 +273,10 @@ impl MemDisk {
 
     fn settle(&mut self)
         requires { 0 < self.old.room }
-        ensures { self.new ≡ record self.old { changes = synced ∷ self.old.changes; room = self.old.room - 1 } }
+        ensures { self.new ≡ record self.old {
+          changes = synced ∷ self.old.changes;
+          room = self.old.room - 1;
+        } }
     {
         self.log.push_reserved(Logged::Synced);
         self.room -= 1;
@@ -229,16 +304,27 @@ impl Disk for MemDisk {
 
     ghost only_now = { λ d image since. since-only d.first d.changes image since };
 
-    ghost since_earlier = { λ d earlier moment image le since. since-older d.first d.changes earlier moment image le since };
+    ghost since_earlier = { λ d earlier moment image le since.
+        since-older d.first d.changes earlier moment image le since };
 
     fn len(&mut self) -> Result<u64, Failed>
-        ensures length { IfOk result (λ count. IfSome (Some (contents_after self.old.first self.old.changes)) (λ bytes. count ≡ length bytes)) }
-        ensures contents { Some (contents_after self.new.first self.new.changes) ≡ Some (contents_after self.old.first self.old.changes) }
-        ensures time { Looks (length self.old.changes) (length self.new.changes) (IsImageSince self.old.first self.old.changes) (IsImageSince self.new.first self.new.changes) (IsImageAfter self.old.first self.old.changes) (IsImageAfter self.new.first self.new.changes) }
+        ensures length { IfOk result (λ count. IfSome (Some
+            (contents_after self.old.first self.old.changes)) (λ bytes. count ≡ length bytes)) }
+        ensures contents { Some (contents_after self.new.first self.new.changes)
+            ≡ Some (contents_after self.old.first self.old.changes) }
+        ensures time { Looks (length self.old.changes) (length self.new.changes)
+            (IsImageSince self.old.first self.old.changes)
+            (IsImageSince self.new.first self.new.changes)
+            (IsImageAfter self.old.first self.old.changes)
+            (IsImageAfter self.new.first self.new.changes) }
         ensures cause { HasCause self.old.faults self.new.faults result }
         ensures exact { IsErr result ↔ Contains self.old.fails self.old.calls }
-        ensures done { OnOk result (self.new ≡ record self.old { calls = next_count self.old.calls }) }
-        ensures refused { OnErr result (self.new ≡ record self.old { calls = next_count self.old.calls; faults = next_count self.old.faults }) }
+        ensures done { OnOk result
+            (self.new ≡ record self.old { calls = next_count self.old.calls }) }
+        ensures refused { OnErr result (self.new ≡ record self.old {
+          calls = next_count self.old.calls;
+          faults = next_count self.old.faults;
+        }) }
     {
         if self.next_call_fails() {
             self.fail();
@@ -249,13 +335,24 @@ impl Disk for MemDisk {
 
     fn read(&mut self, at: u64, into: &mut [u8]) -> Result<usize, Failed>
         ensures bound { ReadsAtMost result into.new }
-        ensures bytes { IfOk result (λ count. IfSome (Some (contents_after self.old.first self.old.changes)) (λ bytes. take count into.new ≡ take (length into.old) (drop at bytes))) }
-        ensures contents { Some (contents_after self.new.first self.new.changes) ≡ Some (contents_after self.old.first self.old.changes) }
-        ensures time { Looks (length self.old.changes) (length self.new.changes) (IsImageSince self.old.first self.old.changes) (IsImageSince self.new.first self.new.changes) (IsImageAfter self.old.first self.old.changes) (IsImageAfter self.new.first self.new.changes) }
+        ensures bytes { IfOk result
+            (λ count. IfSome (Some (contents_after self.old.first self.old.changes))
+            (λ bytes. take count into.new ≡ take (length into.old) (drop at bytes))) }
+        ensures contents { Some (contents_after self.new.first self.new.changes)
+            ≡ Some (contents_after self.old.first self.old.changes) }
+        ensures time { Looks (length self.old.changes) (length self.new.changes)
+            (IsImageSince self.old.first self.old.changes)
+            (IsImageSince self.new.first self.new.changes)
+            (IsImageAfter self.old.first self.old.changes)
+            (IsImageAfter self.new.first self.new.changes) }
         ensures cause { HasCause self.old.faults self.new.faults result }
         ensures exact { IsErr result ↔ Contains self.old.fails self.old.calls }
-        ensures done { OnOk result (self.new ≡ record self.old { calls = next_count self.old.calls }) }
-        ensures refused { OnErr result (self.new ≡ record self.old { calls = next_count self.old.calls; faults = next_count self.old.faults }) }
+        ensures done { OnOk result
+            (self.new ≡ record self.old { calls = next_count self.old.calls }) }
+        ensures refused { OnErr result (self.new ≡ record self.old {
+          calls = next_count self.old.calls;
+          faults = next_count self.old.faults;
+        }) }
     {
         if self.next_call_fails() {
             self.fail();
@@ -271,16 +368,42 @@ impl Disk for MemDisk {
     }
 
     fn write_at(&mut self, at: u64, piece: &[u8]) -> Result<(), Failed>
-        ensures written { OnOk result (Some (contents_after self.new.first self.new.changes) ≡ option_map (write_over at piece.now) (Some (contents_after self.old.first self.old.changes))) }
-        ensures tells { is_some (Some (contents_after self.new.first self.new.changes)) ≡ is_some (Some (contents_after self.old.first self.old.changes)) }
-        ensures failed { OnErr result (TornWhereTold at (length piece.now) (Some (contents_after self.old.first self.old.changes)) (Some (contents_after self.new.first self.new.changes))) }
-        ensures crash { Follows (Torn at (length piece.now)) (IsImageAfter self.old.first self.old.changes) (IsImageAfter self.new.first self.new.changes) }
-        ensures time { Passes (length self.old.changes) (length self.new.changes) (IsImageSince self.old.first self.old.changes) (IsImageSince self.new.first self.new.changes) (IsImageAfter self.old.first self.old.changes) (IsImageAfter self.new.first self.new.changes) }
+        ensures written { OnOk result
+            (Some (contents_after self.new.first self.new.changes) ≡ option_map
+            (write_over at piece.now) (Some (contents_after self.old.first self.old.changes))) }
+        ensures tells { is_some (Some (contents_after self.new.first self.new.changes))
+            ≡ is_some (Some (contents_after self.old.first self.old.changes)) }
+        ensures failed { OnErr result (TornWhereTold at (length piece.now)
+            (Some (contents_after self.old.first self.old.changes))
+            (Some (contents_after self.new.first self.new.changes))) }
+        ensures crash { Follows (Torn at (length piece.now))
+            (IsImageAfter self.old.first self.old.changes)
+            (IsImageAfter self.new.first self.new.changes) }
+        ensures time { Passes (length self.old.changes) (length self.new.changes)
+            (IsImageSince self.old.first self.old.changes)
+            (IsImageSince self.new.first self.new.changes)
+            (IsImageAfter self.old.first self.old.changes)
+            (IsImageAfter self.new.first self.new.changes) }
         ensures cause { HasCause self.old.faults self.new.faults result }
-        ensures exact { IsErr result ↔ (Contains self.old.fails self.old.calls ⊎ (self.old.room < room_used self.old at (length piece.now))) }
-        ensures done { OnOk result (self.new ≡ record self.old { changes = wrote at piece.now ∷ self.old.changes; room = self.old.room - room_used self.old at (length piece.now); calls = next_count self.old.calls }) }
-        ensures listed { OnErr result (room_used self.old at (length piece.now) ≤ self.old.room → self.new ≡ record self.old { changes = failed_at at (length piece.now) ∷ self.old.changes; room = self.old.room - room_used self.old at (length piece.now); calls = next_count self.old.calls; faults = next_count self.old.faults }) }
-        ensures no_room { OnErr result (self.old.room < room_used self.old at (length piece.now) → self.new ≡ record self.old { calls = next_count self.old.calls; faults = next_count self.old.faults }) }
+        ensures exact { IsErr result ↔ (Contains self.old.fails self.old.calls
+            ⊎ (self.old.room < room_used self.old at (length piece.now))) }
+        ensures done { OnOk result (self.new ≡ record self.old {
+          changes = wrote at piece.now ∷ self.old.changes;
+          room = self.old.room - room_used self.old at (length piece.now);
+          calls = next_count self.old.calls;
+        }) }
+        ensures listed { OnErr result
+            (room_used self.old at (length piece.now) ≤ self.old.room → self.new ≡ record self.old {
+              changes = failed_at at (length piece.now) ∷ self.old.changes;
+              room = self.old.room - room_used self.old at (length piece.now);
+              calls = next_count self.old.calls;
+              faults = next_count self.old.faults;
+            }) }
+        ensures no_room { OnErr result
+            (self.old.room < room_used self.old at (length piece.now) → self.new ≡ record self.old {
+              calls = next_count self.old.calls;
+              faults = next_count self.old.faults;
+            }) }
     {
         let is_listed = self.next_call_fails();
         let Some(room) = room_behind(self.room, self.bytes.len(), at, piece.len()) else {
@@ -297,14 +420,33 @@ impl Disk for MemDisk {
     }
 
     fn sync(&mut self) -> Result<(), Failed>
-        ensures durable { OnOk result ((image : List ℕ) → IsImageAfter self.new.first self.new.changes image → Some (contents_after self.old.first self.old.changes) ≡ Some image) }
-        ensures contents { Some (contents_after self.new.first self.new.changes) ≡ Some (contents_after self.old.first self.old.changes) }
-        ensures crash { (image : List ℕ) → IsImageAfter self.new.first self.new.changes image → IsImageAfter self.old.first self.old.changes image }
-        ensures time { Passes (length self.old.changes) (length self.new.changes) (IsImageSince self.old.first self.old.changes) (IsImageSince self.new.first self.new.changes) (IsImageAfter self.old.first self.old.changes) (IsImageAfter self.new.first self.new.changes) }
+        ensures durable { OnOk result
+            ((image : List ℕ) → IsImageAfter self.new.first self.new.changes image
+            → Some (contents_after self.old.first self.old.changes) ≡ Some image) }
+        ensures contents { Some (contents_after self.new.first self.new.changes)
+            ≡ Some (contents_after self.old.first self.old.changes) }
+        ensures crash { (image : List ℕ) → IsImageAfter self.new.first self.new.changes image
+            → IsImageAfter self.old.first self.old.changes image }
+        ensures time { Passes (length self.old.changes) (length self.new.changes)
+            (IsImageSince self.old.first self.old.changes)
+            (IsImageSince self.new.first self.new.changes)
+            (IsImageAfter self.old.first self.old.changes)
+            (IsImageAfter self.new.first self.new.changes) }
         ensures cause { HasCause self.old.faults self.new.faults result }
-        ensures exact { IsErr result ↔ ((Contains self.old.fails self.old.calls ⊎ Contains self.old.failing_syncs self.old.syncs) ⊎ (self.old.room ≡ 0)) }
-        ensures done { OnOk result (self.new ≡ record self.old { changes = synced ∷ self.old.changes; room = self.old.room - 1; calls = next_count self.old.calls; syncs = next_count self.old.syncs }) }
-        ensures refused { OnErr result (self.new ≡ record self.old { room = self.old.room - 1; calls = next_count self.old.calls; syncs = next_count self.old.syncs; faults = next_count self.old.faults }) }
+        ensures exact { IsErr result ↔ ((Contains self.old.fails self.old.calls
+            ⊎ Contains self.old.failing_syncs self.old.syncs) ⊎ (self.old.room ≡ 0)) }
+        ensures done { OnOk result (self.new ≡ record self.old {
+          changes = synced ∷ self.old.changes;
+          room = self.old.room - 1;
+          calls = next_count self.old.calls;
+          syncs = next_count self.old.syncs;
+        }) }
+        ensures refused { OnErr result (self.new ≡ record self.old {
+          room = self.old.room - 1;
+          calls = next_count self.old.calls;
+          syncs = next_count self.old.syncs;
+          faults = next_count self.old.faults;
+        }) }
     {
         let call_fails = self.next_call_fails();
         let sync_fails = self.next_sync_fails();

@@ -7,7 +7,8 @@ use rail_types::{Claim, Deed, Entry, List, Name, Span, Wanted};
 use std::alloc::Global;
 use std::io;
 
-/// An entry: its owner, its number, and `hold ZONE FROM TO`, `ask DEPART`, `pin DEPART` or `free AT`.
+/// An entry: its owner, its number, and `hold ZONE FROM TO`,
+/// `ask DEPART`, `pin DEPART` or `free AT`.
 pub fn entry_of(alloc: Global, line: &str) -> io::Result<Entry> {
     let (owner, rest) = first_word(line);
     let (number, rest) = first_word(rest);

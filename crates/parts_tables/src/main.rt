@@ -1,6 +1,6 @@
-//! Carries out a table of calls of parts that no command reaches by itself: outsides in memory and the machine's, with
-//! their sources, sinks and disks, and the world of clients and one history. The head of the table that stands beside this
-//! program tells its instructions.
+//! Carries out a table of calls of parts that no command reaches by itself: outsides in memory and
+//! the machine's, with their sources, sinks and disks, and the world of clients and one history.
+//! The head of the table that stands beside this program tells its instructions.
 #![tactic(auto)]
 
 mod entries;

@@ -26,7 +26,8 @@ impl<S: Drop, K: Drop, D: Drop> Held<S, K, D> {
     }
 }
 
-/// Opens an object of a kind under a name. A disk stands behind a fuse that lets so many calls through.
+/// Opens an object of a kind under a name. A disk stands behind a fuse
+/// that lets so many calls through.
 pub fn open<O: Outside>(
     alloc: Global,
     outside: &mut O,

@@ -41,7 +41,8 @@ impl Pipe {
     }
 }
 
-/// The machine's name for a word: `<` and `>` are the ends of the pipe, and a word behind `~` is a file of this run.
+/// The machine's name for a word: `<` and `>` are the ends of the pipe, and a word
+/// behind `~` is a file of this run.
 pub fn name_of(rt: &HostRuntime, pipe: &Pipe, word: &str) -> io::Result<String> {
     if word == "<" {
         return match &pipe.reader {

@@ -4,8 +4,8 @@ use outside_io::Failed;
 use std::alloc::Global;
 use std::io;
 
-/// Bytes as a text: each is itself, but a `%` and those that are no printed characters are a `%` and two hexadecimal
-/// digits.
+/// Bytes as a text: each is itself, but a `%` and those that are no printed characters are a
+/// `%` and two hexadecimal digits.
 pub fn shown(alloc: Global, bytes: &[u8]) -> io::Result<String> {
     let mut text = String::new(alloc);
     for byte in bytes {

@@ -6,7 +6,8 @@ use outside_io::{AllFault, Disk, Failed, Sink, Source, Stopped, read_all, write_
 use std::alloc::Global;
 use std::io;
 
-/// `read N` reads up to N bytes once, `all N` reads to the end, if that comes behind no more than N.
+/// `read N` reads up to N bytes once, `all N` reads to the end, if that
+/// comes behind no more than N.
 pub fn use_source<S: Source>(
     alloc: Global,
     source: &mut S,
@@ -49,7 +50,8 @@ fn read_whole<S: Source>(alloc: Global, source: &mut S, limit: usize) -> io::Res
     }
 }
 
-/// `write TEXT` writes once, `put TEXT` until all is taken, and `line TEXT` too, with a line's end behind it.
+/// `write TEXT` writes once, `put TEXT` until all is taken, and `line TEXT` too,
+/// with a line's end behind it.
 pub fn use_sink<K: Sink>(
     alloc: Global,
     sink: &mut K,
@@ -76,7 +78,8 @@ fn written(alloc: Global, answer: Result<(), Stopped>) -> io::Result<String> {
     }
 }
 
-/// `length`, `sync`, `at PLACE N` reads up to N bytes from a place on, and `over PLACE TEXT` writes from a place on.
+/// `length`, `sync`, `at PLACE N` reads up to N bytes from a place on, and
+/// `over PLACE TEXT` writes from a place on.
 pub fn use_disk<D: Disk>(
     alloc: Global,
     disk: &mut D,

@@ -7,7 +7,8 @@ use plan_core::{Event, Note, World};
 use std::alloc::Global;
 use std::io;
 
-/// Takes an event, and tells whether it may be, and how many entries there are and are settled then.
+/// Takes an event, and tells whether it may be, and how many entries
+/// there are and are settled then.
 pub fn step(alloc: Global, world: &mut World, line: &str) -> io::Result<String> {
     let event = event_of(alloc, line)?;
     let may = world.step(&event).map_err(no_memory)?;

@@ -18,7 +18,8 @@ use Rattle.journal_text.specs.Histories.{bodies_of, bytes_of, ReadsAsEither}
 use Rattle.path_commit.specs.Clashes.{IsLastClash, NoneClashesFrom}
 use Rattle.path_commit.specs.Ledgers.{Ledger, settled_of}
 use Rattle.path_commit.specs.declared.answers.Committed.{Committed}
-use Rattle.path_commit.specs.declared.answers.Committed.TheVariants.{Done, Refused, Clash, Full, DiskFault, Unsettled, Memory}
+use Rattle.path_commit.specs.declared.answers.Committed.TheVariants.{Done, Refused, Clash, Full}
+use Rattle.path_commit.specs.declared.answers.Committed.TheVariants.{DiskFault, Unsettled, Memory}
 
 -- the verdict that a claim is taken
 abbrev pub IsTaken : Verdict → Type 0
@@ -29,8 +30,9 @@ IsTaken other = ⊥
 abbrev pub bytes_with : List Entry → Entry → ℕ
 bytes_with entries entry = bytes_of entries + (length (body_of entry) + 5)
 
--- What an entry is told, the first that applies: the verdict of the history, unless a claim is taken; the last entry
--- from the searched front on with a live claim that clashes; that a claim is taken; that the record has no room.
+-- What an entry is told, the first that applies: the verdict of the history, unless a claim is
+-- taken; the last entry from the searched front on with a live claim that clashes; that a claim is
+-- taken; that the record has no room.
 abbrev pub IsTold : Timetable → List Entry → Entry → ℕ → Committed → Type 0
 IsTold timetable entries entry searched (Refused verdict) =
     (verdict ≡ verdict_on timetable entries entry) × (verdict ≢ Fresh)
@@ -59,8 +61,8 @@ IsRefusal other = ⊥
 abbrev pub with_entry : List Entry → Entry → List Entry
 with_entry entries entry = entries ++ entry ∷ []
 
--- where the entry stands, if it was begun, and whether it is settled: then its moment is kept. Every other answer leaves
--- the history
+-- where the entry stands, if it was begun, and whether it is settled: then its moment is kept.
+-- Every other answer leaves the history
 abbrev pub Commits : {D : Type 0} → Ghosts D → Ledger D → Ledger D → Entry → Committed → Type 0
 Commits disk old new entry (Done at) =
     (at ≡ length old.entries) × (new.entries ≡ with_entry old.entries entry)

@@ -2,7 +2,8 @@
 use Rattle.path_commit.specs.declared.stands.Footing.{Footing}
 use Rattle.path_commit.specs.Ledgers.{Ledger}
 
--- the network, the base timetable, both digests, the moment of the book's making and the number of entries then
+-- the network, the base timetable, both digests, the moment of the book's making
+-- and the number of entries then
 abbrev pub footing_of : {D : Type 0} → Ledger D → Footing
 footing_of ledger = record {
   net = ledger.timetable.net;

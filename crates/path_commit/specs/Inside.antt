@@ -23,13 +23,15 @@ use Rattle.copy_since.specs.Rooms.{HasRoomFor}
 use Rattle.copy_since.specs.Since.{claims_at}
 use Rattle.path_commit.specs.Answers.{bytes_with}
 use Rattle.path_commit.specs.declared.answers.Committed.{Committed}
-use Rattle.path_commit.specs.declared.answers.Committed.TheVariants.{Done as told_done, Unsettled as told_unsettled}
+use Rattle.path_commit.specs.declared.answers.Committed.TheVariants.{Done as told_done}
+use Rattle.path_commit.specs.declared.answers.Committed.TheVariants.{Unsettled as told_unsettled}
 use Rattle.path_commit.specs.declared.changes.Change.{Change}
 use Rattle.path_commit.specs.declared.changes.Change.TheVariants.{Gained, Lost}
 use Rattle.path_commit.specs.declared.parts.Ready.{Ready}
 use Rattle.path_commit.specs.Ledgers.{Ledger}
 
--- the claims held are the live ones, the journal keeps the history, and each entry has room for its moment
+-- the claims held are the live ones, the journal keeps the history, and each
+-- entry has room for its moment
 pub record AreOne {D : Type 0} (disk : Ghosts D) (network base : List ℕ) (history : Register)
     (claims : List Zone) (journal : Timed D) : Type 0 where
   pub digests : (length network ≡ 32) × (length base ≡ 32)
@@ -64,8 +66,8 @@ abbrev pub HasRoomToChange : List Zone → Change → Type 0
 HasRoomToChange claims (Gained more) = HasRoomFor claims more
 HasRoomToChange claims (Lost at less) = Unit {0}
 
--- all that an entry needs is there: it is in range and fresh, the journal's limit leaves room for its record, and there
--- is memory for the history, the claims and the moment
+-- all that an entry needs is there: it is in range and fresh, the journal's limit leaves room for
+-- its record, and there is memory for the history, the claims and the moment
 pub record IsReady {D : Type 0} (history : Register) (claims : List Zone) (journal : Timed D)
     (entry : Entry) (ready : Ready) : Type 0 where
   pub joins : Joins history.timetable history.entries entry

@@ -1,5 +1,6 @@
 -- A book as its callers see it, and what its type keeps.
-use Rattle.std.specs.Prelude.{◌≡◌, ℕ, ◌+◌, ◌-◌, ◌≤◌, ◌<◌, ◌^◌, List, length, Option, Some, slice_get, nat_lt, if◌then◌else◌, All}
+use Rattle.std.specs.Prelude.{◌≡◌, ℕ, ◌+◌, ◌-◌, ◌≤◌, ◌<◌, ◌^◌, List, length, Option, Some}
+use Rattle.std.specs.Prelude.{slice_get, nat_lt, if◌then◌else◌, All}
 use Rattle.rail_types.specs.declared.entries.Entry.{Entry}
 use Rattle.rail_types.specs.Timetables.{IsTimetable, Timetable}
 use Rattle.entry_codec.specs.Within.{HasBody}
@@ -8,8 +9,9 @@ use Rattle.grant_log.specs.Legal.{IsLegal}
 use Rattle.journal_text.specs.Headers.{header_of}
 use Rattle.journal_text.specs.Histories.{bodies_of, ReadsAsPrefix}
 
--- the disk, the digests of the network's file and of the base timetable's, the timetable, the history, the moment of
--- the book's making, the number of entries then, and the moment at which each later entry was settled
+-- the disk, the digests of the network's file and of the base timetable's, the timetable, the
+-- history, the moment of the book's making, the number of entries then, and the moment at which
+-- each later entry was settled
 pub record Ledger (D : Type 0) : Type 0 where
   pub disk : D
   pub network_digest : List ℕ
@@ -24,8 +26,8 @@ pub record Ledger (D : Type 0) : Type 0 where
 abbrev pub settled_of : {D : Type 0} → Ledger D → ℕ
 settled_of ledger = ledger.found + length ledger.moments
 
--- the moment from which on a crash leaves the entry at a position: the making for those that were there then; None where
--- the entry is not settled
+-- the moment from which on a crash leaves the entry at a position: the making for those that were
+-- there then; None where the entry is not settled
 abbrev pub moment_of : {D : Type 0} → Ledger D → ℕ → Option ℕ
 moment_of ledger at =
     if nat_lt at ledger.found then Some ledger.made
@@ -37,10 +39,11 @@ IsPrefixOf ledger least file =
     ReadsAsPrefix (header_of ledger.network_digest ledger.base_digest) (bodies_of ledger.entries)
     least file
 
--- What a book keeps at any time: its history is legal, and each entry can be spelled; all entries are settled, or all
--- but the last; each image of now reads as the history, or as it without an entry that is not settled; each image since
--- the making reads as a prefix that has the entries found then; and each image since the moment of an entry as a prefix
--- that has this entry. No moment that is kept is later than now.
+-- What a book keeps at any time: its history is legal, and each entry can be spelled; all entries
+-- are settled, or all but the last; each image of now reads as the history, or as it without an
+-- entry that is not settled; each image since the making reads as a prefix that has the entries
+-- found then; and each image since the moment of an entry as a prefix that has this entry. No
+-- moment that is kept is later than now.
 pub record IsKept {D : Type 0} (disk : Ghosts D) (ledger : Ledger D) : Type 0 where
   pub timetable : IsTimetable ledger.timetable
   pub legal : IsLegal ledger.timetable ledger.entries

@@ -1,4 +1,5 @@
-ghost use Rattle.std.specs.Prelude.{◌≡◌, ◌+◌, ◌<◌, ◌≤◌, ◌^◌, ◌↔◌, [], ℕ, List, All, IfErr, IfOk, IsTrue, OnErr, OnOk, length, take};
+ghost use Rattle.std.specs.Prelude.{◌≡◌, ◌+◌, ◌<◌, ◌≤◌, ◌^◌, ◌↔◌, [], ℕ, List, All, IfErr, IfOk};
+ghost use Rattle.std.specs.Prelude.{IsTrue, OnErr, OnOk, length, take};
 ghost use Rattle.rail_types.specs.Timetables.{IsTimetable};
 ghost use Rattle.occupation_book.specs.Held.{claims_by_zone, held};
 ghost use Rattle.grant_log.specs.Following.{AreLive};
@@ -45,12 +46,13 @@ impl<D: Disk> Model for Book<D> {
 impl<D: Disk> Book<D> {
     ghost use Rattle.grant_journal.specs.Causes.{HasSettleCause};
     ghost use Rattle.journal_moments.specs.Keeping.{Left};
-    ghost use Rattle.path_commit.specs.Answers.{Commits, FreesSome, HasCommitCause, IsBeforeOrAfter, IsTold, Settles};
+    ghost use Rattle.path_commit.specs.Answers.{Commits, FreesSome, HasCommitCause};
+    ghost use Rattle.path_commit.specs.Answers.{IsBeforeOrAfter, IsTold, Settles};
     ghost use Rattle.path_commit.specs.Ledgers.{IsKept, IsPrefixOf, moment_of, settled_of};
 
-    /// The book of a history, for a network's file and a base timetable's file with these SHA-256 digests, and of a
-    /// journal with nothing pending, which reads as the history where its disk tells its bytes. For want of memory the
-    /// journal comes back.
+    /// The book of a history, for a network's file and a base timetable's file with these SHA-256
+    /// digests, and of a journal with nothing pending, which reads as the history where its disk
+    /// tells its bytes. For want of memory the journal comes back.
     pub fn of(
         alloc: Global,
         history: History,
@@ -93,8 +95,9 @@ impl<D: Disk> Book<D> {
         Ok(Book { alloc, parts })
     }
 
-    /// Judges an entry, writes it, and lets the history and the live claims follow. `searched` is the front up to which
-    /// the caller knew the live claims when it made the entry: the front of now for a deed that was not searched.
+    /// Judges an entry, writes it, and lets the history and the live claims follow. `searched` is
+    /// the front up to which the caller knew the live claims when it made the entry: the front of
+    /// now for a deed that was not searched.
     /// Nothing may be pending. All memory is taken before the first byte goes to the disk.
     pub fn commit(&mut self, entry: Entry, searched: u64) -> Committed
         requires idle { settled_of self.old ≡ length self.old.entries }
@@ -130,7 +133,8 @@ impl<D: Disk> Book<D> {
         self.commit(entry, front)
     }
 
-    /// Settles the entry that is pending, where one is. A fault leaves it pending. It takes no memory.
+    /// Settles the entry that is pending, where one is. A fault leaves it
+    /// pending. It takes no memory.
     pub fn settle(&mut self) -> Settled
         ensures settles { Settles D.Disk self.old self.new result }
         ensures footing { footing_of self.new ≡ footing_of self.old }
@@ -158,8 +162,8 @@ impl<D: Disk> Book<D> {
         self.parts.history.front()
     }
 
-    /// Brings a copy of the live claims of the first entries, so many as `front`, up to those of now, by the entries
-    /// since. For want of memory the claims of the copy stay.
+    /// Brings a copy of the live claims of the first entries, so many as `front`, up to those of
+    /// now, by the entries since. For want of memory the claims of the copy stay.
     pub fn since(&self, front: u64, copy: &mut Occupations) -> Result<(), NoMemory>
         requires front { front ≤ length self.now.entries }
         requires zones { length copy.old ≡ self.now.timetable.net.zones }
@@ -247,8 +251,8 @@ impl<D: Disk> Book<D> {
         self.parts.journal.moment()
     }
 
-    /// What the clock said when the entry at a position was settled, or when the book was made, for an entry that was
-    /// there then. None where no settled entry stands there.
+    /// What the clock said when the entry at a position was settled, or when the book was made, for
+    /// an entry that was there then. None where no settled entry stands there.
     pub fn moment_of(&self, at: u64) -> Option<u64>
         ensures { result ≡ moment_of self.now at }
     {

@@ -69,7 +69,8 @@ pub(crate) fn reserve_change(
 ) -> Result<(), NoMemory>
     requires zones { length book.old ≡ history.now.timetable.net.zones }
     requires joins { Joins history.now.timetable history.now.entries entry.now }
-    requires change { IsChangeOf history.now.timetable history.now.entries entry.now.deed change.now }
+    requires change { IsChangeOf history.now.timetable history.now.entries entry.now.deed
+        change.now }
     ensures room { OnOk result (HasRoomToChange book.new change.now) }
     ensures held { held book.new ≡ held book.old }
     ensures zones { length book.new ≡ length book.old }
@@ -87,7 +88,8 @@ pub(crate) fn follow(book: &mut Occupations, history: &History, entry: &Entry, c
     requires zones { length book.old ≡ history.now.timetable.net.zones }
     requires live { AreLive history.now.timetable (held book.old) history.now.entries }
     requires joins { Joins history.now.timetable history.now.entries entry.now }
-    requires change { IsChangeOf history.now.timetable history.now.entries entry.now.deed change.now }
+    requires change { IsChangeOf history.now.timetable history.now.entries entry.now.deed
+        change.now }
     requires room { HasRoomToChange book.old change.now }
     ensures follow { Follow history.now.timetable history.now.entries entry.now.deed
         (held book.old) (held book.new) }

@@ -11,8 +11,8 @@ use no_memory::NoMemory;
 use rail_types::Claim;
 use std::alloc::Global;
 
-// The last entry from a position on that holds a live claim which clashes with one of these. It looks at the entries from
-// there on alone.
+// The last entry from a position on that holds a live claim which clashes with one of these. It
+// looks at the entries from there on alone.
 pub(crate) fn last_clash(
     alloc: Global,
     history: &History,

@@ -1,6 +1,7 @@
 //! What the history, with the claims that are held, says of a new entry.
 
-ghost use Rattle.std.specs.Prelude.{◌≡◌, ◌≢◌, ◌↔◌, ◌<◌, All, IfErr, IfOk, IsTrue, None, OnOk, length};
+ghost use Rattle.std.specs.Prelude.{◌≡◌, ◌≢◌, ◌↔◌, ◌<◌, All, IfErr, IfOk, IsTrue, None, OnOk};
+ghost use Rattle.std.specs.Prelude.{length};
 ghost use Rattle.rail_types.specs.Limits.{IsDeedWithinLimits};
 ghost use Rattle.occupation_book.specs.Held.{held};
 ghost use Rattle.grant_log.specs.declared.verdicts.Verdict.TheVariants.{Fresh};
@@ -60,8 +61,8 @@ fn claims_of(alloc: Global, history: &History, entry: &Entry) -> Result<Vec<Clai
     history.claims_of(&entry.deed)
 }
 
-// What an entry is told that is not fresh: where a claim is taken, the last entry from the searched front on that holds
-// one.
+// What an entry is told that is not fresh: where a claim is taken, the last entry from the
+// searched front on that holds one.
 fn refusal(
     alloc: Global,
     history: &History,

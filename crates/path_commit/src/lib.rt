@@ -1,5 +1,5 @@
-//! A history of entries, the claims that are live in it and the journal that keeps it, as one value: each new entry is
-//! judged, written and booked.
+//! A history of entries, the claims that are live in it and the journal that keeps it, as one
+//! value: each new entry is judged, written and booked.
 #![tactic(auto)]
 
 mod answers;

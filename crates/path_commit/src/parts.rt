@@ -7,7 +7,8 @@ ghost use Rattle.grant_log.specs.Legal.{IsInRange, Joins};
 ghost use Rattle.grant_log.specs.Live.{claims_of};
 ghost use Rattle.journal_moments.specs.Keeping.{Left};
 ghost use Rattle.journal_moments.specs.Timed.{settled_of};
-ghost use Rattle.path_commit.specs.Answers.{bytes_with, Commits, HasCommitCause, IsBeforeOrAfter, IsRefusal, IsTold, Settles};
+ghost use Rattle.path_commit.specs.Answers.{bytes_with, Commits, HasCommitCause, IsBeforeOrAfter};
+ghost use Rattle.path_commit.specs.Answers.{IsRefusal, IsTold, Settles};
 ghost use Rattle.path_commit.specs.Footings.{footing_of};
 ghost use Rattle.path_commit.specs.Inside.{AreOne, IsBegun, IsReady, IsToldBy, ledger_of};
 ghost use Rattle.path_commit.specs.Ledgers.{IsPrefixOf, settled_of as settled_in};
@@ -26,8 +27,8 @@ use outside_io::Disk;
 use rail_types::{Claim, Entry, List};
 use std::alloc::Global;
 
-/// The digests of the network's file and of the base timetable's, the history, the claims that are live in it, and the
-/// journal that keeps it.
+/// The digests of the network's file and of the base timetable's, the history, the claims that are
+/// live in it, and the journal that keeps it.
 #[derive(Drop)]
 pub(crate) struct Parts<D: Disk> {
     pub network: [u8; 32],

@@ -8,8 +8,9 @@ use book_gate::Stands;
 use outside_io::Disk;
 use rail_types::{Base, Entry, Network};
 
-/// What no turn changes of a book: the network, the base timetable, the digests of both files, what the disk's clock said
-/// when the book was made, and how many entries there were then. No value of it is ever made.
+/// What no turn changes of a book: the network, the base timetable, the digests of both
+/// files, what the disk's clock said when the book was made, and how many entries there were
+/// then. No value of it is ever made.
 #[derive(Debug, Drop)]
 pub struct Footing {
     pub net: Network,
@@ -20,8 +21,8 @@ pub struct Footing {
     pub found: u64,
 }
 
-/// A book stands for its history. Its settled number is that of its entries, less one where the last is pending, and its
-/// count is that of its disk's faults.
+/// A book stands for its history. Its settled number is that of its entries, less one where the
+/// last is pending, and its count is that of its disk's faults.
 impl<D: Disk> Stands for Book<D> {
     type Entry = Entry;
 

@@ -3,7 +3,8 @@
 ghost use Rattle.std.specs.Prelude.{◌≡◌, ◌+◌, ◌≤◌, ℕ, List, IfOk, OnErr, Some, length};
 ghost use Rattle.grant_log.specs.Legal.{IsInRange};
 ghost use Rattle.path_commit.specs.Ledgers.{IsPrefixOf, moment_of};
-ghost use Rattle.path_commit.specs.Runs.{AreAnswered, AreInRange, AreTurns, Grows, IsAnswered, IsTurn};
+ghost use Rattle.path_commit.specs.Runs.{AreAnswered, AreInRange, AreTurns, Grows, IsAnswered};
+ghost use Rattle.path_commit.specs.Runs.{IsTurn};
 
 use crate::{Book, Committed};
 use grant_journal::Settled;
@@ -37,10 +38,10 @@ pub fn turn<D: Disk>(alloc: Global, book: &mut Book<D>, sent: &Sent) -> Committe
     book.commit(entry, searched)
 }
 
-/// Many turns, with as many answers, each of which is what its turn tells. Whatever the disk does in them, a crash at any
-/// moment since the book was made leaves a prefix of the history, and since the moment of an entry it has that entry; an
-/// entry that was told done is settled, and so has its moment. Room for the answers is made first: where there is none,
-/// the book stays.
+/// Many turns, with as many answers, each of which is what its turn tells. Whatever the disk does
+/// in them, a crash at any moment since the book was made leaves a prefix of the history, and since
+/// the moment of an entry it has that entry; an entry that was told done is settled, and so has its
+/// moment. Room for the answers is made first: where there is none, the book stays.
 pub fn run_all<D: Disk>(
     alloc: Global,
     book: &mut Book<D>,

@@ -1,5 +1,6 @@
 -- What a request is answered.
-use Rattle.std.specs.Prelude.{◌≡◌, ℕ, ◌-◌, ℤ, pos, ◌-ℤ◌, ◌≤ℤ◌, List, length, map, All, Option, None, Some}
+use Rattle.std.specs.Prelude.{◌≡◌, ℕ, ◌-◌, ℤ, pos, ◌-ℤ◌, ◌≤ℤ◌, List, length, map, All, Option, None}
+use Rattle.std.specs.Prelude.{Some}
 use Rattle.rail_types.specs.declared.tracks.Network.{Network}
 use Rattle.rail_types.specs.declared.trains.Request.{Request}
 use Rattle.rail_types.specs.declared.entries.Settings.{Settings}
@@ -25,7 +26,8 @@ abbrev pub claims_held : List Zone → List Claim
 claims_held book = map (λ one. one.0) (held book)
 
 -- a path that can be granted, and none that can leaves last earlier
-pub record IsEarliest (net : Network) (settings : Settings) (live : List Claim) (request : Request) (path : Path) : Type 0 where
+pub record IsEarliest (net : Network) (settings : Settings) (live : List Claim) (request : Request)
+    (path : Path) : Type 0 where
   pub granted : CanBeGranted net settings live request path
   pub least : (other : Path) → CanBeGranted net settings live request other
       → last_leave path ≤ℤ last_leave other
@@ -42,17 +44,20 @@ before request tick = record {
 }
 
 -- a place of the request, with one tick at least, all of them up to the horizon
-pub record IsMemberOf (net : Network) (settings : Settings) (request : Request) (member : Member) : Type 0 where
+pub record IsMemberOf (net : Network) (settings : Settings) (request : Request)
+    (member : Member) : Type 0 where
   pub place : IsPlace net request member.place
   pub some : member.window.from ≤ℤ member.window.to
   pub ticks : (pos 0 ≤ℤ member.window.from) × (member.window.to ≤ℤ pos settings.horizon)
 
 -- members that show that no path of the request fits
-pub record IsCertificate (net : Network) (settings : Settings) (live : List Claim) (request : Request) (proof : Closed) : Type 0 where
+pub record IsCertificate (net : Network) (settings : Settings) (live : List Claim)
+    (request : Request) (proof : Closed) : Type 0 where
   pub members : All (IsMemberOf net settings request) proof.members
   pub closed : IsClosed net settings request live proof.members
 
--- a path that leaves last as early as any, with a certificate for what would leave last earlier; or that there is none
+-- a path that leaves last as early as any, with a certificate for what would leave last
+-- earlier; or that there is none
 abbrev pub IsAnswer : Network → Settings → List Claim → Request → Sought → Type 0
 IsAnswer net settings live request (Found path proof) =
     IsEarliest net settings live request path

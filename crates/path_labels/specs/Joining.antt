@@ -1,5 +1,6 @@
 -- Inside: what joins the plan of a request to the request.
-use Rattle.std.specs.Prelude.{◌≡◌, ℕ, zero, suc, ◌-◌, ◌+◌, ◌<◌, ◌≤◌, ℤ, List, [], ◌∷◌, length, map, All}
+use Rattle.std.specs.Prelude.{◌≡◌, ℕ, zero, suc, ◌-◌, ◌+◌, ◌<◌, ◌≤◌, ℤ, List, [], ◌∷◌, length, map}
+use Rattle.std.specs.Prelude.{All}
 use Rattle.std.specs.List.{slice_index_or}
 use Rattle.rail_types.specs.declared.tracks.Network.{Network}
 use Rattle.rail_types.specs.declared.trains.Request.{Request}
@@ -23,14 +24,16 @@ use Rattle.label_search.specs.declared.plans.Trip.{Trip}
 use Rattle.label_search.specs.declared.plans.Step.{Step}
 use Rattle.label_search.specs.declared.plans.Member.{Member as PlannedMember}
 use Rattle.label_search.specs.Free.{Book}
-use Rattle.label_search.specs.Paths.{IsMove as IsPlannedMove, IsPath, PathFits, arrival, leave_of, place_at, target_of}
+use Rattle.label_search.specs.Paths.{IsMove as IsPlannedMove, IsPath, PathFits, arrival, leave_of}
+use Rattle.label_search.specs.Paths.{place_at, target_of}
 use Rattle.label_search.specs.Closed.{IsClosed as IsClosedPlan, before as trip_before}
 use Rattle.request_plans.specs.Plans.{IsPlanOf}
 use Rattle.request_plans.specs.Searched.{IsPlannedWithinLimits}
 use Rattle.path_labels.specs.Answers.{before, claims_held, last_leave}
 
 -- what is listed for the request is what is planned
-pub record IsPlannedFrom (net : Network) (settings : Settings) (request : Request) (listed : Listed) (plan : Plan) : Type 0 where
+pub record IsPlannedFrom (net : Network) (settings : Settings) (request : Request) (listed : Listed)
+    (plan : Plan) : Type 0 where
   pub places : AreThePlaces net request listed.members
   pub moves : AreTheMoves net request listed
   pub planned : IsPlanOf net settings request listed plan
@@ -39,7 +42,8 @@ pub record IsPlannedFrom (net : Network) (settings : Settings) (request : Reques
 abbrev pub trip_of : Request → Trip
 trip_of request = record { depart = request.depart; arrive = request.arrive }
 
--- the listed moves from the planned place of a number: the start place has 0, each listed place the number behind its own
+-- the listed moves from the planned place of a number: the start place has 0, each listed
+-- place the number behind its own
 abbrev pub moves_of : Listed → ℕ → List Move
 moves_of listed zero = listed.starts
 moves_of listed (suc number) = slice_index_or listed.moves number []
@@ -104,8 +108,10 @@ abbrev pub HoldsTicks : Book → Type 0
 HoldsTicks book = All (λ claim. HasTicks claim.span) (claims_held book)
 
 -- a planned path that fits makes a path that can be granted, and leaves last at the same tick
-pub record MakesAGrant (net : Network) (settings : Settings) (request : Request) (listed : Listed) (plan : Plan) (book : Book) (steps : List Step) : Type 0 where
-  pub granted : CanBeGranted net settings (claims_held book) request (path_in request listed plan steps)
+pub record MakesAGrant (net : Network) (settings : Settings) (request : Request) (listed : Listed)
+    (plan : Plan) (book : Book) (steps : List Step) : Type 0 where
+  pub granted : CanBeGranted net settings (claims_held book) request
+      (path_in request listed plan steps)
   pub leaves : last_leave (path_in request listed plan steps) ≡ arrival plan steps
 
 abbrev pub PlannedPathsAreGranted : Type 0
@@ -117,7 +123,8 @@ PlannedPathsAreGranted =
     → MakesAGrant net settings request listed plan book steps
 
 -- there is a planned path that fits, and leaves last when that path does
-pub record IsPlannedAs (plan : Plan) (request : Request) (book : Book) (path : Path) (steps : List Step) : Type 0 where
+pub record IsPlannedAs (plan : Plan) (request : Request) (book : Book) (path : Path)
+    (steps : List Step) : Type 0 where
   pub path_is : IsPath plan (trip_of request) steps
   pub fits : PathFits plan book steps
   pub leaves : arrival plan steps ≡ last_leave path
@@ -131,7 +138,8 @@ GrantedPathsArePlanned =
     → (steps : List Step) × IsPlannedAs plan request book path steps
 
 -- planned members that are closed are closed when they are told by their places
-pub record AreClosedAlike (net : Network) (settings : Settings) (request : Request) (listed : Listed) (plan : Plan) (book : Book) (members : List PlannedMember) : Type 0 where
+pub record AreClosedAlike (net : Network) (settings : Settings) (request : Request)
+    (listed : Listed) (plan : Plan) (book : Book) (members : List PlannedMember) : Type 0 where
   pub all : IsClosedPlan plan (trip_of request) book members
       → IsClosed net settings request (claims_held book) (members_in listed.members members)
   pub earlier : (tick : ℤ) → IsClosedPlan plan (trip_before (trip_of request) tick) book members

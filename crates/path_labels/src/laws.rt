@@ -1,4 +1,5 @@
-//! The laws that join what is planned of a request to the request, each on a function that calls other laws alone.
+//! The laws that join what is planned of a request to the request, each on a function
+//! that calls other laws alone.
 
 ghost use Rattle.path_labels.specs.Joining.{
   ClosedPlansAreClosed,
@@ -9,7 +10,8 @@ ghost use Rattle.path_labels.specs.Joining.{
 use stair_pieces::{a_path_fits_run_by_run, a_path_is_a_list_of_moves, moves_make_a_path};
 use tail_states::windows_change_no_places;
 
-/// The runs of a path of a request's plan that fits are a path that can be granted, which leaves last at the same tick.
+/// The runs of a path of a request's plan that fits are a path that can be granted, which
+/// leaves last at the same tick.
 pub fn planned_paths_are_granted()
     ensures { PlannedPathsAreGranted }
 {
@@ -17,7 +19,8 @@ pub fn planned_paths_are_granted()
     a_path_fits_run_by_run();
 }
 
-/// To each path that can be granted there is one of the request's plan that fits, and leaves last at the same tick.
+/// To each path that can be granted there is one of the request's plan that fits, and
+/// leaves last at the same tick.
 pub fn granted_paths_are_planned()
     ensures { GrantedPathsArePlanned }
 {
@@ -25,8 +28,8 @@ pub fn granted_paths_are_planned()
     a_path_fits_run_by_run();
 }
 
-/// Members that are closed for the plan of a request, or for it with a window of arrival that ends earlier, are closed
-/// for that request when they are told by their places.
+/// Members that are closed for the plan of a request, or for it with a window of arrival that ends
+/// earlier, are closed for that request when they are told by their places.
 pub fn closed_plans_are_closed()
     ensures { ClosedPlansAreClosed }
 {

@@ -5,7 +5,8 @@ ghost use Rattle.rail_types.specs.declared.limits.TheConstants.{MAX_PLACES};
 ghost use Rattle.rail_types.specs.Flaws.{first_flaw};
 ghost use Rattle.rail_types.specs.Limits.{IsRequestWithinLimits, IsSettingsWithinLimits};
 ghost use Rattle.tail_states.specs.Listed.{AreTheMoves, AreThePlaces};
-ghost use Rattle.path_labels.specs.Answers.{IsAnswer, IsCount, IsFinding, claims_held, count_of as count_in};
+ghost use Rattle.path_labels.specs.Answers.{IsAnswer, IsCount, IsFinding, claims_held};
+ghost use Rattle.path_labels.specs.Answers.{count_of as count_in};
 ghost use Rattle.label_search.specs.Plans.{IsPlan};
 ghost use Rattle.request_plans.specs.Searched.{IsPlannedWithinLimits};
 ghost use Rattle.path_labels.specs.Joining.{ArePlannedMoves, HoldsTicks, trip_of};
@@ -67,8 +68,8 @@ fn planned(
     Ok(plan)
 }
 
-/// The path of a request that leaves last as early as any that can be granted beside what the book holds, or none where
-/// none can; with members that show it. `NoMemory` alone is refused.
+/// The path of a request that leaves last as early as any that can be granted beside what the book
+/// holds, or none where none can; with members that show it. `NoMemory` alone is refused.
 pub fn seek(
     alloc: Global,
     net: &Network,
@@ -106,7 +107,8 @@ pub fn seek(
     }
 }
 
-/// The same without members, and so without the work that they take: None where no path can be granted.
+/// The same without members, and so without the work that they take: None
+/// where no path can be granted.
 pub fn find(
     alloc: Global,
     net: &Network,
@@ -148,8 +150,8 @@ fn count_of(sought: &Sought) -> u64
     }
 }
 
-/// How many members an answer of `seek` has: windows of ticks at which the train can reach the end of a block, place by
-/// place.
+/// How many members an answer of `seek` has: windows of ticks at which the train can reach the
+/// end of a block, place by place.
 pub fn label_count(
     alloc: Global,
     net: &Network,

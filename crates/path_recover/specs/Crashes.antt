@@ -15,18 +15,21 @@ pub record IsPrefix (entries : List Entry) (least : ℕ) (opened : List Entry) :
   pub enough : least ≤ length opened
 
 -- the same files
-pub record IsOfFiles {D : Type 0} (timetable : Timetable) (network base : List ℕ) (book : Ledger D) : Type 0 where
+pub record IsOfFiles {D : Type 0} (timetable : Timetable) (network base : List ℕ)
+    (book : Ledger D) : Type 0 where
   pub timetable_is : book.timetable ≡ timetable
   pub network_digest : book.network_digest ≡ network
   pub base_digest : book.base_digest ≡ base
 
--- a crash of a disk at some moment from this one on might have left these bytes, where they are told
+-- a crash of a disk at some moment from this one on might have left
+-- these bytes, where they are told
 abbrev pub WasLeft : {D : Type 0} → Ghosts D → D → ℕ → Option (List ℕ) → Type 0
-WasLeft disk old moment bytes = (image : List ℕ) × (bytes ≡ Some image) × disk.since old moment image
+WasLeft disk old moment bytes =
+    (image : List ℕ) × (bytes ≡ Some image) × disk.since old moment image
 
--- What is opened of these bytes, if a crash of the book's disk left them: at any moment since the book was made a prefix
--- of its history that has the entries found then; since the moment of an entry a prefix that has this entry; and now a
--- prefix that has all that are settled.
+-- What is opened of these bytes, if a crash of the book's disk left them: at any moment since the
+-- book was made a prefix of its history that has the entries found then; since the moment of an
+-- entry a prefix that has this entry; and now a prefix that has all that are settled.
 pub record IsReopened {D : Type 0} (disk : Ghosts D) (book : Ledger D) (bytes : Option (List ℕ))
     (opened : List Entry) : Type 0 where
   pub any_moment : WasLeft disk book.disk book.made bytes → IsPrefix book.entries book.found opened
@@ -35,10 +38,12 @@ pub record IsReopened {D : Type 0} (disk : Ghosts D) (book : Ledger D) (bytes : 
   pub now : (image : List ℕ) → bytes ≡ Some image → disk.images book.disk image
       → IsPrefix book.entries (settled_of book) opened
 
--- each entry that was told done has a moment, and if a crash at some moment from that one on left the bytes, it is
--- opened at its position
-abbrev pub KeepsDone : {D : Type 0} → Ghosts D → Ledger D → Option (List ℕ) → List Sent → List Committed → List Entry → Type 0
+-- each entry that was told done has a moment, and if a crash at some moment from that one on left
+-- the bytes, it is opened at its position
+abbrev pub KeepsDone : {D : Type 0} → Ghosts D → Ledger D → Option (List ℕ) → List Sent
+    → List Committed → List Entry → Type 0
 KeepsDone disk book bytes sent answers opened =
-    (k : ℕ) (one : Sent) (at : ℕ) → slice_get sent k ≡ Some one → slice_get answers k ≡ Some (Done at)
+    (k : ℕ) (one : Sent) (at : ℕ) → slice_get sent k ≡ Some one
+    → slice_get answers k ≡ Some (Done at)
     → (moment : ℕ) × (moment_of book at ≡ Some moment)
     × (WasLeft disk book.disk moment bytes → slice_get opened at ≡ Some one.entry)

@@ -2,7 +2,10 @@
 use Rattle.std.specs.Prelude.{ℕ, List, ◌++◌, Option, None, Some, codes, decimal}
 use Rattle.hex.specs.Hex.{encode_lower}
 use Rattle.journal_reading.specs.declared.faults.OpenFault.{OpenFault}
-use Rattle.journal_reading.specs.declared.faults.OpenFault.TheVariants.{ReadFault, Empty, OldVersion, NotAJournal, OtherNetwork, OtherBase, Damaged, Illegal, Memory}
+use Rattle.journal_reading.specs.declared.faults.OpenFault.TheVariants.{ReadFault, Empty}
+use Rattle.journal_reading.specs.declared.faults.OpenFault.TheVariants.{OldVersion, NotAJournal}
+use Rattle.journal_reading.specs.declared.faults.OpenFault.TheVariants.{OtherNetwork, OtherBase}
+use Rattle.journal_reading.specs.declared.faults.OpenFault.TheVariants.{Damaged, Illegal, Memory}
 
 -- the digest that the journal has, and the one that was found, in hexadecimal digits
 abbrev pub digests_text : List ℕ → List ℕ → List ℕ

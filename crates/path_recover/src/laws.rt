@@ -16,9 +16,10 @@ use path_commit::{Book, Committed, Sent, run_all};
 use rail_types::{Base, Network};
 use std::alloc::Global;
 
-/// Opens a disk, for the files of a book. If its bytes are what a crash of the book's disk left, at some moment since the
-/// book was made, a prefix of the book's history is opened, which has each entry that was settled before that moment; and
-/// it is refused for want of memory or for a fault of the disk alone.
+/// Opens a disk, for the files of a book. If its bytes are what a crash of the book's disk
+/// left, at some moment since the book was made, a prefix of the book's history is opened,
+/// which has each entry that was settled before that moment; and it is refused for want of
+/// memory or for a fault of the disk alone.
 pub fn reopen<D: Disk, E: Disk>(
     alloc: Global,
     book: &Book<D>,
@@ -47,9 +48,9 @@ pub fn reopen<D: Disk, E: Disk>(
     }
 }
 
-/// Many turns on a book, each answered as it came, whatever its disk does in them, and then a disk that is opened. If its
-/// bytes are what a crash of the book's disk left, a prefix of the book's history is opened, which has each entry that was
-/// told done before that crash.
+/// Many turns on a book, each answered as it came, whatever its disk does in them, and then a disk
+/// that is opened. If its bytes are what a crash of the book's disk left, a prefix of the book's
+/// history is opened, which has each entry that was told done before that crash.
 pub fn run_and_reopen<D: Disk, E: Disk>(
     alloc: Global,
     book: &mut Book<D>,

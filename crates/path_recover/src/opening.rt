@@ -18,8 +18,9 @@ use std::alloc::Global;
 // The version of a journal that is opened to go on with.
 const VERSION: u32 = 2;
 
-/// Opens a journal for a network's file and a base timetable's file with these SHA-256 digests: a sync, and one pass over
-/// the bytes, in which each entry is judged by those before it. Nothing is written, and a refusal hands the disk back.
+/// Opens a journal for a network's file and a base timetable's file with these SHA-256 digests: a
+/// sync, and one pass over the bytes, in which each entry is judged by those before it. Nothing is
+/// written, and a refusal hands the disk back.
 pub fn open<D: Disk>(
     alloc: Global,
     disk: D,

@@ -9,8 +9,8 @@ use journal_reading::OpenFault;
 use no_memory::NoMemory;
 use std::alloc::Global;
 
-/// The text of a refusal, as `damaged at 116`. None for a fault of the disk and for want of memory, which are no
-/// refusals of the journal.
+/// The text of a refusal, as `damaged at 116`. None for a fault of the disk and for want of memory,
+/// which are no refusals of the journal.
 pub fn fault_text(alloc: Global, fault: &OpenFault) -> Result<Option<Vec<u8>>, NoMemory>
     ensures { IfOk result (λ text. option_map (λ text. text.items) text ≡ fault_text fault.now) }
 {

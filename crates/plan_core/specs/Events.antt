@@ -1,15 +1,17 @@
 -- Where an event may come in a world, and what it does there.
-use Rattle.std.specs.Prelude.{◌≡◌, ◌⊎◌, ℕ, ◌+◌, ◌-◌, ◌<◌, Bool, true, false, nat_lt, if◌then◌else◌, [], ◌∷◌, ◌++◌, length, map, take, Some, None}
+use Rattle.std.specs.Prelude.{◌≡◌, ◌⊎◌, ℕ, ◌+◌, ◌-◌, ◌<◌, Bool, true, false, nat_lt, if◌then◌else◌}
+use Rattle.std.specs.Prelude.{[], ◌∷◌, ◌++◌, length, map, take, Some, None}
 use Rattle.rail_types.specs.declared.entries.Entry.{Entry}
 use Rattle.grant_journal.specs.declared.journals.Stage.TheVariants.{Record, Gate}
 use Rattle.plan_core.specs.declared.events.Event.{Event}
-use Rattle.plan_core.specs.declared.events.Event.TheVariants.{Turn, Seek, Commit, Free, Fault, Settle, Crash, Open}
+use Rattle.plan_core.specs.declared.events.Event.TheVariants.{Turn, Seek, Commit, Free, Fault}
+use Rattle.plan_core.specs.declared.events.Event.TheVariants.{Settle, Crash, Open}
 use Rattle.plan_core.specs.Parties.{changed_at, losing, noting, restarting, seeking, writing}
 use Rattle.plan_core.specs.Worlds.{IsServed, IsSettled, MayCommit, MayFree, Plan}
 
--- A turn may come where all is settled, a search at any time; an entry where all is settled, and it is the client's and
--- joins the history; a fault where the entry could have come; a settling where an entry is not settled; a crash while
--- the world runs, and an opening while it does not.
+-- A turn may come where all is settled, a search at any time; an entry where all is settled, and it
+-- is the client's and joins the history; a fault where the entry could have come; a settling where
+-- an entry is not settled; a crash while the world runs, and an opening while it does not.
 abbrev pub IsEnabled : Plan → Event → Type 0
 IsEnabled world (Turn client) = IsServed world client × IsSettled world
 IsEnabled world (Seek client) = IsServed world client

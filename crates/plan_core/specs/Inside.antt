@@ -1,5 +1,7 @@
 -- Inside: how a world is kept, and what goes on from event to event beside its soundness.
-use Rattle.std.specs.Prelude.{◌≡◌, ◌⊎◌, ◌↔◌, ℕ, ◌+◌, ◌<◌, ◌≤◌, Bool, false, IsTrue, List, length, map, take, Option, Some, None, nat_eq, if◌then◌else◌, slice_get, All, AllPairs}
+use Rattle.std.specs.Prelude.{◌≡◌, ◌⊎◌, ◌↔◌, ℕ, ◌+◌, ◌<◌, ◌≤◌, Bool, false, IsTrue, List, length}
+use Rattle.std.specs.Prelude.{map, take, Option, Some, None, nat_eq, if◌then◌else◌, slice_get, All}
+use Rattle.std.specs.Prelude.{AllPairs}
 use Rattle.occupation_book.specs.Zones.{Zone}
 use Rattle.occupation_book.specs.Held.{held}
 use Rattle.grant_log.specs.Following.{AreLive}
@@ -41,8 +43,8 @@ pub record IsPending (settled count k : ℕ) (note : Note) : Type 0 where
   pub entry : note.entry ≡ Some settled
   pub found : note.lost ≡ false
 
--- Each note's point is a settled one, or one more where its entry was lost, unless it is the last and names the entry
--- that is not settled; the point of a note with an entry is the one behind it.
+-- Each note's point is a settled one, or one more where its entry was lost, unless it is the last
+-- and names the entry that is not settled; the point of a note with an entry is the one behind it.
 pub record IsInStep (settled : ℕ) (log : List Note) : Type 0 where
   pub each : (k : ℕ) (note : Note) → slice_get log k ≡ Some note →
       (note.point ≤ settled + back_by note) ⊎ IsPending settled (length log) k note
@@ -89,7 +91,8 @@ abbrev pub IsOwner : List Entry → ℕ → List ℕ → Type 0
 IsOwner entries at owner =
     (entry : Entry) × (slice_get entries at ≡ Some entry) × (entry.owner ≡ owner)
 
--- the first entry that another client's notes name bears this name just where it is the client itself
+-- the first entry that another client's notes name bears this name just
+-- where it is the client itself
 abbrev pub Agrees : Plan → ℕ → List ℕ → ℕ → Type 0
 Agrees world client owner another =
     (party : Party) (at : ℕ) → slice_get world.clients another ≡ Some party

@@ -1,12 +1,14 @@
 -- What an event does to a history and the number of its settled entries, whoever sees them.
-use Rattle.std.specs.Prelude.{◌≡◌, ◌⊎◌, ℕ, ◌+◌, ◌-◌, ◌<◌, Bool, true, false, nat_lt, if◌then◌else◌, List, [], ◌∷◌, ◌++◌, length, take}
+use Rattle.std.specs.Prelude.{◌≡◌, ◌⊎◌, ℕ, ◌+◌, ◌-◌, ◌<◌, Bool, true, false, nat_lt, if◌then◌else◌}
+use Rattle.std.specs.Prelude.{List, [], ◌∷◌, ◌++◌, length, take}
 use Rattle.rail_types.specs.declared.entries.Entry.{Entry}
 use Rattle.rail_types.specs.Timetables.{Timetable}
 use Rattle.grant_journal.specs.declared.journals.Stage.TheVariants.{Record, Gate}
 use Rattle.grant_log.specs.Legal.{Joins}
 use Rattle.grant_log.specs.Verdict.{takes}
 use Rattle.plan_core.specs.declared.events.Event.{Event}
-use Rattle.plan_core.specs.declared.events.Event.TheVariants.{Turn, Seek, Commit, Free, Fault, Settle, Crash, Open}
+use Rattle.plan_core.specs.declared.events.Event.TheVariants.{Turn, Seek, Commit, Free, Fault}
+use Rattle.plan_core.specs.declared.events.Event.TheVariants.{Settle, Crash, Open}
 use Rattle.plan_core.specs.Worlds.{Plan}
 
 -- a history, and how many of its entries are settled
@@ -78,8 +80,8 @@ abbrev pub IsTurnBy : Timetable → ℕ → Pair → Pair → Type 0
 IsTurnBy timetable client old new =
     (event : Event) × IsTurnOf client event × IsEventOfPair timetable event old new
 
--- a turn takes the one pair to the other by an event of its client, or by settling and then that event, or by a
--- settling that is not done, alone
+-- a turn takes the one pair to the other by an event of its client, or by settling and then that
+-- event, or by a settling that is not done, alone
 abbrev pub TakesTurn : Timetable → ℕ → Pair → Pair → Type 0
 TakesTurn timetable client old new =
     IsTurnBy timetable client old new

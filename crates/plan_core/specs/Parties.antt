@@ -1,8 +1,10 @@
 -- A client of a world, its notes, and how both change.
-use Rattle.std.specs.Prelude.{ℕ, zero, suc, ◌+◌, min, Bool, true, false, ◌||◌, nat_eq, if◌then◌else◌, List, [], ◌∷◌, ◌++◌, map, Option, Some, None}
+use Rattle.std.specs.Prelude.{ℕ, zero, suc, ◌+◌, min, Bool, true, false, ◌||◌, nat_eq}
+use Rattle.std.specs.Prelude.{if◌then◌else◌, List, [], ◌∷◌, ◌++◌, map, Option, Some, None}
 use Rattle.plan_core.specs.declared.notes.Note.{Note}
 
--- a client: the front that it knows, the front that it searched or none, and its notes, one for each turn
+-- a client: the front that it knows, the front that it searched or none, and
+-- its notes, one for each turn
 pub record Party : Type 0 where
   pub front : ℕ
   pub searched : Option ℕ

@@ -1,5 +1,6 @@
 -- Many events, one after another.
-use Rattle.std.specs.Prelude.{◌≡◌, ◌⊎◌, ℕ, ◌+◌, ◌<◌, ◌≤◌, Bool, true, false, List, [], ◌∷◌, ◌++◌, length, Some, slice_get}
+use Rattle.std.specs.Prelude.{◌≡◌, ◌⊎◌, ℕ, ◌+◌, ◌<◌, ◌≤◌, Bool, true, false, List, [], ◌∷◌, ◌++◌}
+use Rattle.std.specs.Prelude.{length, Some, slice_get}
 use Rattle.rail_types.specs.declared.entries.Entry.{Entry}
 use Rattle.plan_core.specs.declared.events.Event.{Event}
 use Rattle.plan_core.specs.declared.events.Event.TheVariants.{Crash}
@@ -37,7 +38,8 @@ pub record HasLostLast (old new : Plan) : Type 0 where
   pub last : Entry
   pub entries : old.entries ≡ new.entries ++ last ∷ []
 
--- a note that is lost behind an event was lost before it, or the event lost the last entry, and the note names it
+-- a note that is lost behind an event was lost before it, or the event lost the last
+-- entry, and the note names it
 abbrev pub MarksOnlyTheLost : Plan → Event → Plan → Type 0
 MarksOnlyTheLost old event new =
     (client k : ℕ) (before behind : Party) (note : Note)

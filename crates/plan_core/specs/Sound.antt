@@ -1,5 +1,6 @@
 -- What holds of a world after any events.
-use Rattle.std.specs.Prelude.{◌≡◌, ◌↔◌, ◌⊎◌, ℕ, ◌+◌, ◌<◌, ◌≤◌, if◌then◌else◌, List, length, Some, slice_get, All, AllPairs, IfSome}
+use Rattle.std.specs.Prelude.{◌≡◌, ◌↔◌, ◌⊎◌, ℕ, ◌+◌, ◌<◌, ◌≤◌, if◌then◌else◌, List, length, Some}
+use Rattle.std.specs.Prelude.{slice_get, All, AllPairs, IfSome}
 use Rattle.rail_types.specs.declared.entries.Entry.{Entry}
 use Rattle.rail_types.specs.Timetables.{IsTimetable}
 use Rattle.grant_log.specs.Legal.{IsLegal}
@@ -12,9 +13,9 @@ abbrev pub IsEntryOf : Plan → ℕ → ℕ → Type 0
 IsEntryOf world client at =
     (entry : Entry) × (slice_get world.entries at ≡ Some entry) × IsOf world client entry
 
--- The history is legal; all its entries are settled, or all but the last; no client knows more than the history, nor
--- searched more than it knows; the notes of a client that are not lost name the positions of its entries, ascending,
--- each once; and each entry is some client's.
+-- The history is legal; all its entries are settled, or all but the last; no client knows more than
+-- the history, nor searched more than it knows; the notes of a client that are not lost name the
+-- positions of its entries, ascending, each once; and each entry is some client's.
 pub record IsSound (world : Plan) : Type 0 where
   pub timetable : IsTimetable world.timetable
   pub legal : IsLegal world.timetable world.entries

@@ -1,5 +1,6 @@
 -- A world: one history and the clients that write it; and which entries may come to it.
-use Rattle.std.specs.Prelude.{◌≡◌, ◌≢◌, ℕ, ◌<◌, Bool, true, false, List, [], length, replicate, Some, None, slice_get, Contains}
+use Rattle.std.specs.Prelude.{◌≡◌, ◌≢◌, ℕ, ◌<◌, Bool, true, false, List, [], length, replicate}
+use Rattle.std.specs.Prelude.{Some, None, slice_get, Contains}
 use Rattle.rail_types.specs.declared.entries.Deed.{Deed}
 use Rattle.rail_types.specs.declared.entries.Deed.TheVariants.{Hold, Grant, Free}
 use Rattle.rail_types.specs.declared.entries.Entry.{Entry}
@@ -9,7 +10,8 @@ use Rattle.grant_log.specs.Legal.{Joins}
 use Rattle.grant_log.specs.Verdict.{takes}
 use Rattle.plan_core.specs.Parties.{Party, positions}
 
--- a world: the timetable, the history, how many of its entries are settled, whether it runs, and its clients
+-- a world: the timetable, the history, how many of its entries are settled,
+-- whether it runs, and its clients
 pub record Plan : Type 0 where
   pub timetable : Timetable
   pub entries : List Entry
@@ -43,8 +45,8 @@ Names world client at =
     (party : Party) × (slice_get world.clients client ≡ Some party)
     × Contains (positions party.log) at
 
--- an entry is of a client where its owner is that of all entries in the client's notes that are not lost, and of none
--- in another client's notes that are not lost
+-- an entry is of a client where its owner is that of all entries in the client's notes that are not
+-- lost, and of none in another client's notes that are not lost
 pub record IsOf (world : Plan) (client : ℕ) (entry : Entry) : Type 0 where
   pub own : (at : ℕ) (other : Entry) → Names world client at
       → slice_get world.entries at ≡ Some other → other.owner ≡ entry.owner

@@ -1,15 +1,18 @@
 //! A client of a world.
 
-ghost use Rattle.std.specs.Prelude.{◌≡◌, ◌+◌, ◌<◌, ◌≤◌, ◌||◌, [], All, IfOk, None, OnOk, length, map, replicate, slice_get, vec_capacity, vec_len};
+ghost use Rattle.std.specs.Prelude.{◌≡◌, ◌+◌, ◌<◌, ◌≤◌, ◌||◌, [], All, IfOk, None, OnOk, length};
+ghost use Rattle.std.specs.Prelude.{map, replicate, slice_get, vec_capacity, vec_len};
 ghost use Rattle.plan_core.specs.Inside.{first_but, HasRoom, IsAtLast, IsOnlyLast, party_of};
-ghost use Rattle.plan_core.specs.Parties.{changed_at, is_at, losing, marked, noting, positions, restarting, seeking, writing};
+ghost use Rattle.plan_core.specs.Parties.{changed_at, is_at, losing, marked, noting, positions};
+ghost use Rattle.plan_core.specs.Parties.{restarting, seeking, writing};
 
 use crate::notes::Note;
 use no_memory::NoMemory;
 use std::alloc::Global;
 use std::marker::Model;
 
-// A client, the first position that its notes name which is not lost, and for how many more notes there is room.
+// A client, the first position that its notes name which is not lost, and for how
+// many more notes there is room.
 #[derive(Drop)]
 pub(crate) struct Client {
     front: u64,
@@ -120,7 +123,8 @@ impl Client {
         self.searched = Some(self.front);
     }
 
-    // Marks as lost the note that names this position. Only the last note may name it, and none a later one.
+    // Marks as lost the note that names this position. Only the last note may
+    // name it, and none a later one.
     pub(crate) fn lose(&mut self, at: u64)
         requires last { IsAtLast at self.old.party.log }
         ensures party { self.new.party ≡ losing at self.old.party }

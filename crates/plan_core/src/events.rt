@@ -24,8 +24,8 @@ pub enum Event {
         client: u32,
         entry: Entry,
     },
-    /// The write of a client's entry fails at a stage: at the record nothing is written, at the gate the entry stands
-    /// and is not settled.
+    /// The write of a client's entry fails at a stage: at the record nothing is written, at the
+    /// gate the entry stands and is not settled.
     Fault {
         client: u32,
         entry: Entry,

@@ -1,6 +1,7 @@
 //! Which entries may come to a history, and by which client.
 
-ghost use Rattle.std.specs.Prelude.{◌≡◌, ◌-◌, ◌≤◌, ◌↔◌, ◌∷◌, ◌++◌, [], IfOk, IsTrue, None, OnErr, OnOk, length, take};
+ghost use Rattle.std.specs.Prelude.{◌≡◌, ◌-◌, ◌≤◌, ◌↔◌, ◌∷◌, ◌++◌, [], IfOk, IsTrue, None, OnErr};
+ghost use Rattle.std.specs.Prelude.{OnOk, length, take};
 ghost use Rattle.occupation_book.specs.Held.{held};
 ghost use Rattle.grant_log.specs.Following.{AreLive};
 ghost use Rattle.grant_log.specs.Legal.{IsInRange, Joins};
@@ -37,7 +38,8 @@ pub(crate) fn joins(
     Ok(matches!(verdict, Verdict::Fresh))
 }
 
-// Puts an entry behind a history, and lets the claims follow that the book holds. For want of memory both stay.
+// Puts an entry behind a history, and lets the claims follow that the book holds.
+// For want of memory both stay.
 pub(crate) fn join(
     alloc: Global,
     history: &mut History,

@@ -1,4 +1,5 @@
-//! The world of clients and one history, as a machine of events: turns, searches, entries, faults, crashes and openings.
+//! The world of clients and one history, as a machine of events: turns, searches, entries,
+//! faults, crashes and openings.
 #![tactic(auto)]
 
 mod clients;

@@ -1,14 +1,24 @@
 //! The world of clients and one history.
 
-ghost use Rattle.std.specs.Prelude.{◌≡◌, ◌↔◌, ◌<◌, ℕ, IfOk, IsTrue, OnErr, OnOk, length, option_map, slice_get, take};
+ghost use Rattle.std.specs.Prelude.{◌≡◌, ◌↔◌, ◌<◌, ℕ, IfOk, IsTrue, OnErr, OnOk, length};
+ghost use Rattle.std.specs.Prelude.{option_map, slice_get, take};
 ghost use Rattle.rail_types.specs.declared.entries.Entry.{Entry as entry_type};
 ghost use Rattle.rail_types.specs.Timetables.{IsTimetable, timetable_of};
-ghost use Rattle.plan_core.specs.declared.events.Event.TheVariants.{Commit as does_commit, Crash as does_crash, Fault as does_fault, Free as does_free, Open as does_open, Seek as does_seek, Settle as does_settle, Turn as does_turn};
-ghost use Rattle.plan_core.specs.Events.{after, begun, IsEnabled, read, stopped, without_last, written};
+ghost use Rattle.plan_core.specs.declared.events.Event.TheVariants.{Commit as does_commit};
+ghost use Rattle.plan_core.specs.declared.events.Event.TheVariants.{Crash as does_crash};
+ghost use Rattle.plan_core.specs.declared.events.Event.TheVariants.{Fault as does_fault};
+ghost use Rattle.plan_core.specs.declared.events.Event.TheVariants.{Free as does_free};
+ghost use Rattle.plan_core.specs.declared.events.Event.TheVariants.{Open as does_open};
+ghost use Rattle.plan_core.specs.declared.events.Event.TheVariants.{Seek as does_seek};
+ghost use Rattle.plan_core.specs.declared.events.Event.TheVariants.{Settle as does_settle};
+ghost use Rattle.plan_core.specs.declared.events.Event.TheVariants.{Turn as does_turn};
+ghost use Rattle.plan_core.specs.Events.{after, begun, IsEnabled, read, stopped, without_last};
+ghost use Rattle.plan_core.specs.Events.{written};
 ghost use Rattle.plan_core.specs.Inside.{Agrees, Does, IsOwner};
 ghost use Rattle.plan_core.specs.Runs.{Runs};
 ghost use Rattle.plan_core.specs.Sound.{IsSound};
-ghost use Rattle.plan_core.specs.Worlds.{first_world, HasSearched, IsOf, IsServed, IsSettled, MayCommit, MayFree, MayWrite};
+ghost use Rattle.plan_core.specs.Worlds.{first_world, HasSearched, IsOf, IsServed, IsSettled};
+ghost use Rattle.plan_core.specs.Worlds.{MayCommit, MayFree, MayWrite};
 
 use crate::clients::{Client, lose_all, make_room, new_clients, note, restart_all, seek, write};
 use crate::joining::{is_asked, join, joins, lose_last, takes};
@@ -22,7 +32,8 @@ use rail_types::{Base, Entry, Name, Network};
 use std::alloc::Global;
 use std::marker::Model;
 
-/// One history, of which all entries but perhaps the last are settled, and the clients that write it.
+/// One history, of which all entries but perhaps the last are settled,
+/// and the clients that write it.
 #[derive(Drop)]
 pub struct World {
     alloc: Global,
@@ -46,8 +57,8 @@ impl Model for World {
 }
 
 impl World {
-    /// The world at its beginning: it runs, on the empty history of a network and of a base timetable on it, with so
-    /// many clients that know nothing.
+    /// The world at its beginning: it runs, on the empty history of a network and of a base
+    /// timetable on it, with so many clients that know nothing.
     pub fn new(alloc: Global, net: Network, base: Base, clients: u32) -> Result<World, NoMemory>
         requires { IsTimetable (timetable_of net base) }
         ensures { IfOk result (λ world. world ≡ first_world (timetable_of net base) clients) }
@@ -131,7 +142,8 @@ impl World {
 
     /// The front that a client searched, if any; None where the world does not have the client.
     pub fn searched(&self, client: u32) -> Option<Option<u64>>
-        ensures { result ≡ option_map (λ party. party.searched) (slice_get self.now.clients client) }
+        ensures { result
+            ≡ option_map (λ party. party.searched) (slice_get self.now.clients client) }
     {
         Some(self.clients.get(client as usize)?.searched())
     }
@@ -166,7 +178,8 @@ impl World {
     }
 
     fn commit(&mut self, client: u32, entry: &Entry) -> Result<bool, NoMemory>
-        ensures does { IfOk result (λ done. Does self.old (does_commit client entry.now) done self.new) }
+        ensures does { IfOk result
+            (λ done. Does self.old (does_commit client entry.now) done self.new) }
         ensures err { OnErr result (self.new ≡ self.old) }
     {
         if !self.may_commit(client, entry)? {
@@ -177,7 +190,8 @@ impl World {
     }
 
     fn free(&mut self, client: u32, entry: &Entry) -> Result<bool, NoMemory>
-        ensures does { IfOk result (λ done. Does self.old (does_free client entry.now) done self.new) }
+        ensures does { IfOk result
+            (λ done. Does self.old (does_free client entry.now) done self.new) }
         ensures err { OnErr result (self.new ≡ self.old) }
     {
         if !self.may_free(client, entry)? {
@@ -292,8 +306,8 @@ impl World {
         joins(self.alloc, &self.history, &self.claims, entry)
     }
 
-    // Whether an entry of this owner is the client's. The entries that a client's notes name have one owner, so that of
-    // each client the first tells.
+    // Whether an entry of this owner is the client's. The entries that a client's notes name have
+    // one owner, so that of each client the first tells.
     fn is_of(&self, client: u32, owner: &Name) -> bool
         requires { client < length self.now.clients }
         ensures { (entry : entry_type) → entry.owner ≡ owner.now →

@@ -1,5 +1,6 @@
 -- Inside: the forms of a proof's lines.
-use Rattle.std.specs.Prelude.{ℕ, zero, suc, ◌^◌, pos, ◌-ℤ◌, List, [], ◌∷◌, length, codes, bytes_eq, nat_eq, Option, Some, None, if◌then◌else◌}
+use Rattle.std.specs.Prelude.{ℕ, zero, suc, ◌^◌, pos, ◌-ℤ◌, List, [], ◌∷◌, length, codes, bytes_eq}
+use Rattle.std.specs.Prelude.{nat_eq, Option, Some, None, if◌then◌else◌}
 use Rattle.client_lines.specs.Forms.{Form, ◌>>=◌, a_number, a_tick, a_word, done, one}
 use Rattle.client_lines.specs.Lines.{a_flag, a_position, a_request, some_tick}
 use Rattle.client_lines.specs.Names.{Names}

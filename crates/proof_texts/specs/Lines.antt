@@ -1,5 +1,6 @@
 -- Inside: a text read line by line.
-use Rattle.std.specs.Prelude.{◌≡◌, ℕ, zero, suc, List, [], ◌∷◌, ◌++◌, nat_eq, option_map, Option, Some, None, Result, Ok, Err, if◌then◌else◌}
+use Rattle.std.specs.Prelude.{◌≡◌, ℕ, zero, suc, List, [], ◌∷◌, ◌++◌, nat_eq, option_map, Option}
+use Rattle.std.specs.Prelude.{Some, None, Result, Ok, Err, if◌then◌else◌}
 use Rattle.client_lines.specs.Cuts.{fields_of}
 use Rattle.client_lines.specs.Forms.{Form}
 use Rattle.client_lines.specs.Names.{Names}

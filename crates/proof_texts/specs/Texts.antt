@@ -1,5 +1,5 @@
--- The text of a proof: a line of what was asked at which front, a line of how many members there are, and a line for each
--- member.
+-- The text of a proof: a line of what was asked at which front, a line of how many members there
+-- are, and a line for each member.
 use Rattle.std.specs.Prelude.{ℕ, List, [], ◌∷◌, ◌++◌, length, map, codes, decimal, flat_map}
 use Rattle.std.specs.List.{slice_index_or}
 use Rattle.std.specs.Fmt.{signed_decimal}

@@ -8,7 +8,8 @@ use thiserror::Error;
 /// Why no proof is read.
 #[derive(Clone, Copy, Debug, PartialEq, Eq, Error)]
 pub enum ProofFault {
-    /// The text does not begin with the text of a proof, or with that of one which names what is not there.
+    /// The text does not begin with the text of a proof, or with that of one
+    /// which names what is not there.
     #[error("not understood")]
     NotUnderstood,
     /// Memory was wanted.

@@ -6,7 +6,8 @@ ghost use Rattle.client_lines.specs.Lines.{a_flag};
 ghost use Rattle.client_lines.specs.Reading.{Gives as FieldsGive, GivesAll, line_reading, read};
 ghost use Rattle.rail_types.specs.declared.limits.TheConstants.{MAX_TICK};
 ghost use Rattle.proof_texts.specs.declared.reading.TheConstants.{MAX_PROOF_FILE_BYTES};
-ghost use Rattle.proof_texts.specs.Forms.{a_block, a_member, a_span, a_state, entered_of, many, small_number};
+ghost use Rattle.proof_texts.specs.Forms.{a_block, a_member, a_span, a_state, entered_of, many};
+ghost use Rattle.proof_texts.specs.Forms.{small_number};
 ghost use Rattle.proof_texts.specs.Lines.{Gives, lined, members_at};
 
 use crate::cuts::Lines;

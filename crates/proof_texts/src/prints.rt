@@ -1,10 +1,14 @@
 //! Proofs written as texts.
 
-ghost use Rattle.std.specs.Prelude.{◌≡◌, ◌<◌, ◌∷◌, ◌++◌, [], length, map, decimal, flat_map, All, OnErr, OnOk};
+ghost use Rattle.std.specs.Prelude.{◌≡◌, ◌<◌, ◌∷◌, ◌++◌, [], length, map, decimal, flat_map, All};
+ghost use Rattle.std.specs.Prelude.{OnErr, OnOk};
 ghost use Rattle.json_fields.specs.Escapes.{escaped};
 ghost use Rattle.reply_texts.specs.Fields.{spaced};
 ghost use Rattle.proof_texts.specs.Prints.{HasPointsOf, Prints, block_text, stop_text};
-ghost use Rattle.proof_texts.specs.Texts.{asked_fields, count_fields, counted_fields, ended, entered_number, head_fields, member_text, name_at, place_fields, proof_text, request_fields, state_fields, stop_fields, time_fields};
+ghost use Rattle.proof_texts.specs.Texts.{asked_fields, count_fields, counted_fields, ended};
+ghost use Rattle.proof_texts.specs.Texts.{entered_number, head_fields, member_text, name_at};
+ghost use Rattle.proof_texts.specs.Texts.{place_fields, proof_text, request_fields, state_fields};
+ghost use Rattle.proof_texts.specs.Texts.{stop_fields, time_fields};
 
 use crate::refusals::Proof;
 use byte_fields::Buffer;
@@ -198,8 +202,8 @@ fn print_proof(stops: &[Name], proof: &Proof, to: &mut Buffer) -> Result<(), NoM
     print_members(members, to)
 }
 
-/// Appends the text of a proof, whose operational points must be those of the network. For want of memory nothing is
-/// appended.
+/// Appends the text of a proof, whose operational points must be those of the network. For want
+/// of memory nothing is appended.
 pub fn proof_text(proof: &Proof, named: &Named, to: &mut Buffer) -> Result<(), NoMemory>
     requires points { HasPointsOf (length named.now.stops) proof.now.request }
     ensures ok { OnOk result

@@ -49,9 +49,10 @@ fn read_lines(alloc: Global, lines: &mut Lines<'_>, known: &Known) -> Result<Pro
     })
 }
 
-/// Reads the proof at the beginning of a text, and tells how many bytes of the text are the proof's. `NotUnderstood`
-/// where the text begins with no proof's text; a text that names a train, an operational point or a block that is not
-/// there is none. Memory grows with the text, whatever counts stand in it.
+/// Reads the proof at the beginning of a text, and tells how many bytes of the text are the
+/// proof's. `NotUnderstood` where the text begins with no proof's text; a text that names a
+/// train, an operational point or a block that is not there is none. Memory grows with the text,
+/// whatever counts stand in it.
 pub fn read_proof(alloc: Global, text: &[u8], known: &Known) -> Result<(Proof, usize), ProofFault>
     requires short { length text.now ≤ MAX_PROOF_FILE_BYTES }
     ensures { Reads known.now text.now result }

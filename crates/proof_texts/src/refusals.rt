@@ -3,8 +3,8 @@
 use rail_types::Request;
 use tail_states::Closed;
 
-/// A request that a line asked for by this number, and members that show that no path of it could be granted at the
-/// first entries of a history, so many as `at`.
+/// A request that a line asked for by this number, and members that show that no path of it could
+/// be granted at the first entries of a history, so many as `at`.
 #[derive(Debug, Drop)]
 pub struct Proof {
     pub at: u64,

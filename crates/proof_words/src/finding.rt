@@ -7,7 +7,8 @@ use crate::proofs::ProofWord;
 use option_words::Text;
 use rail_types::Name;
 
-/// The file for the proofs of a client: that of the first of these proofs that names it, None where none does.
+/// The file for the proofs of a client: that of the first of these proofs that
+/// names it, None where none does.
 pub fn proof_of<'a>(proofs: &'a [ProofWord], name: &Name) -> Option<&'a Text>
     ensures { option_map (λ file. file.now) result ≡ file_of proofs.now name.now }
 {

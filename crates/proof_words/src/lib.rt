@@ -1,4 +1,5 @@
-//! The proofs of a command line: the words that name a client and the file for its proofs, and which may stand together.
+//! The proofs of a command line: the words that name a client and the file for its proofs,
+//! and which may stand together.
 #![tactic(auto)]
 
 mod belonging;

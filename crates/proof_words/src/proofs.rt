@@ -13,15 +13,16 @@ use option_words::{Text, WordsFault, cut_at_equals};
 use rail_types::{List, Name, is_client_name};
 use std::alloc::Global;
 
-/// A proof of the words, `NAME=F`: the client whose paths and refusals are proved, and the file for the proofs.
+/// A proof of the words, `NAME=F`: the client whose paths and refusals are proved,
+/// and the file for the proofs.
 #[derive(Debug, Drop)]
 pub struct ProofWord {
     pub client: Name,
     pub file: Text,
 }
 
-/// Reads words as proofs of these clients, one a word, in the words' order: at most one of each client, each with a file of
-/// its own.
+/// Reads words as proofs of these clients, one a word, in the words' order: at most one of each
+/// client, each with a file of its own.
 pub fn read_proofs(
     alloc: Global,
     clients: &[ClientWord],

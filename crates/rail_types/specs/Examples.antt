@@ -3,7 +3,8 @@ use Rattle.std.specs.Prelude.{ℕ, [], ◌∷◌}
 use Rattle.rail_types.specs.declared.tracks.Block.{Block}
 use Rattle.rail_types.specs.declared.tracks.Network.{Network}
 
--- block i of that line, with zone i and operational point i, its sight distance, and the points at which it begins and ends
+-- block i of that line, with zone i and operational point i, its sight distance, and the
+-- points at which it begins and ends
 abbrev pub line3_block : ℕ → ℕ → ℕ → ℕ → Block
 line3_block i sight_m from_point to_point = record {
   length_m = 2000;
@@ -15,8 +16,8 @@ line3_block i sight_m from_point to_point = record {
   serves = i ∷ [];
 }
 
--- three blocks of 2000 m one behind the other, each with one zone and one operational point; two detectors
--- between them and a buffer stop at each end, so eight points
+-- three blocks of 2000 m one behind the other, each with one zone and one operational point; two
+-- detectors between them and a buffer stop at each end, so eight points
 abbrev pub line3 : Network
 line3 = record {
   zones = 3;

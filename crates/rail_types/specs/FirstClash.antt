@@ -1,5 +1,6 @@
 -- The first of held claims that clashes with new ones, by zone, then by begin.
-use Rattle.std.specs.Prelude.{◌≡◌, ◌↔◌, ◌⊎◌, ◌<◌, ◌<ℤ◌, Bool, ◌&&◌, ◌||◌, not, List, Option, find, filter, nat_eq, nat_lt, int_lt, All, AllPairs, Any, Contains}
+use Rattle.std.specs.Prelude.{◌≡◌, ◌↔◌, ◌⊎◌, ◌<◌, ◌<ℤ◌, Bool, ◌&&◌, ◌||◌, not, List, Option, find}
+use Rattle.std.specs.Prelude.{filter, nat_eq, nat_lt, int_lt, All, AllPairs, Any, Contains}
 use Rattle.std.specs.List.{list_any, list_all}
 use Rattle.rail_types.specs.declared.paths.Claim.{Claim}
 use Rattle.rail_types.specs.Occupation.{Clash, HasTicks, HeldClaim}
@@ -33,7 +34,8 @@ abbrev pub IsBefore : Claim → Claim → Type 0
 IsBefore a b = (a.zone < b.zone) ⊎ ((a.zone ≡ b.zone) × (a.span.from <ℤ b.span.from))
 
 -- a held claim that clashes with one of these, and before which no other that clashes comes
-pub record IsFirstClash (held : List HeldClaim) (claims : List Claim) (first : HeldClaim) : Type 0 where
+pub record IsFirstClash (held : List HeldClaim) (claims : List Claim)
+    (first : HeldClaim) : Type 0 where
   pub is_held : Contains held first
   pub clashes : ClashesWith claims first
   pub others : All (λ other. ClashesWith claims other → ¬ IsBefore other.0 first.0) held

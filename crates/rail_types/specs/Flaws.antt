@@ -1,12 +1,17 @@
 -- What is wrong with a network: the first flaw by block, then in the order of the kinds.
-use Rattle.std.specs.Prelude.{ℕ, Bool, true, false, ◌&&◌, ◌||◌, not, List, [], ◌∷◌, length, drop, find, map, sum, Option, Some, None, nat_le, nat_lt, nat_eq, if◌then◌else◌}
+use Rattle.std.specs.Prelude.{ℕ, Bool, true, false, ◌&&◌, ◌||◌, not, List, [], ◌∷◌, length, drop}
+use Rattle.std.specs.Prelude.{find, map, sum, Option, Some, None, nat_le, nat_lt, nat_eq}
+use Rattle.std.specs.Prelude.{if◌then◌else◌}
 use Rattle.std.specs.List.{list_all, list_any, zip}
 use Rattle.rail_types.specs.declared.tracks.Cell.{Cell}
 use Rattle.rail_types.specs.declared.tracks.Block.{Block}
 use Rattle.rail_types.specs.declared.tracks.Network.{Network}
 use Rattle.rail_types.specs.declared.tracks.NetFlaw.{NetFlaw}
-use Rattle.rail_types.specs.declared.tracks.NetFlaw.TheVariants.{Range, CellOrder, EmptyBlock, Point, Serves, Limit}
-use Rattle.rail_types.specs.declared.limits.TheConstants.{MAX_OBJECTS, MAX_CELLS, MAX_BLOCK_LENGTH_M, MAX_SIGHT_M, MAX_SPEED_MM_S}
+use Rattle.rail_types.specs.declared.tracks.NetFlaw.TheVariants.{Range, CellOrder, EmptyBlock}
+use Rattle.rail_types.specs.declared.tracks.NetFlaw.TheVariants.{Point, Serves, Limit}
+use Rattle.rail_types.specs.declared.limits.TheConstants.{MAX_OBJECTS, MAX_CELLS}
+use Rattle.rail_types.specs.declared.limits.TheConstants.{MAX_BLOCK_LENGTH_M, MAX_SIGHT_M}
+use Rattle.rail_types.specs.declared.limits.TheConstants.{MAX_SPEED_MM_S}
 
 -- whether a number is below the least or above the most
 abbrev pub is_outside : ℕ → ℕ → ℕ → Bool

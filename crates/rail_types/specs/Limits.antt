@@ -1,6 +1,16 @@
 -- The limits of the numbers of an entry.
-use Rattle.std.specs.Prelude.{◌≡◌, ℕ, ◌≤◌, ◌-◌, ◌^◌, ◌⊎◌, ℤ, neg_ℤ, ◌≤ℤ◌, Bool, ◌&&◌, ◌||◌, ◌==◌, int_le, nat_le, List, [], length, All, IsUtf8}
-use Rattle.rail_types.specs.declared.limits.TheConstants.{MAX_TICK, MAX_TICK_S, MAX_SETTING, MAX_RELEASE, MAX_HORIZON, MIN_JOURNAL_BYTES, MAX_JOURNAL_BYTES, MAX_OWNER_BYTES, MAX_TRAIN_LENGTH_M, MAX_SPEED_MM_S, MAX_ACCEL_MM_S2, MAX_ALLOWANCE_PERCENT, MAX_TRAIN_NAME_BYTES, MAX_STOPS, MAX_DWELL, MAX_NUMBER, MAX_PINNED_RUNS, MAX_HOLD_CLAIMS, MAX_REASON_BYTES, MAX_BLOCK_LENGTH_M, MAX_SIGHT_M, FAR_TICK}
+use Rattle.std.specs.Prelude.{◌≡◌, ℕ, ◌≤◌, ◌-◌, ◌^◌, ◌⊎◌, ℤ, neg_ℤ, ◌≤ℤ◌, Bool, ◌&&◌, ◌||◌, ◌==◌}
+use Rattle.std.specs.Prelude.{int_le, nat_le, List, [], length, All, IsUtf8}
+use Rattle.rail_types.specs.declared.limits.TheConstants.{MAX_TICK, MAX_TICK_S, MAX_SETTING}
+use Rattle.rail_types.specs.declared.limits.TheConstants.{MAX_RELEASE, MAX_HORIZON}
+use Rattle.rail_types.specs.declared.limits.TheConstants.{MIN_JOURNAL_BYTES, MAX_JOURNAL_BYTES}
+use Rattle.rail_types.specs.declared.limits.TheConstants.{MAX_OWNER_BYTES, MAX_TRAIN_LENGTH_M}
+use Rattle.rail_types.specs.declared.limits.TheConstants.{MAX_SPEED_MM_S, MAX_ACCEL_MM_S2}
+use Rattle.rail_types.specs.declared.limits.TheConstants.{MAX_ALLOWANCE_PERCENT}
+use Rattle.rail_types.specs.declared.limits.TheConstants.{MAX_TRAIN_NAME_BYTES, MAX_STOPS}
+use Rattle.rail_types.specs.declared.limits.TheConstants.{MAX_DWELL, MAX_NUMBER, MAX_PINNED_RUNS}
+use Rattle.rail_types.specs.declared.limits.TheConstants.{MAX_HOLD_CLAIMS, MAX_REASON_BYTES}
+use Rattle.rail_types.specs.declared.limits.TheConstants.{MAX_BLOCK_LENGTH_M, MAX_SIGHT_M, FAR_TICK}
 use Rattle.rail_types.specs.declared.paths.Claim.{Claim}
 use Rattle.rail_types.specs.declared.paths.Span.{Span}
 use Rattle.rail_types.specs.declared.paths.Window.{Window}
@@ -111,14 +121,14 @@ pub record IsAnswered (asked : Request) (path : Path) : Type 0 where
   pub train : asked.train ≡ path.train
   pub runs : IsPathWithinLimits (2 ^ 32 - 1) path
 
--- a path within its limits, by what it was asked for; as many runs as a horizon holds are far fewer than a count of
--- four bytes can say
+-- a path within its limits, by what it was asked for; as many runs as a horizon holds are far fewer
+-- than a count of four bytes can say
 abbrev pub IsGrantWithinLimits : Wanted → Path → Type 0
 IsGrantWithinLimits (Asked request) path = IsAnswered request path
 IsGrantWithinLimits Pinned path = IsPathWithinLimits MAX_PINNED_RUNS path
 
--- what a hold holds: 1 to 64 claims in order, of which no two of one zone overlap or touch, and a reason of at most
--- 255 bytes; without a reason it has one claim
+-- what a hold holds: 1 to 64 claims in order, of which no two of one zone overlap or touch, and a
+-- reason of at most 255 bytes; without a reason it has one claim
 pub record IsHoldWithinLimits (claims : List Claim) (reason : List ℕ) : Type 0 where
   pub within : All IsClaimWithinLimits claims
   pub some : 1 ≤ length claims
@@ -133,7 +143,8 @@ IsDeedWithinLimits (Hold claims reason) = IsHoldWithinLimits claims reason
 IsDeedWithinLimits (Grant wanted path) = IsGrantWithinLimits wanted path
 IsDeedWithinLimits (Free entry) = entry ≤ MAX_NUMBER
 
--- an entry whose numbers are within their limits, whatever the network has; a line may have any number of its type
+-- an entry whose numbers are within their limits, whatever the network has; a line
+-- may have any number of its type
 pub record IsEntryWithinLimits (entry : Entry) : Type 0 where
   pub owner : IsClientName entry.owner
   pub number : entry.number ≤ MAX_NUMBER

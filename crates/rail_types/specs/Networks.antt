@@ -10,8 +10,8 @@ Follows net a b =
     (x y : Block) × (slice_get net.blocks a ≡ Some x) × (slice_get net.blocks b ≡ Some y)
     × (y.from_point ≡ x.to_point)
 
--- a block with a cell, whose zones, points and operational points are those of the network; its cells are released in
--- their order, and the operational points that it serves ascend
+-- a block with a cell, whose zones, points and operational points are those of the network; its
+-- cells are released in their order, and the operational points that it serves ascend
 pub record IsBlockOf (net : Network) (block : Block) : Type 0 where
   pub some : 1 ≤ length block.cells
   pub zones : All (λ cell. cell.zone < net.zones) block.cells

@@ -28,7 +28,8 @@ pub record IsBaseClaimOf (net : Network) (one : BaseClaim) : Type 0 where
   pub zone : one.claim.zone < net.zones
   pub within : IsClaimWithinLimits one.claim
 
--- a network without flaws, settings within their limits, and base claims on its zones of which no two clash
+-- a network without flaws, settings within their limits, and base claims on
+-- its zones of which no two clash
 pub record IsTimetable (timetable : Timetable) : Type 0 where
   pub sound : first_flaw timetable.net ≡ None
   pub within : IsSettingsWithinLimits timetable.settings

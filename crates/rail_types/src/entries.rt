@@ -6,7 +6,8 @@ use crate::{Claim, List, Name, Path, Request};
 use no_memory::NoMemory;
 use std::alloc::Global;
 
-/// Who holds a claim: a train of the base timetable by its number, or an entry by its position in the history.
+/// Who holds a claim: a train of the base timetable by its number, or an entry by
+/// its position in the history.
 #[derive(Clone, Copy, Debug, PartialEq, Eq)]
 pub enum Owner {
     Base(u32),
@@ -20,8 +21,8 @@ pub enum Wanted {
     Pinned,
 }
 
-/// What an entry does: holds claims for a reason, grants a path, or frees the entry at a position. The claims of a hold
-/// stand by zone, then by begin; one without a reason has one claim.
+/// What an entry does: holds claims for a reason, grants a path, or frees the entry at a position.
+/// The claims of a hold stand by zone, then by begin; one without a reason has one claim.
 #[derive(Debug, Drop)]
 pub enum Deed {
     Hold(List<Claim>, Name),
@@ -29,8 +30,8 @@ pub enum Deed {
     Free(u64),
 }
 
-/// One entry of the history: the client that owns it, the client's own number for it, the client's line in its run,
-/// and what it does.
+/// One entry of the history: the client that owns it, the client's own number for it, the client's
+/// line in its run, and what it does.
 #[derive(Debug, Drop)]
 pub struct Entry {
     pub owner: Name,
@@ -39,8 +40,9 @@ pub struct Entry {
     pub deed: Deed,
 }
 
-/// The settings of a timetable: seconds a tick, ticks for setting a route and for releasing a zone, the last tick,
-/// the bytes that its journal may take, and whether a train loses time where the next block has another speed.
+/// The settings of a timetable: seconds a tick, ticks for setting a route and for releasing a zone,
+/// the last tick, the bytes that its journal may take, and whether a train loses time where the
+/// next block has another speed.
 #[derive(Clone, Copy, Debug, PartialEq, Eq)]
 pub struct Settings {
     pub tick_s: u32,

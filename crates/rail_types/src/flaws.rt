@@ -2,9 +2,11 @@
 
 ghost use Rattle.std.specs.Prelude.{◌≡◌, ◌↔◌, ◌<◌, length, map, nat_lt, sum, IsTrue};
 ghost use Rattle.rail_types.specs.declared.limits.TheConstants.{MAX_CELLS as most_cells};
-ghost use Rattle.rail_types.specs.Flaws.{ascends, climbs, exceeds_limits, first_flaw, flaw_of_block, flaw_of_blocks, has_flaw};
+ghost use Rattle.rail_types.specs.Flaws.{ascends, climbs, exceeds_limits, first_flaw};
+ghost use Rattle.rail_types.specs.Flaws.{flaw_of_block, flaw_of_blocks, has_flaw};
 ghost use Rattle.rail_types.specs.Networks.{Follows};
-ghost use Rattle.rail_types.specs.declared.tracks.NetFlaw.TheVariants.{CellOrder, EmptyBlock, Limit, Point, Range, Serves};
+ghost use Rattle.rail_types.specs.declared.tracks.NetFlaw.TheVariants.{CellOrder, EmptyBlock};
+ghost use Rattle.rail_types.specs.declared.tracks.NetFlaw.TheVariants.{Limit, Point, Range, Serves};
 
 use crate::{
     Block, Cell, MAX_BLOCK_LENGTH_M, MAX_CELLS, MAX_OBJECTS, MAX_SIGHT_M, MAX_SPEED_MM_S, NetFlaw,
@@ -12,8 +14,8 @@ use crate::{
 };
 
 impl Network {
-    /// The first flaw by block, then in the order of the kinds; None where there is none. The numbers may be any. It
-    /// takes no memory.
+    /// The first flaw by block, then in the order of the kinds; None where there is none. The
+    /// numbers may be any. It takes no memory.
     pub fn check(&self) -> Option<NetFlaw>
         ensures { result ≡ first_flaw self.now }
     {

@@ -1,7 +1,8 @@
 //! Whether a tick or a name has the form that clients, files and journals may give it.
 
 ghost use Rattle.std.specs.Prelude.{◌≡◌, ◌↔◌, IsTrue};
-ghost use Rattle.rail_types.specs.Limits.{IsClientName, IsNameByte, IsTick, is_name_byte as name_byte, is_tick as tick_test};
+ghost use Rattle.rail_types.specs.Limits.{IsClientName, IsNameByte, IsTick};
+ghost use Rattle.rail_types.specs.Limits.{is_name_byte as name_byte, is_tick as tick_test};
 
 use crate::{MAX_OWNER_BYTES, MAX_TICK, Tick};
 

@@ -1,6 +1,7 @@
 //! Laws of the definitions, each on a function that does nothing.
 
-ghost use Rattle.std.specs.Prelude.{◌≡◌, ℕ, ◌≤◌, ◌↔◌, true, Some, None, ℤ, pos, List, [], ◌∷◌, map, All};
+ghost use Rattle.std.specs.Prelude.{◌≡◌, ℕ, ◌≤◌, ◌↔◌, true, Some, None, ℤ, pos, List, [], ◌∷◌, map};
+ghost use Rattle.std.specs.Prelude.{All};
 ghost use Rattle.rail_types.specs.declared.limits.TheConstants.{
   FAR_TICK,
   MAX_ACCEL_MM_S2,
@@ -37,7 +38,8 @@ ghost use Rattle.rail_types.specs.declared.limits.TheConstants.{
 ghost use Rattle.rail_types.specs.declared.paths.Claim.{Claim as claim_type};
 ghost use Rattle.rail_types.specs.declared.paths.Span.{Span as span_type};
 ghost use Rattle.rail_types.specs.declared.tracks.Network.{Network as network_type};
-ghost use Rattle.rail_types.specs.Occupation.{AreJoined, Clash, Fits, HasTicks, HeldClaim, IsTickOf, Overlap};
+ghost use Rattle.rail_types.specs.Occupation.{AreJoined, Clash, Fits, HasTicks, HeldClaim};
+ghost use Rattle.rail_types.specs.Occupation.{IsTickOf, Overlap};
 ghost use Rattle.rail_types.specs.FirstClash.{
   AreApart,
   clashes,
@@ -91,8 +93,9 @@ pub fn clashes_share_a_tick()
         → IsTickOf a tick → IsTickOf b tick → Overlap a b }
 {}
 
-/// Each kind of flaw is told for a network that has it, and none for a sound line; the flaw of an earlier block before that
-/// of a later one, of one block the kinds in their order, and that of a block before too many of anything.
+/// Each kind of flaw is told for a network that has it, and none for a sound line; the flaw of an
+/// earlier block before that of a later one, of one block the kinds in their order, and that of a
+/// block before too many of anything.
 pub fn flaws_are_told_apart()
     ensures zone { first_flaw zone_out_of_range ≡ Some Range }
     ensures past { first_flaw release_past_the_end ≡ Some CellOrder }
@@ -111,8 +114,8 @@ pub fn flaws_are_told_apart()
     ensures few { (zones : ℕ) → zones ≤ 65536 → first_flaw (bare zones) ≡ None }
 {}
 
-/// A network has no flaw exactly where its blocks are within their limits and speak of what it has, and it has no more
-/// of anything than its limit.
+/// A network has no flaw exactly where its blocks are within their limits and speak of what it has,
+/// and it has no more of anything than its limit.
 pub fn networks_without_flaws()
     ensures limits { (net : network_type)
         → first_flaw net ≡ None → All IsBlockWithinLimits net.blocks }
@@ -125,8 +128,8 @@ pub fn networks_without_flaws()
         → HasCountsWithinLimits net → first_flaw net ≡ None }
 {}
 
-/// What the first clash of claims with held ones is. Of held claims that are apart it is the same in whatever order
-/// they stand, and the first of joined claims that clashes tells it.
+/// What the first clash of claims with held ones is. Of held claims that are apart it is the same
+/// in whatever order they stand, and the first of joined claims that clashes tells it.
 pub fn first_clashes_are_first()
     ensures none { (held : List HeldClaim) (claims : List claim_type)
         → (first_clash held claims ≡ None) ↔ Fits claims (map (λ one. one.0) held) }
@@ -145,7 +148,8 @@ pub fn first_clashes_are_first()
         → first_clash held (claim ∷ claims) ≡ first_clash held claims }
     ensures in_order { (held : List HeldClaim) (claim : claim_type) (claims : List claim_type)
         → (first : HeldClaim) → AreApart held → AreJoined (claim ∷ claims)
-        → first_clash held (claim ∷ []) ≡ Some first → first_clash held (claim ∷ claims) ≡ Some first }
+        → first_clash held (claim ∷ []) ≡ Some first
+        → first_clash held (claim ∷ claims) ≡ Some first }
 {}
 
 /// What the tests of definitions mean.

@@ -1,4 +1,5 @@
-//! The plain types of the server: track, trains, paths, occupations and the entries of its history, with their limits.
+//! The plain types of the server: track, trains, paths, occupations and the entries of
+//! its history, with their limits.
 #![tactic(auto)]
 
 mod bases;

@@ -50,8 +50,8 @@ pub const MAX_JOURNAL_BYTES: u64 = 268_435_456;
 /// Greatest tick of a claim, a window or an entry; the least is its negative.
 pub const MAX_TICK: Tick = 100_000;
 
-/// A bound on the ticks of all claims that are held: those of paths lie within the horizon, but for setting, the
-/// longest sight distance at the least speed, and release.
+/// A bound on the ticks of all claims that are held: those of paths lie within the horizon, but for
+/// setting, the longest sight distance at the least speed, and release.
 pub const FAR_TICK: Tick = 1_099_511_627_776;
 
 /// Greatest number of a line, and greatest position of an entry.

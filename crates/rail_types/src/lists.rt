@@ -1,6 +1,7 @@
 //! A growing list that contracts see as a list.
 
-ghost use Rattle.std.specs.Prelude.{◌≡◌, ◌↔◌, ◌∷◌, ◌++◌, [], length, OnOk, OnErr, IfOk, IsTrue, option_map, slice_get};
+ghost use Rattle.std.specs.Prelude.{◌≡◌, ◌↔◌, ◌∷◌, ◌++◌, [], length, OnOk, OnErr, IfOk, IsTrue};
+ghost use Rattle.std.specs.Prelude.{option_map, slice_get};
 
 use no_memory::NoMemory;
 use std::alloc::Global;

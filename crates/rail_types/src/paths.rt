@@ -40,7 +40,8 @@ impl Claim {
         self.zone == other.zone && self.span.from < other.span.to && other.span.from < self.span.to
     }
 
-    /// Whether this claim is on a lower zone than the other, or on the same one and begins before it.
+    /// Whether this claim is on a lower zone than the other, or on the
+    /// same one and begins before it.
     pub fn comes_before(&self, other: &Claim) -> bool
         ensures { IsTrue result ↔ IsBefore self.now other.now }
     {
@@ -48,8 +49,8 @@ impl Claim {
     }
 }
 
-/// One block of a path: its number, the ticks at which the head enters it and reaches its end, and whether the
-/// train stops there.
+/// One block of a path: its number, the ticks at which the head enters it and reaches its end, and
+/// whether the train stops there.
 #[derive(Clone, Copy, Debug, PartialEq, Eq)]
 pub struct Run {
     pub block: u32,

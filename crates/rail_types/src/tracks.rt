@@ -6,16 +6,17 @@ use crate::List;
 use no_memory::NoMemory;
 use std::alloc::Global;
 
-/// One passage of a block through a zone: the zone, and the metres from the block's beginning to the point behind
-/// which the zone is released.
+/// One passage of a block through a zone: the zone, and the metres from the block's beginning to
+/// the point behind which the zone is released.
 #[derive(Clone, Copy, Debug, PartialEq, Eq)]
 pub struct Cell {
     pub zone: u32,
     pub release_m: u32,
 }
 
-/// A block section: its length and sight distance in metres, its greatest speed in millimetres a second, its cells
-/// in order, the points at which it begins and ends, and the operational points that it serves, ascending.
+/// A block section: its length and sight distance in metres, its greatest speed in millimetres a
+/// second, its cells in order, the points at which it begins and ends, and the operational
+/// points that it serves, ascending.
 #[derive(Debug, Drop)]
 pub struct Block {
     pub length_m: u32,
@@ -36,9 +37,10 @@ pub struct Network {
     pub blocks: List<Block>,
 }
 
-/// What is wrong with a network, in the order in which a block is looked through: a zone out of range, cells out of
-/// order or past the block's end, no length or no cell, a point out of range, served points unsorted or out of range,
-/// a number outside its limits; and last, more zones, points, operational points, blocks or cells than are allowed.
+/// What is wrong with a network, in the order in which a block is looked through: a zone out of
+/// range, cells out of order or past the block's end, no length or no cell, a point out of range,
+/// served points unsorted or out of range, a number outside its limits; and last, more zones,
+/// points, operational points, blocks or cells than are allowed.
 #[derive(Clone, Copy, Debug, PartialEq, Eq)]
 pub enum NetFlaw {
     Range,

@@ -6,8 +6,8 @@ use crate::{List, Name, Window};
 use no_memory::NoMemory;
 use std::alloc::Global;
 
-/// A train: its length in metres, its greatest speed in millimetres a second, acceleration and braking in
-/// millimetres a second squared, and the allowance on its running times in per cent.
+/// A train: its length in metres, its greatest speed in millimetres a second, acceleration and
+/// braking in millimetres a second squared, and the allowance on its running times in per cent.
 #[derive(Debug, Drop)]
 pub struct Train {
     pub name: Name,
@@ -53,8 +53,8 @@ pub struct Stop {
     pub dwell: u32,
 }
 
-/// A path that is asked for: train, origin and destination by their operational points, the windows in which the
-/// train may depart and arrive, and the stops between, in order.
+/// A path that is asked for: train, origin and destination by their operational points, the windows
+/// in which the train may depart and arrive, and the stops between, in order.
 #[derive(Debug, Drop)]
 pub struct Request {
     pub train: Train,

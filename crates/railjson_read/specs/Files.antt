@@ -1,5 +1,6 @@
 -- What the bytes of a file of infrastructure read as: its lists, or the first fault.
-use Rattle.std.specs.Prelude.{ℕ, ◌+◌, pos, List, length, codes, if◌then◌else◌, nat_le, is_some, Result, Ok, Err}
+use Rattle.std.specs.Prelude.{ℕ, ◌+◌, pos, List, length, codes, if◌then◌else◌, nat_le, is_some}
+use Rattle.std.specs.Prelude.{Result, Ok, Err}
 use Rattle.serde_json.specs.Data.{Data}
 use Rattle.serde_json.specs.Find.{as_object}
 use Rattle.rail_types.specs.declared.limits.TheConstants.{MAX_NETWORK_FILE_BYTES}
@@ -66,14 +67,16 @@ lists_in d = do
   Ok (joined landmarks others)
 
 abbrev pub object_of : Data → Result Infra InfraFault
-object_of d = if is_some (as_object d) then lists_in d else Err (Kind (spot_of whole_file (codes "file")))
+object_of d =
+    if is_some (as_object d) then lists_in d else Err (Kind (spot_of whole_file (codes "file")))
 
 abbrev pub text_at : List ℕ → Result Infra InfraFault
 text_at quoted = do
   d ← or_fault NotJson (data_of quoted)
   object_of d
 
--- What bytes read as, where `quoted` is their text with its numbers quoted. The size of a file comes before all else.
+-- What bytes read as, where `quoted` is their text with its numbers quoted. The size of
+-- a file comes before all else.
 abbrev pub infra_at : List ℕ → List ℕ → Result Infra InfraFault
 infra_at bytes quoted =
     if nat_le (length bytes) MAX_NETWORK_FILE_BYTES then text_at quoted

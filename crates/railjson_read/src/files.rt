@@ -18,10 +18,11 @@ use rail_types::MAX_NETWORK_FILE_BYTES;
 use serde_json::Value;
 use std::alloc::Global;
 
-/// Reads an infrastructure, a JSON object with the lists `track_sections`, `switches`, `detectors`, `buffer_stops`,
-/// `signals`, `routes`, `operational_points` and `speed_sections` of OSRD's RailJSON. Answers the first fault: the file's
-/// size, its form, then list by list in this order, object by object and field by field; and want of memory. Names of
-/// other objects become their numbers, and each number names an object of its list.
+/// Reads an infrastructure, a JSON object with the lists `track_sections`, `switches`, `detectors`,
+/// `buffer_stops`, `signals`, `routes`, `operational_points` and `speed_sections` of OSRD's
+/// RailJSON. Answers the first fault: the file's size, its form, then list by list in this order,
+/// object by object and field by field; and want of memory. Names of other objects become their
+/// numbers, and each number names an object of its list.
 pub fn read_infra(alloc: Global, bytes: &[u8]) -> Result<Infra, InfraFault>
     ensures read { (quoted : list_of ℕ) → IsQuoted bytes.now quoted →
         Gives (λ infra. infra) result (infra_at bytes.now quoted) }

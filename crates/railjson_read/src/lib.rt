@@ -1,4 +1,5 @@
-//! Railway infrastructure as OSRD's RailJSON describes it: the bytes of a file, read to typed lists.
+//! Railway infrastructure as OSRD's RailJSON describes it: the bytes of
+//! a file, read to typed lists.
 //!
 //! *Inside*: the lists of a file that is read, joined to an infrastructure.
 #![tactic(auto)]

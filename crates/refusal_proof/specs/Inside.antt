@@ -1,5 +1,6 @@
 -- Inside the check: labels, the ticks at which a train may go on, and what a move leads to.
-use Rattle.std.specs.Prelude.{◌≡◌, ◌⊎◌, ◌↔◌, ℕ, ◌+◌, ◌^◌, ◌<◌, ℤ, pos, neg_ℤ, ◌+ℤ◌, ◌<ℤ◌, ◌≤ℤ◌, List, [], ◌++◌, length, map, All, AllPairs, Any}
+use Rattle.std.specs.Prelude.{◌≡◌, ◌⊎◌, ◌↔◌, ℕ, ◌+◌, ◌^◌, ◌<◌, ℤ, pos, neg_ℤ, ◌+ℤ◌, ◌<ℤ◌, ◌≤ℤ◌}
+use Rattle.std.specs.Prelude.{List, [], ◌++◌, length, map, All, AllPairs, Any}
 use Rattle.std.specs.List.{slice_index_or}
 use Rattle.rail_types.specs.declared.tracks.Network.{Network}
 use Rattle.rail_types.specs.declared.trains.Request.{Request}
@@ -111,7 +112,8 @@ CoverAlike one other =
     (number : ℕ) (tick : ℤ) → IsCovered one number tick ↔ IsCovered other number tick
 
 -- in order, for these members
-pub record AreLabelsOf (places : List Place) (members : List Member) (labels : List Label) : Type 0 where
+pub record AreLabelsOf (places : List Place) (members : List Member)
+    (labels : List Label) : Type 0 where
   pub all : AreLabels places labels
   pub alike : HoldAlike members (members_of places labels)
 
@@ -174,7 +176,8 @@ StaysUntil held zones window to =
 -- the ticks of a step from a place
 abbrev pub ticks_of_step : Network → Settings → Request → Place → Step → ℕ
 ticks_of_step net settings request place step =
-    run_ticks (block_at net step.block) request.train settings (entry_of net request.train place) step.exit
+    run_ticks (block_at net step.block) request.train settings (entry_of net request.train place)
+    step.exit
 
 -- what is kept behind an end through its release, the step's head entering at tick 0
 abbrev pub kept_behind : Network → Settings → Request → Place → Step → Next → List Claim
@@ -203,7 +206,8 @@ PassesIn horizon IsFreeThen Leads ticks window =
     → (enter +ℤ ticks) ≤ℤ pos horizon → IsFreeThen enter → Leads (enter +ℤ ticks)
 
 -- whenever a train goes on by a move that is free, it leads there
-abbrev pub MovePasses : Network → Settings → Request → List HeldClaim → List Label → Going → Place → Move → Type 0
+abbrev pub MovePasses : Network → Settings → Request → List HeldClaim → List Label → Going → Place
+    → Move → Type 0
 MovePasses net settings request held labels going place one =
     (enter : ℤ) → Goes held going enter → pos 0 ≤ℤ enter
     → leaves_at net settings request place one.step enter ≤ℤ pos settings.horizon
@@ -211,14 +215,17 @@ MovePasses net settings request held labels going place one =
     → Leads labels request.arrive one.next (leaves_at net settings request place one.step enter)
 
 -- whenever a train goes on by a free move, what it leads to is admitted
-abbrev pub StepsPass : Network → Settings → Request → List Claim → List Member → (ℤ → Type 0) → Place → Type 0
+abbrev pub StepsPass : Network → Settings → Request → List Claim → List Member → (ℤ → Type 0)
+    → Place → Type 0
 StepsPass net settings request live members IsOn place =
     (step : Step) (enter : ℤ) → IsOn enter
     → IsFreeMove net settings request live place step enter
-    → IsAdmitted net settings request live members place step (leaves_at net settings request place step enter)
+    → IsAdmitted net settings request live members place step
+    (leaves_at net settings request place step enter)
 
 -- the same of a label
-abbrev pub LabelPasses : Network → Settings → Request → List Claim → List Place → List Label → Label → Type 0
+abbrev pub LabelPasses : Network → Settings → Request → List Claim → List Place → List Label → Label
+    → Type 0
 LabelPasses net settings request live places labels label =
     StepsPass net settings request live (members_of places labels)
     (CanGoOn net request live (slice_index_or places label.number start_place) label.window)

@@ -14,8 +14,9 @@ use Rattle.tail_states.specs.Closing.{IsClosed}
 abbrev pub claims_held : List Zone → List Claim
 claims_held book = map (λ one. one.0) (held book)
 
--- each member is at a place of the request, and the members hold whatever a free move from the start or from a member
--- leads to; no free end arrives in time
-pub record IsProof (net : Network) (settings : Settings) (live : List Claim) (request : Request) (proof : Closed) : Type 0 where
+-- each member is at a place of the request, and the members hold whatever a free move from the
+-- start or from a member leads to; no free end arrives in time
+pub record IsProof (net : Network) (settings : Settings) (live : List Claim) (request : Request)
+    (proof : Closed) : Type 0 where
   pub places : All (λ member. IsPlace net request member.place) proof.members
   pub closed : IsClosed net settings request live proof.members

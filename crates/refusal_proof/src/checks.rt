@@ -1,6 +1,7 @@
 //! Whether members show that no path of a request can be granted.
 
-ghost use Rattle.std.specs.Prelude.{◌≡◌, ◌↔◌, ◌<◌, ◌≤◌, ◌^◌, ◌≤ℤ◌, length, None, Some, All, AllPairs, IfOk, IsTrue, slice_get};
+ghost use Rattle.std.specs.Prelude.{◌≡◌, ◌↔◌, ◌<◌, ◌≤◌, ◌^◌, ◌≤ℤ◌, length, None, Some, All};
+ghost use Rattle.std.specs.Prelude.{AllPairs, IfOk, IsTrue, slice_get};
 ghost use Rattle.rail_types.specs.declared.limits.TheConstants.{MAX_PLACES};
 ghost use Rattle.rail_types.specs.Flaws.{first_flaw};
 ghost use Rattle.rail_types.specs.Limits.{IsRequestWithinLimits, IsSettingsWithinLimits};
@@ -160,11 +161,12 @@ fn labels_pass(
     Ok(true)
 }
 
-/// Whether these members show that no path of a request can be granted beside what the book holds: each is at one of the
-/// request's places, and they hold whatever a free move from the start in the window of departure, or from a member,
-/// leads to, while no free end lies in the window of arrival. The search has no part in it: of the moves each is tried at
-/// the ticks of a member's window, claim by claim of the book and label by label of the members, each found by a binary
-/// search.
+/// Whether these members show that no path of a request can be granted beside what the book
+/// holds: each is at one of the request's places, and they hold whatever a free move from the
+/// start in the window of departure, or from a member, leads to, while no free end lies in
+/// the window of arrival. The search has no part in it: of the moves each is tried at the
+/// ticks of a member's window, claim by claim of the book and label by label of the members,
+/// each found by a binary search.
 pub fn check(
     alloc: Global,
     net: &Network,
@@ -187,7 +189,8 @@ pub fn check(
     ensures sound { IfOk result (λ yes. IsTrue yes
         → ¬ IsPossible net.now settings.now (claims_held book.now) request.now) }
 {
-    // These laws say that closed members exclude all paths, and that the claims of a book have ticks.
+    // These laws say that closed members exclude all paths, and that the
+    // claims of a book have ticks.
     closed_members_exclude_paths();
     book.zones();
     let Some(labels) = labels_of(alloc, places, proof.members.as_slice())? else {

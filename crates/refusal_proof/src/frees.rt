@@ -1,10 +1,12 @@
-//! The ticks of a window at which claims are free, each found behind the claims that they clash with.
+//! The ticks of a window at which claims are free, each found behind the
+//! claims that they clash with.
 
 ghost use Rattle.std.specs.Prelude.{◌≡◌, ℤ, ◌+ℤ◌, ◌-ℤ◌, ◌≤ℤ◌, All, IfSome, IsNone, length};
 ghost use Rattle.rail_types.specs.Limits.{IsNearSpan};
 ghost use Rattle.occupation_book.specs.Held.{IsFree, held};
 ghost use Rattle.stair_pieces.specs.Moves.{IsInside};
-ghost use Rattle.refusal_proof.specs.Inside.{AreFreeAt, IsBehind, IsClaimIn, IsFar, IsFromFirst, IsNearWindow, later};
+ghost use Rattle.refusal_proof.specs.Inside.{AreFreeAt, IsBehind, IsClaimIn, IsFar, IsFromFirst};
+ghost use Rattle.refusal_proof.specs.Inside.{IsNearWindow, later};
 
 use occupation_book::Occupations;
 use rail_types::{Claim, Span, Window, first_clashes_are_first};
@@ -40,7 +42,8 @@ fn behind_other(window: &Window, claim: &Claim, other: &Claim) -> Window
     }
 }
 
-// What is left of a window behind the first ticks at which a claim is not free, None where it is free at the first.
+// What is left of a window behind the first ticks at which a claim is not free, None
+// where it is free at the first.
 fn behind_clash_of(claim: &Claim, book: &Occupations, window: &Window) -> Option<Window>
     requires claim { IsClaimIn (length book.now) claim.now }
     requires window { IsNearWindow window.now }
@@ -75,8 +78,8 @@ fn behind_clash(claims: &[Claim], book: &Occupations, window: &Window) -> Option
     None
 }
 
-/// What is left of a window from the first tick on at which all claims, that stand here for tick 0, are free; None where
-/// there is none.
+/// What is left of a window from the first tick on at which all claims, that stand here for tick 0,
+/// are free; None where there is none.
 pub(crate) fn first_free(claims: &[Claim], book: &Occupations, window: &Window) -> Option<Window>
     requires claims { All (IsClaimIn (length book.now)) claims.now }
     requires window { IsNearWindow window.now }

@@ -1,6 +1,8 @@
 //! The ticks at which a train may go on that reached a place within a window.
 
-ghost use Rattle.std.specs.Prelude.{◌≡◌, ◌↔◌, ℕ, ◌+◌, ◌-◌, ◌<◌, ◌^◌, ◌++◌, ℤ, pos, neg_ℤ, ◌+ℤ◌, ◌-ℤ◌, ◌<ℤ◌, ◌≤ℤ◌, true, [], List as list_of, length, None, Some, All, IfOk, OnOk, slice_get};
+ghost use Rattle.std.specs.Prelude.{◌≡◌, ◌↔◌, ℕ, ◌+◌, ◌-◌, ◌<◌, ◌^◌, ◌++◌, ℤ, pos, neg_ℤ, ◌+ℤ◌};
+ghost use Rattle.std.specs.Prelude.{◌-ℤ◌, ◌<ℤ◌, ◌≤ℤ◌, true, [], List as list_of, length, None};
+ghost use Rattle.std.specs.Prelude.{Some, All, IfOk, OnOk, slice_get};
 ghost use Rattle.rail_types.specs.declared.trains.Stop.{Stop as stop_type};
 ghost use Rattle.std.specs.Int.{int_max, int_min};
 ghost use Rattle.rail_types.specs.Flaws.{first_flaw};
@@ -11,7 +13,8 @@ ghost use Rattle.stair_pieces.specs.Moves.{IsInside, IsPlace};
 ghost use Rattle.stair_pieces.specs.Pieces.{kept};
 ghost use Rattle.stair_pieces.specs.Steps.{IsPlaceIn};
 ghost use Rattle.refusal_proof.specs.Proofs.{claims_held};
-ghost use Rattle.refusal_proof.specs.Inside.{AreGoings, CanGoOn, Goes, IsClaimIn, StaysUntil, stay as stay_of};
+ghost use Rattle.refusal_proof.specs.Inside.{AreGoings, CanGoOn, Goes, IsClaimIn, StaysUntil};
+ghost use Rattle.refusal_proof.specs.Inside.{stay as stay_of};
 
 use no_memory::NoMemory;
 use occupation_book::Occupations;
@@ -19,8 +22,8 @@ use rail_types::{Claim, List, Network, Request, Settings, Span, Window, first_cl
 use stair_pieces::{Place, pieces_are_claims, standing};
 use std::alloc::Global;
 
-/// The ticks at which a train may go on: those of the first window at which the claims, that stand here for tick 0, are
-/// free, and those of the second.
+/// The ticks at which a train may go on: those of the first window at which the claims, that stand
+/// here for tick 0, are free, and those of the second.
 #[derive(Debug, Drop)]
 pub(crate) struct Going {
     pub(crate) claims: List<Claim>,
@@ -171,8 +174,8 @@ fn behind(window: &Window, settings: &Settings) -> Window
     }
 }
 
-// The ticks at which a train goes on that stands at a place: while it has just dwelt, and later while the zones that it
-// keeps since the last tick of the window are free.
+// The ticks at which a train goes on that stands at a place: while it has just dwelt, and later
+// while the zones that it keeps since the last tick of the window are free.
 fn going_on_from_stand(
     alloc: Global,
     net: &Network,

@@ -1,6 +1,8 @@
-//! The members of a proof by the numbers of their places, sorted so that a look-up is a binary search.
+//! The members of a proof by the numbers of their places, sorted so that
+//! a look-up is a binary search.
 
-ghost use Rattle.std.specs.Prelude.{◌≡◌, ◌↔◌, ◌<◌, ◌≤◌, ◌^◌, ◌≤ℤ◌, length, All, AllPairs, Contains, IfOk, IfSome, IsNone, IsTrue};
+ghost use Rattle.std.specs.Prelude.{◌≡◌, ◌↔◌, ◌<◌, ◌≤◌, ◌^◌, ◌≤ℤ◌, length, All, AllPairs, Contains};
+ghost use Rattle.std.specs.Prelude.{IfOk, IfSome, IsNone, IsTrue};
 ghost use Rattle.std.specs.Int.{int_min};
 ghost use Rattle.std.specs.List.{AllWithin};
 ghost use Rattle.std.specs.List.Sorted.{IsPermutation};
@@ -94,7 +96,8 @@ fn reaching(before: &[Label], label: &Label) -> Label
     }
 }
 
-// Sorted labels, each of which ends no earlier than any before it at the same number; one look-up is enough then.
+// Sorted labels, each of which ends no earlier than any before it at the same
+// number; one look-up is enough then.
 fn reaching_all(alloc: Global, sorted: &[Label]) -> Result<Vec<Label>, NoMemory>
     requires { AllPairs ComesBefore sorted.now }
     ensures order { IfOk result (λ labels. AllPairs ReachesLess labels.items) }
@@ -164,7 +167,8 @@ fn up_to(at: &Window, other: &Window) -> Window
     }
 }
 
-/// The first ticks of a window, as many as one look-up finds covered at this number; None where the first is not.
+/// The first ticks of a window, as many as one look-up finds covered at this number;
+/// None where the first is not.
 pub(crate) fn covered(labels: &[Label], number: u32, at: &Window) -> Option<Window>
     requires order { AllPairs ReachesLess labels.now }
     requires some { at.now.from ≤ℤ at.now.to }

@@ -1,6 +1,7 @@
 //! What a move leads to, whenever a train goes on by it.
 
-ghost use Rattle.std.specs.Prelude.{◌≡◌, ◌↔◌, ◌+◌, ◌<◌, ◌^◌, ℤ, pos, ◌+ℤ◌, ◌-ℤ◌, ◌<ℤ◌, ◌≤ℤ◌, length, None, All, AllPairs, IfOk, IsTrue};
+ghost use Rattle.std.specs.Prelude.{◌≡◌, ◌↔◌, ◌+◌, ◌<◌, ◌^◌, ℤ, pos, ◌+ℤ◌, ◌-ℤ◌, ◌<ℤ◌, ◌≤ℤ◌};
+ghost use Rattle.std.specs.Prelude.{length, None, All, AllPairs, IfOk, IsTrue};
 ghost use Rattle.std.specs.Int.{int_max, int_min};
 ghost use Rattle.rail_types.specs.declared.limits.TheConstants.{FAR_TICK};
 ghost use Rattle.rail_types.specs.Flaws.{first_flaw};
@@ -121,7 +122,8 @@ fn leaving(window: &Window, taking: &Taking) -> Window
     }
 }
 
-// What is left of a window behind the ticks at which a move is entered that ends by the last of another.
+// What is left of a window behind the ticks at which a move is entered that
+// ends by the last of another.
 fn behind_covered(window: &Window, covered: &Window, taking: &Taking) -> Window
     requires ticks { (pos 0 ≤ℤ taking.now.ticks) × (taking.now.ticks <ℤ pos (2 ^ 43)) }
     requires to { (pos 0 ≤ℤ covered.now.to) × (covered.now.to <ℤ pos (2 ^ 44)) }
@@ -134,7 +136,8 @@ fn behind_covered(window: &Window, covered: &Window, taking: &Taking) -> Window
     }
 }
 
-// Whether a move ends at a tick that is covered, whenever it is entered in a window and the claims are free.
+// Whether a move ends at a tick that is covered, whenever it is entered in a
+// window and the claims are free.
 fn are_covered(
     taking: &Taking,
     number: u32,
@@ -174,8 +177,8 @@ fn are_free_nowhere(claims: &[Claim], book: &Occupations, window: &Window) -> bo
     false
 }
 
-// Whether a move leads to what is covered, or ends outside a window, whenever it is entered in another and the claims are
-// free.
+// Whether a move leads to what is covered, or ends outside a window, whenever it is entered in
+// another and the claims are free.
 fn passes(
     taking: &Taking,
     claims: &[Claim],
@@ -201,8 +204,8 @@ fn passes(
     }
 }
 
-/// Whether a move leads to what is covered, or ends outside the window of arrival, whenever a train goes on by it and it
-/// is free.
+/// Whether a move leads to what is covered, or ends outside the window of arrival, whenever a train
+/// goes on by it and it is free.
 pub(crate) fn move_passes(
     alloc: Global,
     net: &Network,

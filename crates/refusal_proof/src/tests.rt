@@ -90,7 +90,8 @@ fn request(
     })
 }
 
-// Three blocks of 2,000 m, one behind the other, each with a zone and an operational point of its own.
+// Three blocks of 2,000 m, one behind the other, each with a zone and an
+// operational point of its own.
 fn line(alloc: Global) -> Result<Network, NoMemory> {
     let mut blocks = List::new(alloc);
     for number in 0..3u32 {
@@ -171,8 +172,8 @@ fn listed(alloc: Global, net: &Network, request: &Request) -> Result<Places, Fai
     }
 }
 
-// A member on one block: its number, the speed with which it was entered or 0 from stand, whether the train stands there,
-// the stops that it has made, and a window of ticks.
+// A member on one block: its number, the speed with which it was entered or 0 from stand, whether
+// the train stands there, the stops that it has made, and a window of ticks.
 #[derive(Clone, Copy, Debug)]
 struct Row {
     block: u32,
@@ -233,7 +234,8 @@ fn has_windows(proof: &Closed) -> bool
         .all(|member| member.window.from <= member.window.to)
 }
 
-// Whether these members show on the line of three blocks that no path of a request fits beside these claims.
+// Whether these members show on the line of three blocks that no path of a
+// request fits beside these claims.
 fn passes(alloc: Global, claims: &[Claim], request: &Request, rows: &[Row]) -> Result<bool, Fail>
     requires { IsRequestWithinLimits request.now }
 {
@@ -252,8 +254,9 @@ fn passes(alloc: Global, claims: &[Claim], request: &Request, rows: &[Row]) -> R
     Ok(passes)
 }
 
-// A train that enters at tick 6 and waits nowhere holds the zones; behind it the first block is free for departures from
-// 25 to 38, which reach its end at 40 to 53, and the zone behind it stops each.
+// A train that enters at tick 6 and waits nowhere holds the zones; behind it the
+// first block is free for departures from 25 to 38, which reach its end at 40 to 53,
+// and the zone behind it stops each.
 #[test]
 fn members_behind_another_train_show_that_no_path_fits(rt: HostRuntime) -> Result<(), Fail> {
     let alloc = rt.alloc();
@@ -274,14 +277,15 @@ fn members_behind_another_train_show_that_no_path_fits(rt: HostRuntime) -> Resul
     for (rows, want) in cases {
         assert_eq!(rt; passes(alloc, &taken, &asked, rows)?, want);
     }
-    // A member at ticks that no path reaches asks for what follows from it: the zone behind is free from tick 54 on.
+    // A member at ticks that no path reaches asks for what follows from it: the zone
+    // behind is free from tick 54 on.
     let far = [rolling(0, 0, -5, 99_000)];
     assert_eq!(rt; passes(alloc, &taken, &asked, &far)?, false);
     Ok(())
 }
 
-// Beside the path that departs at tick 6 and leaves last at 45: the request that arrives by tick 44 has no path. Without
-// a departure nothing is to be held, and without an arrival no end counts.
+// Beside the path that departs at tick 6 and leaves last at 45: the request that arrives by tick 44
+// has no path. Without a departure nothing is to be held, and without an arrival no end counts.
 #[test]
 fn members_show_that_no_path_arrives_earlier(rt: HostRuntime) -> Result<(), Fail> {
     let alloc = rt.alloc();
@@ -303,9 +307,10 @@ fn members_show_that_no_path_arrives_earlier(rt: HostRuntime) -> Result<(), Fail
     Ok(())
 }
 
-// A train that reaches the middle block at tick 35 dwells four ticks, and then goes on whenever it likes: from 39 on,
-// 15 ticks to the end of the last block where it rolls on, and 19 where it arrives. Where another wants the zone under
-// the train from tick 50 on, it goes on by 42, and the zone is released 8 ticks later.
+// A train that reaches the middle block at tick 35 dwells four ticks, and then goes on whenever it
+// likes: from 39 on, 15 ticks to the end of the last block where it rolls on, and 19 where it
+// arrives. Where another wants the zone under the train from tick 50 on, it goes on by 42, and the
+// zone is released 8 ticks later.
 #[test]
 fn members_hold_each_tick_behind_a_dwell(rt: HostRuntime) -> Result<(), Fail> {
     let alloc = rt.alloc();

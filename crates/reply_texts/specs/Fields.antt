@@ -1,5 +1,6 @@
 -- The fields of which lines are made, and how they stand behind one another.
-use Rattle.std.specs.Prelude.{◌≡◌, ℕ, ◌+◌, ◌≤◌, Bool, true, false, List, [], ◌∷◌, ◌++◌, length, codes, decimal, Result, OnOk, IsOk}
+use Rattle.std.specs.Prelude.{◌≡◌, ℕ, ◌+◌, ◌≤◌, Bool, true, false, List, [], ◌∷◌, ◌++◌, length}
+use Rattle.std.specs.Prelude.{codes, decimal, Result, OnOk, IsOk}
 use Rattle.std.specs.Io.{StartsWith}
 use Rattle.std.specs.Fmt.{signed_decimal}
 use Rattle.byte_fields.specs.Buffered.{Buffered}
@@ -43,9 +44,10 @@ claim_text claim = spaced (claim_fields claim)
 abbrev pub run_text : Run → List ℕ
 run_text run = spaced (run_fields run)
 
--- What writing a text does to what is written already: it stands behind that, or a part of it where memory was wanted,
--- which it is not where there is room.
-pub record Writes {E : Type 0} (text : List ℕ) (old new : Buffered) (result : Result (Unit {0}) E) : Type 0 where
+-- What writing a text does to what is written already: it stands behind that, or a part of it where
+-- memory was wanted, which it is not where there is room.
+pub record Writes {E : Type 0} (text : List ℕ) (old new : Buffered)
+    (result : Result (Unit {0}) E) : Type 0 where
   pub ok : OnOk result (new.held ≡ old.held ++ text)
   pub kept : StartsWith new.held old.held
   pub room : length text ≤ old.spare → IsOk result

@@ -28,8 +28,8 @@ pub record PrintsRuns (count : ℕ) (runs : List Run) : Type 0 where
   pub fit : count < 2 ^ 32
   pub each : All IsPrintable runs
 
--- a reply to a line whose entry was begun, which prints so many runs: it tells of the line's own entry, or of a fault of
--- the disk
+-- a reply to a line whose entry was begun, which prints so many runs: it tells of the line's own
+-- entry, or of a fault of the disk
 abbrev pub IsBehindEntry : ℕ → Reply → Type 0
 IsBehindEntry runs (reply.Held number entry front) = TellsEntry number entry front
 IsBehindEntry runs (reply.Pinned number entry front) = TellsEntry number entry front

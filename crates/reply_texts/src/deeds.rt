@@ -3,7 +3,8 @@
 ghost use Rattle.std.specs.Prelude.{◌∷◌, decimal, flat_map, length};
 ghost use Rattle.rule_names.specs.Names.{name_text};
 ghost use Rattle.reply_texts.specs.Fields.{Writes, claim_fields, run_fields, spaced};
-ghost use Rattle.reply_texts.specs.Replies.{deed_fields, freed_fields, hold_fields, holds_fields, owner_fields, runs_fields, state_fields};
+ghost use Rattle.reply_texts.specs.Replies.{deed_fields, freed_fields, hold_fields, holds_fields};
+ghost use Rattle.reply_texts.specs.Replies.{owner_fields, runs_fields, state_fields};
 
 use crate::prints::{print_all, print_name, print_number, print_said, print_word};
 use byte_fields::Buffer;

@@ -11,8 +11,8 @@ use no_memory::NoMemory;
 use rail_types::{Deed, List, Name, Owner, Run};
 use rule_names::RuleName;
 
-/// A part of a reply behind its first word: a number; a word and its number or name; a rule; the owner of a claim in the
-/// way; the runs of a path; what an entry does; what became of it.
+/// A part of a reply behind its first word: a number; a word and its number or name; a rule; the
+/// owner of a claim in the way; the runs of a path; what an entry does; what became of it.
 #[derive(Clone, Copy)]
 pub(crate) enum Part<'a> {
     Number(u64),

@@ -5,7 +5,8 @@ ghost use Rattle.reply_texts.specs.declared.replies.Reply.{Reply as reply_type};
 ghost use Rattle.reply_texts.specs.Replies.{reply_text};
 ghost use Rattle.reply_texts.specs.Rooms.{IsBehindEntry, room_for};
 
-/// The bytes that the reply to a line whose entry was begun has at most, where it prints so many runs.
+/// The bytes that the reply to a line whose entry was begun has at most,
+/// where it prints so many runs.
 pub fn reply_room(runs: u32) -> usize
     ensures { result ≡ room_for runs }
 {

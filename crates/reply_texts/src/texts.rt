@@ -10,8 +10,8 @@ use crate::replies::Reply;
 use byte_fields::Buffer;
 use no_memory::NoMemory;
 
-/// Appends the text of a reply, one line with its end. Where there is room for it, no memory is taken; where memory is
-/// wanted, what stood there stands there alone.
+/// Appends the text of a reply, one line with its end. Where there is room for it, no memory is
+/// taken; where memory is wanted, what stood there stands there alone.
 pub fn reply_text(reply: &Reply, to: &mut Buffer) -> Result<(), NoMemory>
     ensures ok { OnOk result (to.new.held ≡ to.old.held ++ reply_text reply.now) }
     ensures err { OnErr result (to.new.held ≡ to.old.held) }

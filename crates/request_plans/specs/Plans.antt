@@ -1,5 +1,6 @@
 -- The plan of a request: its places by their numbers behind the start place, each with its moves.
-use Rattle.std.specs.Prelude.{ℕ, ◌+◌, ◌-◌, ◌<◌, ℤ, pos, ◌+ℤ◌, Bool, true, false, List, [], ◌++◌, map, min, Option, Some, None, slice_get, ◌≡◌, length}
+use Rattle.std.specs.Prelude.{ℕ, ◌+◌, ◌-◌, ◌<◌, ℤ, pos, ◌+ℤ◌, Bool, true, false, List, [], ◌++◌}
+use Rattle.std.specs.Prelude.{map, min, Option, Some, None, slice_get, ◌≡◌, length}
 use Rattle.std.specs.List.{slice_index_or}
 use Rattle.rail_types.specs.declared.limits.TheConstants.{MAX_PLACES}
 use Rattle.rail_types.specs.declared.tracks.Network.{Network}
@@ -23,14 +24,16 @@ use Rattle.label_search.specs.declared.plans.Move.{Move as PlannedMove}
 use Rattle.label_search.specs.declared.plans.Place.{Place as PlannedPlace}
 use Rattle.label_search.specs.declared.plans.Plan.{Plan}
 
--- the ticks of a step's run; a run that cannot end by the horizon counts one tick more than there are
+-- the ticks of a step's run; a run that cannot end by the horizon counts
+-- one tick more than there are
 abbrev pub ticks_within : Settings → ℕ → ℤ
 ticks_within settings ticks = pos (min ticks (settings.horizon + 1))
 
 abbrev pub ticks_of_step : Network → Settings → Request → Place → Step → ℤ
 ticks_of_step net settings request place step =
     ticks_within settings
-    (run_ticks (block_at net step.block) request.train settings (entry_of net request.train place) step.exit)
+    (run_ticks (block_at net step.block) request.train settings (entry_of net request.train place)
+    step.exit)
 
 -- the start place has the number 0, and each listed place the number behind its own
 abbrev pub target_of : Next → Target
@@ -92,14 +95,17 @@ IsPlannedAt net settings request listed number planned =
     → planned ≡ place_in net settings request place moves
 
 -- the start place is planned, and behind it the first listed places, so many
-pub record AreFirstPlanned (net : Network) (settings : Settings) (request : Request) (listed : Listed) (count : ℕ) (planned : List PlannedPlace) : Type 0 where
+pub record AreFirstPlanned (net : Network) (settings : Settings) (request : Request)
+    (listed : Listed) (count : ℕ) (planned : List PlannedPlace) : Type 0 where
   pub counted : length planned ≡ count + 1
   pub start : planned_at planned 0
       ≡ place_in net settings request start_place listed.starts
   pub places : (number : ℕ) → number < count
       → IsPlannedAt net settings request listed number (planned_at planned (number + 1))
 
--- the plan of a request: the start place, each listed place at the number behind its own, and the horizon
-pub record IsPlanOf (net : Network) (settings : Settings) (request : Request) (listed : Listed) (plan : Plan) : Type 0 where
+-- the plan of a request: the start place, each listed place at the number
+-- behind its own, and the horizon
+pub record IsPlanOf (net : Network) (settings : Settings) (request : Request) (listed : Listed)
+    (plan : Plan) : Type 0 where
   pub places : AreFirstPlanned net settings request listed (length listed.members) plan.places
   pub horizon : plan.horizon ≡ pos settings.horizon

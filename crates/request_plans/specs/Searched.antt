@@ -13,7 +13,8 @@ use Rattle.label_search.specs.Plans.{IsPlan}
 use Rattle.request_plans.specs.Plans.{IsPlanOf}
 
 -- what is listed for the request is what is planned, within all limits
-pub record IsPlannedWithinLimits (net : Network) (settings : Settings) (request : Request) (listed : Listed) (plan : Plan) : Type 0 where
+pub record IsPlannedWithinLimits (net : Network) (settings : Settings) (request : Request)
+    (listed : Listed) (plan : Plan) : Type 0 where
   pub flawless : first_flaw net ≡ None
   pub asked : IsRequestWithinLimits request
   pub timetable : IsSettingsWithinLimits settings

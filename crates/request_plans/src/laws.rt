@@ -5,8 +5,8 @@ ghost use Rattle.request_plans.specs.Searched.{PlansMayBeSearched};
 use stair_pieces::pieces_are_claims;
 use tail_states::{places_may_be_cut, sound_networks_are_asked};
 
-/// The plan of a request within its limits, in a network without a flaw, may be searched in each book of as many zones as
-/// the network has.
+/// The plan of a request within its limits, in a network without a flaw, may be searched in each
+/// book of as many zones as the network has.
 pub fn plans_may_be_searched()
     ensures { PlansMayBeSearched }
 {

@@ -167,8 +167,8 @@ fn dwell_of(request: &Request, place: &Place) -> Tick
     }
 }
 
-/// A place of a request with these moves as it stands in the plan: the zones that are kept while the train waits there,
-/// and for each move its ticks, its target and its pieces.
+/// A place of a request with these moves as it stands in the plan: the zones that are kept while
+/// the train waits there, and for each move its ticks, its target and its pieces.
 pub fn planned_place(
     alloc: Global,
     net: &Network,

@@ -16,8 +16,8 @@ use Rattle.request_server.specs.declared.plans.Job.{Job}
 use Rattle.request_server.specs.declared.plans.Plan.{Plan}
 use Rattle.request_server.specs.declared.plans.Session.{Session}
 
--- a client whose rules were told its entries of the history found: its name, its streams, where its proofs go, what happens
--- between its searches, and its rules as they stand
+-- a client whose rules were told its entries of the history found: its name, its streams, where its
+-- proofs go, what happens between its searches, and its rules as they stand
 pub record Begun (Src Snk Btw : Type 0) : Type 0 where
   pub name : List ℕ
   pub source : Src
@@ -77,10 +77,11 @@ pub record WasServed {D Src Snk Btw L : Type 0} (kind : Rules L) (streams : Stre
   pub seated : IsSeated new.seat
   pub name : new.name ≡ old.name
   pub ends : Ends (AnswersAt kind) streams new.ended
-      (scene old.seat old.source old.sink old.proofs) (scene new.seat new.source new.sink new.proofs)
+      (scene old.seat old.source old.sink old.proofs)
+      (scene new.seat new.source new.sink new.proofs)
 
--- this passed in the session of that client, whose end its streams show; its rules were told the entries that its replies
--- print, by a history
+-- this passed in the session of that client, whose end its streams show; its rules were told the
+-- entries that its replies print, by a history
 pub record HasPassed {Src Snk Btw L : Type 0} (kind : Rules L) (streams : Streams Src Snk)
     (history : List Entry) (client : Begun Src Snk Btw) (session : Session Src Snk L) (talk : Talk)
     : Type 0 where

@@ -17,9 +17,10 @@ use Rattle.rail_types.specs.declared.entries.Entry.{Entry}
 use Rattle.request_server.specs.declared.plans.Plan.{Plan}
 use Rattle.request_server.specs.declared.plans.Session.{Session}
 
--- One client was served at its seat: this passed in its session, whose end its streams show. It is the client of the seat,
--- by the rules that stood there. By what the pass of the seat has seen at the end, each reply is what a beginning of the
--- history gives, and the rules were told its own entries that the replies print.
+-- One client was served at its seat: this passed in its session, whose end its streams show. It is
+-- the client of the seat, by the rules that stood there. By what the pass of the seat has seen at
+-- the end, each reply is what a beginning of the history gives, and the rules were told its own
+-- entries that the replies print.
 pub record IsSession {D Src Snk Btw L : Type 0} (kind : Rules L) (shared : Shared D)
     (streams : Streams Src Snk) (ended : Ended) (seat seat' : Seat D Btw L)
     (source source' : Src) (sink sink' : Snk) (proofs proofs' : Proofs Snk) : Type 0 where
@@ -30,9 +31,10 @@ pub record IsSession {D Src Snk Btw L : Type 0} (kind : Rules L) (shared : Share
   pub passes : Passes streams ended talk.traffic source source' sink sink' proofs proofs'
   pub done : IsDone kind shared seat' talk
 
--- The client of this plan was served so: this passed in its session, whose end its streams show. Proofs went along with its
--- replies where it wants them. Its rules were told its own entries: before its first line those of the history found, and
--- behind the session those of the history left.
+-- The client of this plan was served so: this passed in its session, whose end its
+-- streams show. Proofs went along with its replies where it wants them. Its rules were
+-- told its own entries: before its first line those of the history found, and behind the
+-- session those of the history left.
 pub record IsServed {Src Snk Btw L : Type 0} (kind : Rules L) (streams : Streams Src Snk)
     (found left : List Entry) (plan : Plan Src Snk Btw L) (session : Session Src Snk L)
     (talk : Talk) : Type 0 where

@@ -14,10 +14,11 @@ use outside_io::{Between, Disk, Sink, Source};
 use std::alloc::Global;
 use std::sync::Wait;
 
-/// Serves one client at its seat at the gate that all clients share: each line of the source is answered, one after another,
-/// by the client's rules as they stand then, and the sink gets each reply. Where proofs are wanted their sink gets the proof of
-/// a reply before that reply is written. The seat was taken, and has answered nothing yet; its rules are told each entry that
-/// is added for a line.
+/// Serves one client at its seat at the gate that all clients share: each line of the source
+/// is answered, one after another, by the client's rules as they stand then, and the sink
+/// gets each reply. Where proofs are wanted their sink gets the proof of a reply before that
+/// reply is written. The seat was taken, and has answered nothing yet; its rules are told
+/// each entry that is added for a line.
 pub fn serve_client<'a, R: Wait, D: Disk, S: Source, T: Sink, B: Between + Drop, L: Rule>(
     rt: &R,
     alloc: Global,

@@ -1,5 +1,5 @@
-//! Many clients at once over one book: each has a seat at the gate, its lines are answered one after another by its rules,
-//! and what all of them are told is one history.
+//! Many clients at once over one book: each has a seat at the gate, its lines are answered one
+//! after another by its rules, and what all of them are told is one history.
 #![tactic(auto)]
 
 mod clients;

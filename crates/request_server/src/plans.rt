@@ -6,8 +6,9 @@ use line_sessions::{Ended, Proofs};
 use outside_io::{Between, Disk, Sink, Source};
 use rail_types::Name;
 
-/// A client to be served: its name, where its lines come from, where its replies go, where the proofs go that come along with
-/// them, what happens between its searches, and the rules by which its paths may be denied.
+/// A client to be served: its name, where its lines come from, where its replies go, where the
+/// proofs go that come along with them, what happens between its searches, and the rules by
+/// which its paths may be denied.
 #[derive(Drop)]
 pub struct Plan<S: Source, T: Sink, B: Between, L: Rule> {
     pub name: Name,

@@ -1,6 +1,8 @@
 //! Many clients at once.
 
-ghost use Rattle.std.specs.Prelude.{◌≡◌, ◌≢◌, ◌+◌, ◌*◌, ◌<◌, ◌≤◌, [], ◌++◌, ◌∷◌, ℕ, List, All, AllPairs, IfOk, IfErr, slice_index_or, length, map, reverse, vec_len, vec_capacity};
+ghost use Rattle.std.specs.Prelude.{◌≡◌, ◌≢◌, ◌+◌, ◌*◌, ◌<◌, ◌≤◌, [], ◌++◌, ◌∷◌, ℕ, List, All};
+ghost use Rattle.std.specs.Prelude.{AllPairs, IfOk, IfErr, slice_index_or, length, map, reverse};
+ghost use Rattle.std.specs.Prelude.{vec_len, vec_capacity};
 ghost use Rattle.book_gate.specs.Passes.{view};
 ghost use Rattle.book_gate.specs.Views.{StartsWith};
 ghost use Rattle.client_lines.specs.Within.{AreSound};
@@ -16,7 +18,8 @@ ghost use Rattle.path_commit.specs.Footings.{footing_of};
 ghost use Rattle.path_commit.specs.Ledgers.{settled_of};
 ghost use Rattle.rail_types.specs.Limits.{IsClientName};
 ghost use Rattle.rail_types.specs.declared.entries.Entry.{Entry as entry_type};
-ghost use Rattle.request_server.specs.Jobs.{begun, begun_of, HasPassed, IsDoneJob, IsReadyJob, WasServed};
+ghost use Rattle.request_server.specs.Jobs.{begun, begun_of, HasPassed, IsDoneJob, IsReadyJob};
+ghost use Rattle.request_server.specs.Jobs.{WasServed};
 ghost use Rattle.request_server.specs.Runs.{WereServed};
 
 use crate::clients::serve_client;
@@ -35,9 +38,11 @@ use std::sync::Wait;
 use std::thread;
 use std::thread::Threads;
 
-/// Serves 1 to 16 clients at once over one book, each in a thread where one can be made. Each client's rules are told its
-/// own entries: first those of the book, and then each that is added for a line of it. Where a client wants proofs, one is
-/// written before each of its replies that has one. It hands back the book, and how each client's session ended. Where there is no memory for the clients, nothing was read and all is handed back.
+/// Serves 1 to 16 clients at once over one book, each in a thread where one can be made. Each
+/// client's rules are told its own entries: first those of the book, and then each that is added
+/// for a line of it. Where a client wants proofs, one is written before each of its replies that
+/// has one. It hands back the book, and how each client's session ended. Where there is no memory
+/// for the clients, nothing was read and all is handed back.
 pub fn serve_clients<
     R: Threads + Wait + Sync,
     D: Disk + Send,
@@ -251,7 +256,8 @@ fn join_all<'a, D: Disk, S: Source + Drop, T: Sink + Drop, B: Between + Drop, L:
     ensures joined { (clients : _) (talks : List talk_type) → AreMatched
         (IsDoneJob L.Rule shared.now (streams S.left S.faults T.held T.faults))
         clients (reverse jobs.entry.items) talks
-        → ((history : List entry_type) → All (λ list. StartsWith history list) (view pass.new).joined
+        → ((history : List entry_type)
+        → All (λ list. StartsWith history list) (view pass.new).joined
         → AreMatched (HasPassed L.Rule (streams S.left S.faults T.held T.faults) history)
         clients result.items talks)
         × AreJoined shared.now (view pass.new) talks }

@@ -1,5 +1,6 @@
 -- Where a route begins, and where it ends.
-use Rattle.std.specs.Prelude.{◌≡◌, ℕ, ◌+◌, min, max, Bool, true, false, nat_eq, nat_lt, List, length, slice_get, Option, Some, None, if◌then◌else◌}
+use Rattle.std.specs.Prelude.{◌≡◌, ℕ, ◌+◌, min, max, Bool, true, false, nat_eq, nat_lt, List}
+use Rattle.std.specs.Prelude.{length, slice_get, Option, Some, None, if◌then◌else◌}
 use Rattle.infra_types.specs.Infras.{IsRoutePoint}
 use Rattle.infra_types.specs.declared.ends.Direction.{Direction}
 use Rattle.infra_types.specs.declared.ends.Direction.TheVariants.{StartToStop, StopToStart}
@@ -45,18 +46,21 @@ exit_of infra (Detector number) = points.Detector number
 exit_of infra (BufferStop number) =
     points.Stop (track_at infra.buffer_stops number) (metre_at infra.buffer_stops number)
 
--- how many detectors stand on the begin's side of the next one, where a route leaves one that so many stand before
+-- how many detectors stand on the begin's side of the next one, where a route leaves
+-- one that so many stand before
 abbrev pub gap_past : Direction → ℕ → ℕ
 gap_past StartToStop rank = rank + 1
 gap_past StopToStart rank = rank
 
--- the metre before which those buffer stops stand that are on the begin's side of a route that leaves a detector there: a
--- stop at its position is ahead, but at the end of the track that it leaves it is behind
+-- the metre before which those buffer stops stand that are on the begin's side of a route
+-- that leaves a detector there: a stop at its position is ahead, but at the end of the
+-- track that it leaves it is behind
 abbrev pub side_of_detector : Direction → ℕ → ℕ → ℕ
 side_of_detector StartToStop length_m metre = max metre 1
 side_of_detector StopToStart length_m metre = min (metre + 1) length_m
 
--- the position of the first buffer stop ahead in a direction, where those before this metre are on the begin's side
+-- the position of the first buffer stop ahead in a direction, where those before this
+-- metre are on the begin's side
 abbrev pub stop_from : Direction → ℕ → List Stand → Option ℕ
 stop_from direction metre stops = position_of (ahead_in direction stops (below metre stops))
 
@@ -74,8 +78,9 @@ detector_spot infra layout direction number =
       passed = true;
     }
 
--- the metre before which those detectors stand that are on the begin's side of a route that leaves a buffer stop there:
--- those at its position are ahead, but at the end towards which it leaves they are behind
+-- the metre before which those detectors stand that are on the begin's side of a route
+-- that leaves a buffer stop there: those at its position are ahead, but at the end towards
+-- which it leaves they are behind
 abbrev pub side_of_stop : Direction → ℕ → ℕ → ℕ
 side_of_stop StartToStop length_m metre = if nat_eq metre length_m then metre + 1 else metre
 side_of_stop StopToStart length_m metre = if nat_eq metre 0 then 0 else metre + 1

@@ -1,5 +1,7 @@
 -- What a walk passes: its points with their metres, and the zones between them.
-use Rattle.std.specs.Prelude.{◌≡◌, ℕ, ◌+◌, ◌-◌, ◌*◌, ◌<◌, min, max, true, nat_eq, List, ◌∷◌, length, map, take, slice_get, slice_index_or, Option, Some, None, option_map, if◌then◌else◌}
+use Rattle.std.specs.Prelude.{◌≡◌, ℕ, ◌+◌, ◌-◌, ◌*◌, ◌<◌, min, max, true, nat_eq, List, ◌∷◌, length}
+use Rattle.std.specs.Prelude.{map, take, slice_get, slice_index_or, Option, Some, None, option_map}
+use Rattle.std.specs.Prelude.{if◌then◌else◌}
 use Rattle.std.specs.List.{All, AllPairs, filter_map, sum_by}
 use Rattle.infra_types.specs.declared.ends.Direction.{Direction}
 use Rattle.infra_types.specs.declared.ends.Direction.TheVariants.{StartToStop, StopToStart}
@@ -46,7 +48,8 @@ abbrev pub point_number : ℕ → Direction → RoutePoint → ℕ
 point_number detectors direction (Detector number) = 2 * number + side_of direction
 point_number detectors direction (BufferStop number) = 2 * (detectors + number) + side_of direction
 
--- the number of a point that a route with this exit passes; the one buffer stop that it reaches is its exit
+-- the number of a point that a route with this exit passes; the one buffer
+-- stop that it reaches is its exit
 abbrev pub number_of : ℕ → RoutePoint → Direction → Point → ℕ
 number_of detectors exit direction (points.Detector number) = 2 * number + side_of direction
 number_of detectors exit direction (points.Stop track at) = point_number detectors direction exit
@@ -65,7 +68,8 @@ abbrev pub numbers_at : ℕ → Route → List Place → List (Option ℕ)
 numbers_at detectors route places =
     Some (first_number detectors route) ∷ map (number_at detectors route.exit) places
 
--- The points passed, from the entry on: all that stand at these places, each where it stands and at its metres.
+-- The points passed, from the entry on: all that stand at these places, each where
+-- it stands and at its metres.
 pub record ArePassed (detectors : ℕ) (route : Route) (places : List Place)
     (passed : List Passed) : Type 0 where
   pub points : map (λ one. one.point) passed
@@ -75,13 +79,14 @@ pub record ArePassed (detectors : ℕ) (route : Route) (places : List Place)
   pub metres : All (λ one. one.metres ≡ metres_to places one.reach) passed
   pub order : AllPairs (λ one later. one.reach < later.reach) passed
 
--- a metre such that the last piece that begins before it is the one through which a detector is reached
+-- a metre such that the last piece that begins before it is the one
+-- through which a detector is reached
 abbrev pub side_before : Direction → ℕ → ℕ
 side_before StartToStop at = at
 side_before StopToStart at = at + 1
 
--- the same for a buffer stop, which stands behind the detectors at its position, but at the end from which its track is
--- entered stands before them
+-- the same for a buffer stop, which stands behind the detectors at its position, but at the end
+-- from which its track is entered stands before them
 abbrev pub side_before_stop : Direction → ℕ → ℕ → ℕ
 side_before_stop StartToStop length_m at = if nat_eq at 0 then 0 else at + 1
 side_before_stop StopToStart length_m at = if nat_eq at length_m then at + 1 else at

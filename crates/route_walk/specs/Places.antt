@@ -1,5 +1,7 @@
 -- What a route comes to along a track.
-use Rattle.std.specs.Prelude.{ℕ, ◌+◌, ◌-◌, ◌<◌, ◌≤◌, Bool, true, false, nat_eq, nat_le, nat_lt, List, length, slice_get, Option, Some, None, option_map, if◌then◌else◌, IfSome}
+use Rattle.std.specs.Prelude.{ℕ, ◌+◌, ◌-◌, ◌<◌, ◌≤◌, Bool, true, false, nat_eq, nat_le, nat_lt}
+use Rattle.std.specs.Prelude.{List, length, slice_get, Option, Some, None, option_map}
+use Rattle.std.specs.Prelude.{if◌then◌else◌, IfSome}
 use Rattle.infra_types.specs.declared.ends.Direction.{Direction}
 use Rattle.infra_types.specs.declared.ends.Direction.TheVariants.{StartToStop, StopToStart}
 use Rattle.infra_types.specs.declared.ends.End.{End}
@@ -28,8 +30,8 @@ abbrev pub far_end : Direction → ℕ → ℕ
 far_end StartToStop length_m = length_m
 far_end StopToStart length_m = 0
 
--- whether a detector at this metre comes before the buffer stop ahead; a stop at the end from which its track is entered
--- comes before all detectors
+-- whether a detector at this metre comes before the buffer stop ahead; a stop at the end from which
+-- its track is entered comes before all detectors
 abbrev pub stands_first : Direction → ℕ → Option ℕ → ℕ → Bool
 stands_first direction length_m None at = true
 stands_first StartToStop length_m (Some stop) at = if nat_lt 0 stop then nat_le at stop else false

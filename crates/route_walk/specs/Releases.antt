@@ -1,5 +1,6 @@
 -- The release detectors of a walk.
-use Rattle.std.specs.Prelude.{ℕ, ◌*◌, ◌/◌, Bool, not, nat_eq, nat_lt, List, find, Option, Some, None, if◌then◌else◌}
+use Rattle.std.specs.Prelude.{ℕ, ◌*◌, ◌/◌, Bool, not, nat_eq, nat_lt, List, find, Option, Some}
+use Rattle.std.specs.Prelude.{None, if◌then◌else◌}
 use Rattle.std.specs.List.{filter_map, list_any}
 use Rattle.route_walk.specs.declared.walks.Passed.{Passed}
 
@@ -11,7 +12,8 @@ has numbers number = list_any (nat_eq number) numbers
 abbrev pub first_stray : List ℕ → List ℕ → Option ℕ
 first_stray detectors releases = find (λ release. not (has detectors release)) releases
 
--- the metres of a point that is one of these releases; so many detectors stand before the buffer stops
+-- the metres of a point that is one of these releases; so many detectors
+-- stand before the buffer stops
 abbrev pub release_at : ℕ → List ℕ → Passed → Option ℕ
 release_at detectors releases one =
     if nat_lt one.point (2 * detectors)

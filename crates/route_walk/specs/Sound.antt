@@ -1,5 +1,6 @@
 -- What holds of each walk.
-use Rattle.std.specs.Prelude.{◌≡◌, ℕ, ◌+◌, ◌<◌, ◌≤◌, List, Option, Some, None, length, slice_index_or, IfSome}
+use Rattle.std.specs.Prelude.{◌≡◌, ℕ, ◌+◌, ◌<◌, ◌≤◌, List, Option, Some, None, length}
+use Rattle.std.specs.Prelude.{slice_index_or, IfSome}
 use Rattle.std.specs.List.{All}
 use Rattle.std.specs.List.Sorted.{IsNonDecreasing, IsNonDecreasingBy}
 use Rattle.route_walk.specs.declared.walks.Passed.{Passed}
@@ -22,7 +23,8 @@ pub record IsSound (zone_count point_count : ℕ) (walk : Walk) : Type 0 where
   pub zones : (n zone : ℕ) → slice_index_or walk.zones n None ≡ Some zone → zone < zone_count
   pub points : All (λ passed. passed.point < point_count) walk.passed
 
--- Of points and the zones between them: those numbers, one zone less than points, and a zone wherever metres rise.
+-- Of points and the zones between them: those numbers, one zone less than points, and
+-- a zone wherever metres rise.
 pub record AreSound (zone_count point_count : ℕ) (passed : List Passed)
     (zones : List (Option ℕ)) : Type 0 where
   pub legs : length zones + 1 ≡ length passed

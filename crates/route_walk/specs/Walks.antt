@@ -1,5 +1,6 @@
 -- The walk of a route, and why a route has none.
-use Rattle.std.specs.Prelude.{◌≡◌, ◌≢◌, ℕ, ◌+◌, ◌*◌, List, ◌∷◌, length, map, slice_get, Option, Some, None}
+use Rattle.std.specs.Prelude.{◌≡◌, ◌≢◌, ℕ, ◌+◌, ◌*◌, List, ◌∷◌, length, map, slice_get, Option}
+use Rattle.std.specs.Prelude.{Some, None}
 use Rattle.std.specs.List.{filter_map, sum_by}
 use Rattle.infra_types.specs.declared.infras.Infra.{Infra}
 use Rattle.infra_types.specs.declared.routes.Route.{Route}
@@ -67,7 +68,8 @@ pub record GoesRound (infra : Infra) (layout : Layout) (number : ℕ) : Type 0 w
   pub round : IsRound (Comes infra layout route.ways) (entry_of infra layout route)
       (exit_of infra route.exit) places
 
--- The route of that number comes to its exit, and this is the first of its release detectors that is beside it.
+-- The route of that number comes to its exit, and this is the first of its release
+-- detectors that is beside it.
 pub record Strays (infra : Infra) (layout : Layout) (number detector : ℕ) : Type 0 where
   pub route : Route
   pub is : IsRouteAt infra number route

@@ -49,8 +49,8 @@ ComesFrom None infra layout ways spot next =
     (end : TrackEnd) × Leads layout.infra.switches ways (end_of spot) end
     × (next ≡ come infra layout (begin_of infra layout end))
 
--- From a point a route comes to what is next on its track; from the end of a track to the first thing on the track to
--- which its way leads.
+-- From a point a route comes to what is next on its track; from the end of a track to the first
+-- thing on the track to which its way leads.
 abbrev pub Comes : Infra → Layout → List Way → Place → Place → Type 0
 Comes infra layout ways place next = ComesFrom place.point infra layout ways place.spot next
 

@@ -36,8 +36,8 @@ pub(crate) struct Course {
     pub detectors: IndexSet<u32>,
 }
 
-/// Follows a route with these ways from its entry. The limit is above the detectors and the ends of tracks: a route that
-/// goes on comes to none of them twice.
+/// Follows a route with these ways from its entry. The limit is above the detectors and the ends of
+/// tracks: a route that goes on comes to none of them twice.
 pub(crate) fn course_of(
     alloc: Global,
     graph: &Graph,

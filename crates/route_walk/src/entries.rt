@@ -7,7 +7,9 @@ ghost use Rattle.track_graph.specs.Layouts.{IsLayoutOf};
 ghost use Rattle.track_graph.specs.Pieces.{length_of};
 ghost use Rattle.track_graph.specs.Stands.{ComesBefore};
 ghost use Rattle.route_walk.specs.Places.{IsPlace, IsSpot};
-ghost use Rattle.route_walk.specs.Entries.{IsPointOf, detector_spot, entry_of, exit_of, gap_past, is_beside, metre_at, side_of_detector, side_of_stop, side_past_stop, stop_from, stop_spot, track_at};
+ghost use Rattle.route_walk.specs.Entries.{IsPointOf, detector_spot, entry_of, exit_of, gap_past};
+ghost use Rattle.route_walk.specs.Entries.{is_beside, metre_at, side_of_detector, side_of_stop};
+ghost use Rattle.route_walk.specs.Entries.{side_past_stop, stop_from, stop_spot, track_at};
 
 use crate::counts::{below, rank_of};
 use crate::places::{Place, Point, Spot, ahead_in, length_of, position_of};

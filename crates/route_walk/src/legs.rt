@@ -1,11 +1,15 @@
 //! What a walk passes: its points with their metres, and the zones between them.
 
-ghost use Rattle.std.specs.Prelude.{◌≡◌, ◌∷◌, ◌+◌, ◌-◌, ◌*◌, ◌<◌, ◌≤◌, ◌^◌, ℕ, length, map, slice_index_or, IfOk, IfSome, Some, None};
+ghost use Rattle.std.specs.Prelude.{◌≡◌, ◌∷◌, ◌+◌, ◌-◌, ◌*◌, ◌<◌, ◌≤◌, ◌^◌, ℕ, length, map};
+ghost use Rattle.std.specs.Prelude.{slice_index_or, IfOk, IfSome, Some, None};
 ghost use Rattle.std.specs.List.{All, filter_map, sum_by};
 ghost use Rattle.infra_types.specs.Infras.{IsInfra, IsRoute, IsRoutePoint};
 ghost use Rattle.track_graph.specs.Layouts.{IsLayoutOf};
 ghost use Rattle.route_walk.specs.Entries.{IsPointOf};
-ghost use Rattle.route_walk.specs.Legs.{AreBehind, ArePassed, arrival_side, leg_at, length_m, number_at, number_of, point_count, point_number, side_before, side_before_stop, side_of, stretch_of, zone_to};
+ghost use Rattle.route_walk.specs.Legs.{AreBehind, ArePassed, arrival_side, leg_at, length_m};
+ghost use Rattle.route_walk.specs.Legs.{number_at, number_of, point_count, point_number};
+ghost use Rattle.route_walk.specs.Legs.{side_before, side_before_stop, side_of, stretch_of};
+ghost use Rattle.route_walk.specs.Legs.{zone_to};
 ghost use Rattle.route_walk.specs.Places.{IsKnown, IsPlace};
 ghost use Rattle.route_walk.specs.Sound.{AreSound};
 

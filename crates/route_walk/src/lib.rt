@@ -1,5 +1,5 @@
-//! The walks of routes: the points that a route passes from its entry to its exit, their metres, the zones between
-//! them, and the stretches of track.
+//! The walks of routes: the points that a route passes from its entry to its exit, their metres,
+//! the zones between them, and the stretches of track.
 #![tactic(auto)]
 
 mod counts;

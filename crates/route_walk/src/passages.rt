@@ -17,7 +17,8 @@ pub(crate) enum Passage {
     Barred,
 }
 
-/// What the point of a place is to a walk that has passed these detectors. Its detector is among them afterwards.
+/// What the point of a place is to a walk that has passed these detectors. Its
+/// detector is among them afterwards.
 pub(crate) fn pass(
     passed: &mut IndexSet<u32>,
     point: Option<Point>,

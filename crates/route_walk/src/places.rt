@@ -3,7 +3,9 @@
 ghost use Rattle.std.specs.Prelude.{◌≡◌, ◌<◌, ◌≤◌, ◌+◌, ◌^◌, length, slice_get};
 ghost use Rattle.track_graph.specs.Layouts.{IsLayoutOf};
 ghost use Rattle.track_graph.specs.Pieces.{length_of};
-ghost use Rattle.route_walk.specs.Places.{IsPlace, IsSpot, ahead_in, at_detector, at_metre, at_wall, begin_of, come, far_end, gap_behind, position_of, stands_first};
+ghost use Rattle.route_walk.specs.Places.{IsPlace, IsSpot, ahead_in, at_detector, at_metre};
+ghost use Rattle.route_walk.specs.Places.{at_wall, begin_of, come, far_end, gap_behind};
+ghost use Rattle.route_walk.specs.Places.{position_of, stands_first};
 
 use infra_types::{Direction, End, Infra, TrackEnd};
 use track_graph::{Graph, Stand};
@@ -15,8 +17,9 @@ pub(crate) enum Point {
     Stop { track: u32, at: u64 },
 }
 
-/// Where a route is on a track: at a metre, with so many of the track's detectors on the begin's side of it, and the
-/// position of the first buffer stop ahead. It tells whether the route has just passed a detector.
+/// Where a route is on a track: at a metre, with so many of the track's detectors on the
+/// begin's side of it, and the position of the first buffer stop ahead. It tells whether the
+/// route has just passed a detector.
 #[derive(Clone, Copy, Debug, PartialEq, Eq)]
 pub(crate) struct Spot {
     pub track: u32,
@@ -27,8 +30,8 @@ pub(crate) struct Spot {
     pub passed: bool,
 }
 
-/// What a route comes to: a point, or the end of a track where there is none. The stretch to it begins at a metre; at a
-/// level point it begins at a detector of the same position.
+/// What a route comes to: a point, or the end of a track where there is none. The stretch to it
+/// begins at a metre; at a level point it begins at a detector of the same position.
 #[derive(Clone, Copy, Debug, PartialEq, Eq)]
 pub(crate) struct Place {
     pub from: u64,
@@ -47,7 +50,8 @@ pub(crate) fn length_of(infra: &Infra, track: u32) -> u64
     }
 }
 
-/// Of those that stand along a track the next one in a direction, behind so many on the begin's side.
+/// Of those that stand along a track the next one in a direction, behind
+/// so many on the begin's side.
 pub(crate) fn ahead_in(row: &[Stand], direction: Direction, gap: usize) -> Option<Stand>
     ensures { result ≡ ahead_in direction row.now gap }
 {
@@ -87,8 +91,8 @@ pub(crate) fn far_end(direction: Direction, length_m: u64) -> u64
     }
 }
 
-/// Whether a detector at this position comes before the buffer stop ahead. A buffer stop at the end from which its track
-/// is entered comes before all detectors.
+/// Whether a detector at this position comes before the buffer stop ahead. A buffer stop at the end
+/// from which its track is entered comes before all detectors.
 fn stands_first(direction: Direction, length_m: u64, stop: Option<u64>, at: u64) -> bool
     ensures { result ≡ stands_first direction length_m stop at }
 {

@@ -48,7 +48,8 @@ fn release_at(detectors: u32, releases: &IndexSet<u32>, one: &Passed) -> Option<
     }
 }
 
-/// The metres of those points passed that are among these releases; so many detectors stand before the buffer stops.
+/// The metres of those points passed that are among these releases; so many detectors
+/// stand before the buffer stops.
 pub(crate) fn release_metres(
     alloc: Global,
     detectors: u32,

@@ -1,6 +1,7 @@
 //! Walks the routes of an infrastructure.
 
-ghost use Rattle.std.specs.Prelude.{◌≡◌, ◌∷◌, ◌+◌, ◌*◌, ◌<◌, ◌≤◌, ◌^◌, ℕ, length, slice_index_or, IfErr, IfOk, Some, None};
+ghost use Rattle.std.specs.Prelude.{◌≡◌, ◌∷◌, ◌+◌, ◌*◌, ◌<◌, ◌≤◌, ◌^◌, ℕ, length, slice_index_or};
+ghost use Rattle.std.specs.Prelude.{IfErr, IfOk, Some, None};
 ghost use Rattle.std.specs.List.{All};
 ghost use Rattle.infra_types.specs.Infras.{IsInfra, IsRoute};
 ghost use Rattle.track_graph.specs.Layouts.{IsLayoutOf};
@@ -21,14 +22,15 @@ use rail_types::List;
 use std::alloc::Global;
 use track_graph::Graph;
 
-/// The walk of a route, by the number of the route: from its entry along the tracks, across switches in the route's
-/// groups, to its exit.
+/// The walk of a route, by the number of the route: from its entry along the tracks, across
+/// switches in the route's groups, to its exit.
 ///
 /// # Errors
 ///
-/// `NoWay` where the route comes to an end of a track without a way, or to a buffer stop that is not its exit, `at` being
-/// the metres from its entry. `Loop` where it comes to a detector that it has passed. Else `StrayRelease` at the first of
-/// its release detectors that it does not pass. `Memory` where memory runs out.
+/// `NoWay` where the route comes to an end of a track without a way, or to a buffer stop that is
+/// not its exit, `at` being the metres from its entry. `Loop` where it comes to a detector that it
+/// has passed. Else `StrayRelease` at the first of its release detectors that it does not pass.
+/// `Memory` where memory runs out.
 pub fn walk(alloc: Global, graph: &Graph, infra: &Infra, route: u32) -> Result<Walk, WalkFault>
     requires infra { IsInfra infra.now }
     requires layout { IsLayoutOf infra.now graph.now }

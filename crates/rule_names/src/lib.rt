@@ -19,8 +19,8 @@ pub enum RuleName {
 }
 
 impl RuleName {
-    /// Appends the name: `quota`, `curfew`, `longest`, or `own-` and the rule's number. Where there is room for it, no
-    /// memory is taken; for want of memory a part of it may be there.
+    /// Appends the name: `quota`, `curfew`, `longest`, or `own-` and the rule's number. Where there
+    /// is room for it, no memory is taken; for want of memory a part of it may be there.
     pub fn push_text(self, to: &mut Buffer) -> Result<(), NoMemory>
         ensures ok { OnOk result (to.new.held ≡ to.old.held ++ name_text self) }
         ensures kept { StartsWith to.new.held to.old.held }

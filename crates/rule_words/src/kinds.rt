@@ -9,7 +9,8 @@ use client_words::cut_at_colon;
 use option_words::read_small_number;
 use rail_types::Tick;
 
-/// Greatest number of paths of a quota, and greatest length of a train that a rule may name, in metres.
+/// Greatest number of paths of a quota, and greatest length of a train
+/// that a rule may name, in metres.
 pub const MAX_RULE_NUMBER: u32 = 1_000_000;
 
 /// What a rule of the words is.

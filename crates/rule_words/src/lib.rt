@@ -1,4 +1,5 @@
-//! The admission rules of a command line: the words that spell them, and the clients whom they name.
+//! The admission rules of a command line: the words that spell them,
+//! and the clients whom they name.
 #![tactic(auto)]
 
 mod kinds;

@@ -11,8 +11,8 @@ use option_words::{WordsFault, cut_at_equals};
 use rail_types::{List, Name, is_client_name};
 use std::alloc::Global;
 
-/// A rule of the words, `NAME=quota:N`, `NAME=curfew:FROM:TO` or `NAME=longest:METRES`: the client whom it binds, and what
-/// it is.
+/// A rule of the words, `NAME=quota:N`, `NAME=curfew:FROM:TO` or `NAME=longest:METRES`: the client
+/// whom it binds, and what it is.
 #[derive(Debug, Drop)]
 pub struct RuleWord {
     pub client: Name,

@@ -7,7 +7,8 @@ ghost use Rattle.rail_types.specs.Limits.{IsTick};
 use itoa::Buffer;
 use rail_types::{Tick, is_tick};
 
-/// The tick whose decimal text this is: digits without leading zeros, behind a minus where it is below 0.
+/// The tick whose decimal text this is: digits without leading zeros, behind
+/// a minus where it is below 0.
 pub(crate) fn read_tick(text: &str) -> Option<Tick>
     ensures spelled { IfSome result (λ tick. text.now ≡ signed_decimal tick) }
     ensures within { IfSome result IsTick }

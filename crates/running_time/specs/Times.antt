@@ -1,5 +1,5 @@
--- How long a train takes for metres of a block: distance at the lesser speed with the train's allowance, and what
--- braking and acceleration cost besides, in ticks.
+-- How long a train takes for metres of a block: distance at the lesser speed with the train's
+-- allowance, and what braking and acceleration cost besides, in ticks.
 use Rattle.std.specs.Prelude.{ℕ, ◌+◌, ◌-◌, ◌*◌, min, max, if◌then◌else◌, nat_eq, nat_le}
 use Rattle.std.specs.Int.{div_ceil}
 use Rattle.rail_types.specs.declared.tracks.Block.{Block}
@@ -19,13 +19,15 @@ abbrev pub rolling_seconds : Block → Train → ℕ → ℕ
 rolling_seconds block train metres =
     div_ceil (1000 * metres * (100 + train.allowance)) (100 * lesser_speed block train)
 
--- seconds lost by a change of speed, none where it stays; accelerating and braking both count in the block entered
+-- seconds lost by a change of speed, none where it stays; accelerating and braking
+-- both count in the block entered
 abbrev pub change_seconds : Train → ℕ → ℕ → ℕ
 change_seconds train before now =
     if nat_le before now then div_ceil ((now - before) * (now - before)) (2 * train.accel * now)
     else div_ceil ((before - now) * (before - now)) (2 * train.brake * before)
 
--- seconds lost at the block's beginning: from stand, or by the change from the speed in the block before
+-- seconds lost at the block's beginning: from stand, or by the change from
+-- the speed in the block before
 abbrev pub entry_seconds : Block → Train → Settings → Enter → ℕ
 entry_seconds block train settings Still = div_ceil (lesser_speed block train) (2 * train.accel)
 entry_seconds block train settings (From before) =

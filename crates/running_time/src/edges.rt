@@ -7,7 +7,8 @@ pub enum Edge {
     Rolling,
 }
 
-/// How a train enters a block: from stand, or rolling from a block where it had this speed, in millimetres a second.
+/// How a train enters a block: from stand, or rolling from a block where it had this
+/// speed, in millimetres a second.
 #[derive(Clone, Copy, Debug, PartialEq, Eq)]
 pub enum Enter {
     Still,

@@ -2,7 +2,8 @@
 
 ghost use Rattle.std.specs.Prelude.{◌≡◌, ◌≤◌, ◌<◌, ◌^◌, pos, ◌<ℤ◌};
 ghost use Rattle.rail_types.specs.declared.limits.TheConstants.{MAX_BLOCK_LENGTH_M, MAX_SPEED_MM_S};
-ghost use Rattle.rail_types.specs.Limits.{IsBlockWithinLimits, IsTrainWithinLimits, IsSettingsWithinLimits};
+ghost use Rattle.rail_types.specs.Limits.{IsBlockWithinLimits, IsTrainWithinLimits};
+ghost use Rattle.rail_types.specs.Limits.{IsSettingsWithinLimits};
 ghost use Rattle.running_time.specs.Limits.{IsEnterWithinLimits};
 ghost use Rattle.running_time.specs.Times.{
   lesser_speed,
@@ -93,7 +94,8 @@ fn in_ticks(settings: &Settings, seconds: u64) -> u64
     seconds.div_ceil(u64::from(settings.tick_s)).max(1)
 }
 
-/// The ticks for the first `metres` of a block, from 1 to its length, with the losses of the whole run.
+/// The ticks for the first `metres` of a block, from 1 to its length, with
+/// the losses of the whole run.
 #[tactic(auto, unfolding(crate::specs::Times::part_ticks))]
 pub fn part(
     block: &Block,

@@ -2,14 +2,16 @@
 
 ghost use Rattle.std.specs.Prelude.{◌≤◌, length, All, IfOk, IsTrue};
 ghost use Rattle.rail_types.specs.declared.limits.TheConstants.{MAX_STOPS};
-ghost use Rattle.rail_types.specs.Limits.{IsRequestWithinLimits, IsTrainWithinLimits, IsWindowWithinLimits};
+ghost use Rattle.rail_types.specs.Limits.{IsRequestWithinLimits, IsTrainWithinLimits};
+ghost use Rattle.rail_types.specs.Limits.{IsWindowWithinLimits};
 
 use crate::corridors::LINE_SPEED;
 use no_memory::NoMemory;
 use rail_types::{List, Name, Request, Stop, Train, Window};
 use std::alloc::Global;
 
-/// Trains that keep pace with the planned ones and stop on their way, or slower ones that do not stop.
+/// Trains that keep pace with the planned ones and stop on their way, or
+/// slower ones that do not stop.
 #[derive(Clone, Copy, Debug, PartialEq, Eq)]
 pub enum Kind {
     Fast,
@@ -75,7 +77,8 @@ fn stops(alloc: Global, kind: Kind, station: u32) -> Result<List<Stop>, NoMemory
     Ok(stops)
 }
 
-/// An ask between two of so many stations that lie four sections apart, for a departure within 120 ticks.
+/// An ask between two of so many stations that lie four sections apart, for
+/// a departure within 120 ticks.
 pub fn ask(alloc: Global, draw: &mut Draw, kind: Kind, stations: u32) -> Result<Request, NoMemory>
     ensures { IfOk result IsRequestWithinLimits }
 {

@@ -1,4 +1,5 @@
-//! Corridors: sections of line blocks, each with a station of parallel tracks behind it, all run in one direction.
+//! Corridors: sections of line blocks, each with a station of parallel tracks behind
+//! it, all run in one direction.
 
 use no_memory::NoMemory;
 use rail_types::{Block, Cell, List, Network};

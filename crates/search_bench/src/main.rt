@@ -1,7 +1,8 @@
-//! Asks for paths on a corridor with planned trains, by the words SECTIONS BLOCKS TRACKS TRAINS ASKS SEARCH KIND, and
-//! prints how many were granted and refused, and the places and members of all asks together. SEARCH is `seek`, or `find`
-//! for the search without members; KIND is `fast` for trains that keep pace with the planned ones and make a stop, or
-//! `slow` for trains that make none and are overtaken.
+//! Asks for paths on a corridor with planned trains, by the words SECTIONS BLOCKS TRACKS TRAINS
+//! ASKS SEARCH KIND, and prints how many were granted and refused, and the places and members of
+//! all asks together. SEARCH is `seek`, or `find` for the search without members; KIND is `fast`
+//! for trains that keep pace with the planned ones and make a stop, or `slow` for trains that
+//! make none and are overtaken.
 #![tactic(auto)]
 
 mod asks;

@@ -1,4 +1,5 @@
-//! Planned trains: each runs the whole corridor over the first track of each station, at the speed of the line.
+//! Planned trains: each runs the whole corridor over the first track of each
+//! station, at the speed of the line.
 
 ghost use Rattle.std.specs.Prelude.{IsTrue};
 ghost use Rattle.rail_types.specs.Limits.{IsClaimWithinLimits};

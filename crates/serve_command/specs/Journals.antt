@@ -19,7 +19,8 @@ use Rattle.path_commit.specs.Ledgers.{Ledger}
 use Rattle.serve_reports.specs.declared.ends.Ends.{Ends}
 use Rattle.served_journals.specs.Files.{known_by}
 use Rattle.served_journals.specs.Journals.{IsFound, Remains}
-use Rattle.served_journals.specs.Rounds.{DiskHalts, DiskRefuses, IsHalted, IsJournalRefused, IsNotOpened}
+use Rattle.served_journals.specs.Rounds.{DiskHalts, DiskRefuses, IsHalted, IsJournalRefused}
+use Rattle.served_journals.specs.Rounds.{IsNotOpened}
 use Rattle.served_journals.specs.declared.files.Files.{Files}
 use Rattle.serve_command.specs.Serving.{IsServing}
 
@@ -56,7 +57,8 @@ ServeSays source sink disk kind files name clients proofs rules old new (Ok ends
 ServeSays source sink disk kind files name clients proofs rules old new (Err refusal) =
     Refuses disk files name (client_calls clients proofs) old new refusal
 
--- The step that serves: the journal's disk is opened, then the clients' streams, each once, and all are put back.
+-- The step that serves: the journal's disk is opened, then the clients' streams,
+-- each once, and all are put back.
 pub record ServeStep {Src Snk Dsk L : Type 0} (source : Sources Src) (sink : Sinks Snk)
     (disk : Disks Dsk) (kind : Rules L) (files : Files) (name : List ℕ) (clients : List ClientWord)
     (proofs : List ProofWord) (rules : List (ClientRules L))

@@ -30,8 +30,8 @@ abbrev pub EndsRun : {Src Snk Dsk : Type 0} → Sinks Snk → Scene Src Snk Dsk 
 EndsRun sink old new (Ok ends) status = EndsSay sink ends old new status
 EndsRun sink old new (Err refusal) status = TellsRefusal sink refusal old new status
 
--- The files were read, the journal was opened, the clients were served, and this was reported: in this order, each name
--- opened once, and all put back.
+-- The files were read, the journal was opened, the clients were served, and this was reported: in
+-- this order, each name opened once, and all put back.
 pub record RunsServe {Src Snk Dsk L : Type 0} (source : Sources Src) (sink : Sinks Snk)
     (disk : Disks Dsk) (kind : Rules L) (network base trains journal : List ℕ)
     (clients : List ClientWord) (proofs : List ProofWord) (rules : List (ClientRules L))
@@ -43,8 +43,8 @@ pub record RunsServe {Src Snk Dsk L : Type 0} (source : Sources Src) (sink : Sin
   pub keeps : KeepsTo (serve_calls network base trains journal clients proofs) old between outcome
   pub ends : EndsRun sink between new outcome status
 
--- All was done: the files were read, the journal was opened, the clients were served over it, the input of each was read
--- to its end, and a line for each and for each of its rules was reported.
+-- All was done: the files were read, the journal was opened, the clients were served over it, the
+-- input of each was read to its end, and a line for each and for each of its rules was reported.
 pub record IsServed {Src Snk Dsk L : Type 0} (source : Sources Src) (sink : Sinks Snk)
     (disk : Disks Dsk) (kind : Rules L) (network base trains journal : List ℕ)
     (clients : List ClientWord) (proofs : List ProofWord) (rules : List (ClientRules L))

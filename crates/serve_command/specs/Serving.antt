@@ -32,11 +32,12 @@ use Rattle.served_journals.specs.Rounds.{IsUnserved}
 abbrev pub streams_by : {Src Snk : Type 0} → Sources Src → Sinks Snk → Streams Src Snk
 streams_by source sink = streams source.left source.faults sink.held sink.faults
 
--- The clients were served over the book that was found: no name of theirs is told not to be ready, and each was served
--- with the streams under its names and by its rules, all by one history, that of the book that is left, which is kept on
--- the disk handed back. Proofs go along with the replies of a client where one of the proofs names it, into the file of the
--- first that does. The rules of a client are those in the elements with its name, in order. These are the ends of their
--- sessions. The plans are told without what happens between searches, on which nothing that is told depends.
+-- The clients were served over the book that was found: no name of theirs is told not to be ready,
+-- and each was served with the streams under its names and by its rules, all by one history, that
+-- of the book that is left, which is kept on the disk handed back. Proofs go along with the replies
+-- of a client where one of the proofs names it, into the file of the first that does. The rules of
+-- a client are those in the elements with its name, in order. These are the ends of their sessions.
+-- The plans are told without what happens between searches, on which nothing that is told depends.
 pub record IsServing {Src Snk Dsk L : Type 0} (source : Sources Src) (sink : Sinks Snk)
     (disk : Disks Dsk) (kind : Rules L) (known : Names) (clients : List ClientWord)
     (proofs : List ProofWord) (rules : List (ClientRules L)) (found : Ledger Dsk) (after : Dsk)

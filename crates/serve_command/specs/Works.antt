@@ -1,4 +1,5 @@
--- The work of `serve`: the network, the base timetable and the trains are read, and then clients are served.
+-- The work of `serve`: the network, the base timetable and the trains are read,
+-- and then clients are served.
 use Rattle.std.specs.Prelude.{ℕ, List, ◌∷◌, Result}
 use Rattle.admission_rules.specs.declared.rules.Rule.{Ghosts as Rules}
 use Rattle.client_rules.specs.declared.clients.ClientRules.{ClientRules}
@@ -37,7 +38,8 @@ abbrev pub ReadsBase : {Src Snk Dsk L : Type 0} → Sources Src → Sinks Snk �
 ReadsBase source sink disk kind base trains journal clients proofs rules network old new result =
     Follows (BaseStep source network.named.network.zones base)
     (λ (file : BaseFile).
-    ReadsTrains source sink disk kind trains journal clients proofs rules network file) old new result
+    ReadsTrains source sink disk kind trains journal clients proofs rules network file)
+    old new result
 
 -- the network is read, and then the base timetable
 abbrev pub ReadsNetwork : {Src Snk Dsk L : Type 0} → Sources Src → Sinks Snk → Disks Dsk → Rules L

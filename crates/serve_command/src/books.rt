@@ -28,8 +28,8 @@ use std::sync::Wait;
 use std::thread::Threads;
 use train_file::Trains;
 
-/// Opens the streams of the clients, serves the clients over a book by the rules of each, puts the streams back, and hands
-/// back the book's disk.
+/// Opens the streams of the clients, serves the clients over a book by the rules of each, puts the
+/// streams back, and hands back the book's disk.
 pub(crate) fn serve_book<R: AllocGlobal + Threads + Wait + Sync, O: Outside, L: Rule + Send>(
     rt: &R,
     book: Book<O::Dsk>,

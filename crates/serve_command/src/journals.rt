@@ -32,7 +32,8 @@ pub(crate) fn serve_files<R: AllocGlobal + Threads + Wait + Sync, O: Outside, L:
     requires clients { AreClients clients.now proofs.now }
     requires files { AreFiles files }
     ensures step { ServeStep O.Src.Source O.Snk.Sink O.Dsk.Disk L.Rule files journal.now
-        clients.now proofs.now rules.items (scene O.Outside outside.old) (scene O.Outside outside.new) result }
+        clients.now proofs.now rules.items (scene O.Outside outside.old)
+        (scene O.Outside outside.new) result }
 {
     let Ok(disk) = outside.disk(journal) else {
         return Err(not_opened(rt.alloc(), journal));

@@ -20,12 +20,14 @@ use std::alloc::AllocGlobal;
 use std::sync::Wait;
 use std::thread::Threads;
 
-/// Runs `serve` over the names of a network's file, a train file, a base timetable's and a journal, 1 to 16 clients, files for
-/// the proofs of some of them, and rules of clients. It reads the files, opens the journal, opens the source and the sink of
-/// each client and the file of its proofs if it has one, answers the lines of all clients at once, each in a thread where one
-/// can be made, puts all back, and reports how each client's session ended and what its rules were told, or what refused. To
-/// the file of a client goes the text of each proof that comes along with a reply to it, before the reply. The rules of a
-/// client are those in the elements with its name, in order; elements with other names are dropped.
+/// Runs `serve` over the names of a network's file, a train file, a base timetable's and a journal,
+/// 1 to 16 clients, files for the proofs of some of them, and rules of clients. It reads the files,
+/// opens the journal, opens the source and the sink of each client and the file of its proofs if it
+/// has one, answers the lines of all clients at once, each in a thread where one can be made, puts
+/// all back, and reports how each client's session ended and what its rules were told, or what
+/// refused. To the file of a client goes the text of each proof that comes along with a reply to
+/// it, before the reply. The rules of a client are those in the elements with its name, in order;
+/// elements with other names are dropped.
 pub fn run_serve<R: AllocGlobal + Threads + Wait + Sync, O: Outside, L: Rule + Send>(
     rt: &R,
     network: &str,
@@ -42,8 +44,8 @@ pub fn run_serve<R: AllocGlobal + Threads + Wait + Sync, O: Outside, L: Rule + S
     ensures runs { RunsServe O.Src.Source O.Snk.Sink O.Dsk.Disk L.Rule network.now base.now
         trains.now journal.now clients.now proofs.now rules.items (scene O.Outside outside.old)
         (scene O.Outside outside.new) result }
-    // At Done each line of each client was answered, with its proofs where they are wanted, and a line for each client and
-    // for each of its rules was reported.
+    // At Done each line of each client was answered, with its proofs where they are wanted, and a
+    // line for each client and for each of its rules was reported.
     ensures done { result ≡ Status.Done → IsServed O.Src.Source O.Snk.Sink O.Dsk.Disk L.Rule
         network.now base.now trains.now journal.now clients.now proofs.now rules.items
         (scene O.Outside outside.old) (scene O.Outside outside.new) }

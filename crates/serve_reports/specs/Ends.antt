@@ -1,8 +1,11 @@
 -- The report of a run's clients, and its status.
-use Rattle.std.specs.Prelude.{◌≡◌, ◌⊎◌, ℕ, Bool, true, false, List, ◌∷◌, [], ◌++◌, codes, decimal, flat_map, if◌then◌else◌, Option, None, Some, Result, Ok, Err}
+use Rattle.std.specs.Prelude.{◌≡◌, ◌⊎◌, ℕ, Bool, true, false, List, ◌∷◌, [], ◌++◌, codes, decimal}
+use Rattle.std.specs.Prelude.{flat_map, if◌then◌else◌, Option, None, Some, Result, Ok, Err}
 use Rattle.std.specs.List.{list_any}
 use Rattle.exit_status.specs.declared.Status.{Status}
-use Rattle.exit_status.specs.declared.Status.TheVariants.{Done, No, Words, Network, Base, Trains, Journal, Opening, DiskFault, ClientEnd, Report, Memory}
+use Rattle.exit_status.specs.declared.Status.TheVariants.{Done, No, Words, Network, Base, Trains}
+use Rattle.exit_status.specs.declared.Status.TheVariants.{Journal, Opening, DiskFault, ClientEnd}
+use Rattle.exit_status.specs.declared.Status.TheVariants.{Report, Memory}
 use Rattle.outside_io.specs.declared.sinks.Sink.{Ghosts}
 use Rattle.line_sessions.specs.declared.sessions.Ended.{Ended}
 use Rattle.line_sessions.specs.declared.sessions.Why.{Why}
@@ -25,7 +28,8 @@ why_text why.LongLine = codes "long-line"
 why_text why.LineCount = codes "line-count"
 why_text why.Memory = codes "memory"
 
--- the line of an end: a head, the name of what ended, how many of its replies were taken, and why it ended
+-- the line of an end: a head, the name of what ended, how many of its replies
+-- were taken, and why it ended
 abbrev pub end_line : List ℕ → List ℕ → Ended → List ℕ
 end_line head name ended =
     head ++ name ++ codes " lines " ++ decimal ended.lines ++ codes " end "

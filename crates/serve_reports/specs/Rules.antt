@@ -9,8 +9,8 @@ abbrev pub tally_text : Tally → List ℕ
 tally_text tally =
     codes " granted " ++ decimal tally.granted ++ codes " freed " ++ decimal tally.freed
 
--- the line of a rule as it stands: its client, its name, how many paths it was told were granted, and how many of them
--- freed
+-- the line of a rule as it stands: its client, its name, how many paths it was told were
+-- granted, and how many of them freed
 abbrev pub rule_line : List ℕ → Ruled → List ℕ
 rule_line client rule =
     codes "rule " ++ client ++ codes " " ++ name_text rule.sense.name

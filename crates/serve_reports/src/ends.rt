@@ -2,7 +2,9 @@
 
 ghost use Rattle.std.specs.Prelude.{◌≡◌};
 ghost use Rattle.file_rounds.specs.Scenes.{scene};
-ghost use Rattle.serve_reports.specs.Ends.{EndsSay, end_status, ends_status, has_faulty, has_wanting, IsEnds, is_faulty, is_wanting, line_of, status_at, status_unreported, status_untold};
+ghost use Rattle.serve_reports.specs.Ends.{EndsSay, end_status, ends_status, has_faulty};
+ghost use Rattle.serve_reports.specs.Ends.{has_wanting, IsEnds, is_faulty, is_wanting, line_of};
+ghost use Rattle.serve_reports.specs.Ends.{status_at, status_unreported, status_untold};
 
 use crate::texts::text_of;
 use admission_rules::Rule;
@@ -15,17 +17,17 @@ use rail_types::List;
 use request_server::Session;
 use std::alloc::Global;
 
-/// How the clients of a run ended: the status that this comes to, and the text of the report, or None where memory was
-/// wanted for it.
+/// How the clients of a run ended: the status that this comes to, and the text of the report, or
+/// None where memory was wanted for it.
 #[derive(Debug, Drop)]
 pub struct Ends {
     pub status: Status,
     pub text: Option<List<u8>>,
 }
 
-/// The ends of these sessions: the status is `ClientEnd` where an end is a fault of a source or a sink, a line that is too
-/// long or a line too many; else `Memory` where memory was wanted; else `Done`. The report has a line for each session, and
-/// behind it one for each rule of its client.
+/// The ends of these sessions: the status is `ClientEnd` where an end is a fault of a source or a
+/// sink, a line that is too long or a line too many; else `Memory` where memory was wanted; else
+/// `Done`. The report has a line for each session, and behind it one for each rule of its client.
 pub fn ends_of<S: Source, T: Sink, L: Rule>(alloc: Global, sessions: &[Session<S, T, L>]) -> Ends
     ensures ends { IsEnds L.Rule sessions.now result }
 {
@@ -42,8 +44,8 @@ pub fn ends_of<S: Source, T: Sink, L: Rule>(alloc: Global, sessions: &[Session<S
     }
 }
 
-/// Reports the ends, and answers the status: `Report` where the report failed, but for `ClientEnd`, which it leaves. Takes
-/// no memory.
+/// Reports the ends, and answers the status: `Report` where the report failed, but for `ClientEnd`,
+/// which it leaves. Takes no memory.
 pub fn tell_ends<O: Outside>(ends: &Ends, outside: &mut O) -> Status
     ensures told { EndsSay O.Snk.Sink ends.now (scene O.Outside outside.old)
         (scene O.Outside outside.new) result }

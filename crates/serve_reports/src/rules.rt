@@ -10,8 +10,8 @@ use itoa::Buffer as Digits;
 use no_memory::NoMemory;
 use rail_types::Name;
 
-/// Appends a line for each rule of a client, in order: `rule NAME RULE granted G freed F`. For want of memory a part of them
-/// may be there.
+/// Appends a line for each rule of a client, in order: `rule NAME RULE granted G freed F`. For want
+/// of memory a part of them may be there.
 pub fn push_rule_lines<L: Rule>(
     text: &mut Buffer,
     client: &Name,

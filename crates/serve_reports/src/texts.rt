@@ -29,8 +29,8 @@ pub(crate) fn text_of<S: Source, T: Sink, L: Rule>(
     Ok(text)
 }
 
-/// Appends the line of an end: a head, the name of what ended, how many of its replies were taken, and why it ended. For want
-/// of memory a part of it may be there.
+/// Appends the line of an end: a head, the name of what ended, how many of its replies were taken,
+/// and why it ended. For want of memory a part of it may be there.
 pub fn push_end(text: &mut Buffer, head: &[u8], name: &Name, ended: &Ended) -> Result<(), NoMemory>
     ensures { OnOk result
         (text.new.held ≡ text.old.held ++ end_line head.now name.now ended.now) }

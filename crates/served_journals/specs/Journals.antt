@@ -64,8 +64,9 @@ pub record IsFoundOnly {D : Type 0} (disk : Disks D) (files : Files) (before aft
   pub opened : IsFound disk files before found
   pub disk_is : after ≡ found.disk
 
--- A book's disk was handed back: it is the one that keeps the book. What a crash left at any moment from one on that is not
--- before the book's making, and what the disk holds, reads as a beginning of the book's history.
+-- A book's disk was handed back: it is the one that keeps the book. What a crash left at any
+-- moment from one on that is not before the book's making, and what the disk holds, reads as a
+-- beginning of the book's history.
 pub record IsClosed {D : Type 0} (disk : Disks D) (book : Ledger D) (after : D) : Type 0 where
   pub disk_is : after ≡ book.disk
   pub kept : IsKept disk book
@@ -73,8 +74,9 @@ pub record IsClosed {D : Type 0} (disk : Disks D) (book : Ledger D) (after : D) 
       → disk.since after moment image → IsPrefixOf book book.found image
   pub contents : IfSome (disk.contents after) (IsPrefixOf book (settled_of book))
 
--- What a crash leaves of the disk at the end: at any moment since the journal was opened, which took one sync, a beginning
--- of the history left that has the entries found; and now a beginning that has all that are settled. So do the contents.
+-- What a crash leaves of the disk at the end: at any moment since the journal was opened, which
+-- took one sync, a beginning of the history left that has the entries found; and now a beginning
+-- that has all that are settled. So do the contents.
 pub record Remains {D : Type 0} (disk : Disks D) (files : Files) (before after : D)
     (found left : Ledger D) : Type 0 where
   pub since : (image : List ℕ) → disk.since after (disk.clock before + 1) image

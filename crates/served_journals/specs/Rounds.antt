@@ -33,7 +33,8 @@ pub record IsJournalRefused {Src Snk Dsk : Type 0} (disk : Disks Dsk) (files : F
   pub left : Replaces (IsNoJournal disk files fault) (old.disks name) (new.disks name)
   pub told : TellsOpen name fault refusal
 
--- the journal was opened, but nobody was served, since not all of these calls succeeded or memory was wanted; the call that failed was the last that was made
+-- the journal was opened, but nobody was served, since not all of these calls succeeded or memory
+-- was wanted; the call that failed was the last that was made
 pub record IsHalted {Src Snk Dsk : Type 0} (disk : Disks Dsk) (files : Files) (name : List ℕ)
     (calls : List Opening) (old new : Scene Src Snk Dsk) (refusal : Refusal)
     : Type 0 where
@@ -42,7 +43,8 @@ pub record IsHalted {Src Snk Dsk : Type 0} (disk : Disks Dsk) (files : Files) (n
   pub why : WhyStopped calls (λ made. AreMade old new (disk_at name ∷ made))
       old.standing old.faults new.faults refusal
 
--- Nobody was served, since not all of these calls succeeded or memory was wanted; all is as it was before.
+-- Nobody was served, since not all of these calls succeeded or memory was
+-- wanted; all is as it was before.
 pub record IsUnserved {Src Snk Dsk : Type 0} (calls : List Opening) (found : Ledger Dsk)
     (after : Dsk) (old new : Scene Src Snk Dsk) (refusal : Refusal) : Type 0 where
   pub disk_is : after ≡ found.disk

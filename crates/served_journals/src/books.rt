@@ -25,7 +25,8 @@ pub struct Opened<D: Disk> {
     pub trains: Trains,
 }
 
-/// Opens the journal of the files on a disk. A refusal hands the disk back, and tells the journal's name or its fault.
+/// Opens the journal of the files on a disk. A refusal hands the disk back, and tells the
+/// journal's name or its fault.
 pub fn open_book<D: Disk>(
     alloc: Global,
     disk: D,

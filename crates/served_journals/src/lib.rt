@@ -1,5 +1,5 @@
-//! What a run over a journal has in common, whoever is served over it: its files, its journal once it is opened, and the disk
-//! once it is handed back.
+//! What a run over a journal has in common, whoever is served over it: its files, its journal once
+//! it is opened, and the disk once it is handed back.
 #![tactic(auto)]
 
 mod books;

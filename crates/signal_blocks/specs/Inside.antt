@@ -1,5 +1,6 @@
 -- *Inside*: tables on the way to a railway.
-use Rattle.std.specs.Prelude.{◌≡◌, ℕ, ◌<◌, ◌≤◌, ◌^◌, Option, Some, None, List, slice_index_or, nat_le, if◌then◌else◌}
+use Rattle.std.specs.Prelude.{◌≡◌, ℕ, ◌<◌, ◌≤◌, ◌^◌, Option, Some, None, List, slice_index_or}
+use Rattle.std.specs.Prelude.{nat_le, if◌then◌else◌}
 use Rattle.std.specs.List.{All}
 use Rattle.rail_types.specs.declared.limits.TheConstants.{MAX_SIGHT_M}
 use Rattle.track_graph.specs.declared.pieces.Piece.{Piece}
@@ -9,7 +10,8 @@ use Rattle.infra_types.specs.declared.infras.Infra.{Infra}
 use Rattle.track_graph.specs.declared.faults.GraphFault.TheVariants as graphs
 use Rattle.track_graph.specs.declared.faults.GraphFault.{GraphFault}
 use Rattle.signal_blocks.specs.Networks.{route_name}
-use Rattle.signal_blocks.specs.declared.faults.NetFault.TheVariants.{Graph, Walk, EmptyBlock, Limit, Memory}
+use Rattle.signal_blocks.specs.declared.faults.NetFault.TheVariants.{Graph, Walk, EmptyBlock, Limit}
+use Rattle.signal_blocks.specs.declared.faults.NetFault.TheVariants.{Memory}
 use Rattle.signal_blocks.specs.declared.faults.NetFault.{NetFault}
 use Rattle.signal_blocks.specs.declared.faults.RouteFault.{RouteFault}
 use Rattle.signal_blocks.specs.declared.posts.Post.{Post}

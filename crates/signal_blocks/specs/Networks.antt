@@ -17,12 +17,14 @@ use Rattle.track_graph.specs.Layouts.{IsLayoutOf, Layout, Tells}
 use Rattle.track_graph.specs.declared.faults.GraphFault.TheVariants as graphs
 use Rattle.signal_blocks.specs.Names.{block_names, stop_names, zone_names}
 use Rattle.signal_blocks.specs.Railways.{AreWalksOf, IsRailwayOf}
-use Rattle.signal_blocks.specs.declared.faults.NetFault.TheVariants.{Graph, Walk as OfWalk, EmptyBlock, Limit, Memory}
+use Rattle.signal_blocks.specs.declared.faults.NetFault.TheVariants.{Graph, Walk as OfWalk}
+use Rattle.signal_blocks.specs.declared.faults.NetFault.TheVariants.{EmptyBlock, Limit, Memory}
 use Rattle.signal_blocks.specs.declared.faults.NetFault.{NetFault}
 use Rattle.signal_blocks.specs.declared.faults.RouteFault.TheVariants.{NoWay, Loop, StrayRelease}
 use Rattle.signal_blocks.specs.declared.faults.RouteFault.{RouteFault}
 
--- The network of an infrastructure whose railway has no fault, with the names of its operational points, blocks, zones.
+-- The network of an infrastructure whose railway has no fault, with the names of its
+-- operational points, blocks, zones.
 pub record IsNetworkOf (infra : Infra) (named : Named) : Type 0 where
   pub layout : Layout
   pub railway : Railway

@@ -1,5 +1,7 @@
 -- Block signals at their detectors.
-use Rattle.std.specs.Prelude.{◌≡◌, ℕ, ◌+◌, ◌-◌, ◌*◌, ◌<◌, ◌≤◌, Bool, nat_eq, nat_le, min, max, List, [], ◌∷◌, ◌++◌, length, slice_get, Option, Some, None, option_map, option_and_then}
+use Rattle.std.specs.Prelude.{◌≡◌, ℕ, ◌+◌, ◌-◌, ◌*◌, ◌<◌, ◌≤◌, Bool, nat_eq, nat_le, min, max, List}
+use Rattle.std.specs.Prelude.{[], ◌∷◌, ◌++◌, length, slice_get, Option, Some, None, option_map}
+use Rattle.std.specs.Prelude.{option_and_then}
 use Rattle.std.specs.List.{All, filter, filter_map}
 use Rattle.block_cuts.specs.Cuts.{sight_at}
 use Rattle.infra_types.specs.declared.ends.Direction.{Direction}

@@ -8,7 +8,8 @@ use Rattle.infra_types.specs.declared.ends.End.TheVariants as ends
 use Rattle.json_fields.specs.Escapes.{escaped}
 use Rattle.track_graph.specs.declared.faults.GraphFault.{GraphFault}
 use Rattle.track_graph.specs.declared.faults.GraphFault.TheVariants as graphs
-use Rattle.signal_blocks.specs.declared.faults.NetFault.TheVariants.{Graph, Walk, EmptyBlock, Limit, Memory}
+use Rattle.signal_blocks.specs.declared.faults.NetFault.TheVariants.{Graph, Walk, EmptyBlock, Limit}
+use Rattle.signal_blocks.specs.declared.faults.NetFault.TheVariants.{Memory}
 use Rattle.signal_blocks.specs.declared.faults.NetFault.{NetFault}
 use Rattle.signal_blocks.specs.declared.faults.RouteFault.TheVariants.{NoWay, Loop, StrayRelease}
 use Rattle.signal_blocks.specs.declared.faults.RouteFault.{RouteFault}

@@ -3,7 +3,9 @@
 ghost use Rattle.std.specs.Prelude.{◌≡◌, ◌++◌, IfOk, OnOk};
 ghost use Rattle.std.specs.Fmt.{decimal};
 ghost use Rattle.json_fields.specs.Escapes.{escaped};
-ghost use Rattle.signal_blocks.specs.Texts.{end_word, word_of, id_fault, fault_at, end_fault, stray_fault, limit_fault, graph_fault, route_fault, fault_text};
+ghost use Rattle.signal_blocks.specs.Texts.{end_word, word_of, id_fault, fault_at, end_fault};
+ghost use Rattle.signal_blocks.specs.Texts.{stray_fault, limit_fault, graph_fault, route_fault};
+ghost use Rattle.signal_blocks.specs.Texts.{fault_text};
 
 use crate::faults::{NetFault, RouteFault};
 use block_cuts::What;

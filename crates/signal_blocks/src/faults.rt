@@ -9,8 +9,8 @@ use track_graph::GraphFault;
 /// Why a route has no walk.
 #[derive(Debug, Drop, Error)]
 pub enum RouteFault {
-    /// So many metres from its entry the route comes to an end of a track from which no way leads on, or to a buffer
-    /// stop that is not its exit.
+    /// So many metres from its entry the route comes to an end of a track from which no way leads
+    /// on, or to a buffer stop that is not its exit.
     #[error("no way on")]
     NoWay { route: Name, at: u64 },
     /// The route comes to a detector that it has passed.
@@ -33,8 +33,8 @@ pub enum NetFault {
     /// Two cuts of the route lie at this metre.
     #[error("a block without length")]
     EmptyBlock { route: Name, at: u64 },
-    /// More zones, points, blocks or cells than are allowed, or a block that is too long. `count` is the number found, or
-    /// 0 where that is no whole number of 64 bits.
+    /// More zones, points, blocks or cells than are allowed, or a block that is too long. `count`
+    /// is the number found, or 0 where that is no whole number of 64 bits.
     #[error("past a limit")]
     Limit { what: What, count: i64 },
     /// The memory that was needed was not there.

@@ -1,5 +1,5 @@
-//! The network of an infrastructure: the signal blocks between the signals along its routes, with the names of operational
-//! points, blocks and zones.
+//! The network of an infrastructure: the signal blocks between the signals along its routes, with
+//! the names of operational points, blocks and zones.
 #![tactic(auto)]
 
 mod fault_texts;

@@ -65,14 +65,16 @@ fn named_network(
 
 /// The network of an infrastructure, with the names of its operational points, blocks and zones.
 ///
-/// A block reaches from one cut of a route to the next: routes are cut at their ends and at each detector to which a
-/// block signal of the route's direction belongs. Blocks stand by route in file order, then along the route.
+/// A block reaches from one cut of a route to the next: routes are cut at their ends and at each
+/// detector to which a block signal of the route's direction belongs. Blocks stand by route in file
+/// order, then along the route.
 ///
 /// # Errors
 ///
-/// The first fault in this order: `Graph` where two ports name one end of a track, or a position is beyond its track;
-/// `Walk` of the first route that has no walk; `EmptyBlock` by route, then by metre; `Limit` of zones, points, blocks,
-/// cells, and of the first block that is too long. `Memory` where memory runs out.
+/// The first fault in this order: `Graph` where two ports name one end of a track, or a position is
+/// beyond its track; `Walk` of the first route that has no walk; `EmptyBlock` by route, then by
+/// metre; `Limit` of zones, points, blocks, cells, and of the first block that is too long.
+/// `Memory` where memory runs out.
 #[tactic(auto, using(crate::proofs::Whole::graph_tells))]
 pub fn network_of(alloc: Global, infra: &Infra) -> Result<Named, NetFault>
     requires { IsInfra infra.now }

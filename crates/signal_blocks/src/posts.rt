@@ -1,13 +1,16 @@
 //! Block signals at their detectors.
 
-ghost use Rattle.std.specs.Prelude.{◌≡◌, ℕ, ◌+◌, ◌*◌, ◌<◌, ◌≤◌, ◌^◌, length, map, filter, option_map, slice_get, slice_set, nat_le, OnOk, IfOk, IfSome, Some, None};
+ghost use Rattle.std.specs.Prelude.{◌≡◌, ℕ, ◌+◌, ◌*◌, ◌<◌, ◌≤◌, ◌^◌, length, map, filter};
+ghost use Rattle.std.specs.Prelude.{option_map, slice_get, slice_set, nat_le, OnOk, IfOk, IfSome};
+ghost use Rattle.std.specs.Prelude.{Some, None};
 ghost use Rattle.std.specs.List.{All, AllPairs, Contains};
 ghost use Rattle.block_cuts.specs.Cuts.{sight_at};
 ghost use Rattle.infra_types.specs.Infras.{IsInfra, IsSignal};
 ghost use Rattle.rail_types.specs.declared.limits.TheConstants.{MAX_SIGHT_M};
 ghost use Rattle.track_graph.specs.Stands.{ComesBefore};
 ghost use Rattle.signal_blocks.specs.Inside.{AreNearest, IsPost, nearer, nearest_at};
-ghost use Rattle.signal_blocks.specs.Posts.{detector_among, first_in, gap_between, point_of, post_at, post_of, post_of_bal, posts_of, AreSights};
+ghost use Rattle.signal_blocks.specs.Posts.{detector_among, first_in, gap_between, point_of};
+ghost use Rattle.signal_blocks.specs.Posts.{post_at, post_of, post_of_bal, posts_of, AreSights};
 ghost use Rattle.infra_types.specs.declared.ends.Direction.TheVariants.{StartToStop, StopToStart};
 
 use infra_types::{Bal, Direction, Infra, Signal};
@@ -16,8 +19,8 @@ use rail_types::List;
 use std::alloc::Global;
 use track_graph::{Graph, Stand};
 
-/// A block signal at the detector to which it belongs: the detector's number with the signal's direction, the metres
-/// between them, the sight distance.
+/// A block signal at the detector to which it belongs: the detector's number with the signal's
+/// direction, the metres between them, the sight distance.
 #[derive(Clone, Copy, Debug, PartialEq, Eq)]
 pub struct Post {
     pub point: u32,

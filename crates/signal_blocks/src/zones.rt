@@ -7,7 +7,8 @@ ghost use Rattle.track_graph.specs.Layouts.{IsLayoutOf};
 ghost use Rattle.track_graph.specs.Pieces.{pieces_of};
 ghost use Rattle.signal_blocks.specs.Inside.{IsOwn, IsZoned};
 ghost use Rattle.named_network.specs.Named.{IsId};
-ghost use Rattle.signal_blocks.specs.Names.{track_piece, zone_name, zone_names, zoned_on, zoned_pieces};
+ghost use Rattle.signal_blocks.specs.Names.{track_piece, zone_name, zone_names, zoned_on};
+ghost use Rattle.signal_blocks.specs.Names.{zoned_pieces};
 
 use block_cuts::{ByRow, InRow};
 use infra_types::{Infra, Track};

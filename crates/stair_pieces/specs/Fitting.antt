@@ -16,8 +16,10 @@ use Rattle.stair_pieces.specs.declared.places.Place.{Place}
 use Rattle.stair_pieces.specs.Places.{start_place, step_of, place_after, standing_zones}
 use Rattle.stair_pieces.specs.Pieces.{pieces_of, later_by, kept, wait_end}
 
--- the pieces of a run from a place clash with none of these, nor do the zones that it keeps until a tick
-pub record IsFree (net : Network) (settings : Settings) (train : Train) (live : List Claim) (place : Place) (run : Run) (until : ℤ) : Type 0 where
+-- the pieces of a run from a place clash with none of these, nor do the
+-- zones that it keeps until a tick
+pub record IsFree (net : Network) (settings : Settings) (train : Train) (live : List Claim)
+    (place : Place) (run : Run) (until : ℤ) : Type 0 where
   pub pieces : Fits (later_by run.enter (pieces_of net settings train place (step_of run))) live
   pub waits : Fits
       (kept (standing_zones net train (place_after net train place (step_of run))) run.leave until)
@@ -30,8 +32,10 @@ AreFree net settings train live place (run ∷ runs) =
     IsFree net settings train live place run (wait_end settings run runs)
     × AreFree net settings train live (place_after net train place (step_of run)) runs
 
--- a path fits, by its stairway and by the claims for which it is granted, exactly where each of its runs is free
-pub record FitsByRuns (net : Network) (settings : Settings) (path : Path) (live : List Claim) : Type 0 where
+-- a path fits, by its stairway and by the claims for which it is granted, exactly
+-- where each of its runs is free
+pub record FitsByRuns (net : Network) (settings : Settings) (path : Path)
+    (live : List Claim) : Type 0 where
   pub stairway : Fits (claims_of_path net settings path) live
       ↔ AreFree net settings path.train live start_place path.runs
   pub granted : Fits (blocked net settings path) live

@@ -10,7 +10,8 @@ use Rattle.blocking_time.specs.Joined.{CoverTheSame, blocked}
 use Rattle.blocking_time.specs.Stairway.{claims_of_path}
 use Rattle.stair_pieces.specs.Pieces.{steps_of_path}
 
--- the steps of a path cover the ticks of its stairway, zone by zone, and so those for which it is granted
+-- the steps of a path cover the ticks of its stairway, zone by zone, and so
+-- those for which it is granted
 pub record StepsCoverTheStairway (net : Network) (settings : Settings) (path : Path) : Type 0 where
   pub stairway : CoverTheSame (claims_of_path net settings path) (steps_of_path net settings path)
   pub granted : CoverTheSame (blocked net settings path) (steps_of_path net settings path)

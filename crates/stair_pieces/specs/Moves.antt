@@ -1,5 +1,6 @@
 -- The moves of a request, the places that they lead to, and the paths that they make.
-use Rattle.std.specs.Prelude.{◌≡◌, ◌⊎◌, ℕ, ◌<◌, ◌≤◌, ℤ, pos, ◌+ℤ◌, ◌≤ℤ◌, Bool, true, false, List, [], ◌∷◌, length, All, Contains, Some, None, slice_get}
+use Rattle.std.specs.Prelude.{◌≡◌, ◌⊎◌, ℕ, ◌<◌, ◌≤◌, ℤ, pos, ◌+ℤ◌, ◌≤ℤ◌, Bool, true, false, List}
+use Rattle.std.specs.Prelude.{[], ◌∷◌, length, All, Contains, Some, None, slice_get}
 use Rattle.rail_types.specs.declared.tracks.Block.{Block}
 use Rattle.rail_types.specs.declared.tracks.Network.{Network}
 use Rattle.rail_types.specs.declared.trains.Stop.{Stop}
@@ -34,7 +35,8 @@ abbrev pub MakesStop : Request → ℕ → Block → Type 0
 MakesStop request made block =
     (stop : Stop) × (slice_get request.stops made ≡ Some stop) × Contains block.serves stop.stop
 
--- a train may roll on at the end of any block, and halt there to make the next named stop or to arrive
+-- a train may roll on at the end of any block, and halt there to make the
+-- next named stop or to arrive
 abbrev pub MayLeave : Request → ℕ → Block → Edge → Type 0
 MayLeave request made block Rolling = Unit {0}
 MayLeave request made block Halted = MakesStop request made block ⊎ Arrives request made block
@@ -75,10 +77,12 @@ ArePlaces net request place (run ∷ (next ∷ runs)) =
     × ArePlaces net request (place_after net request.train place (step_of run)) (next ∷ runs)
 
 -- a run from a place takes its running time, within the horizon
-pub record TakesItsTime (net : Network) (settings : Settings) (request : Request) (place : Place) (run : Run) : Type 0 where
+pub record TakesItsTime (net : Network) (settings : Settings) (request : Request) (place : Place)
+    (run : Run) : Type 0 where
   pub timed : run.leave
       ≡ run.enter
-      +ℤ pos (run_ticks (block_at net run.block) request.train settings (entry_of net request.train place) (exit_of run.stops))
+      +ℤ pos (run_ticks (block_at net run.block) request.train settings
+      (entry_of net request.train place) (exit_of run.stops))
   pub begins : pos 0 ≤ℤ run.enter
   pub ends : run.leave ≤ℤ pos settings.horizon
 
@@ -96,7 +100,8 @@ TakeTheirTime net settings request place (run ∷ []) =
     TakesItsTime net settings request place run
 TakeTheirTime net settings request place (run ∷ (next ∷ runs)) =
     TakesItsTime net settings request place run × GoesOnAfter request place.made run.stops run next
-    × TakeTheirTime net settings request (place_after net request.train place (step_of run)) (next ∷ runs)
+    × TakeTheirTime net settings request (place_after net request.train place (step_of run))
+    (next ∷ runs)
 
 -- a tick of a window, which holds both its ends
 abbrev pub IsInside : Window → ℤ → Type 0
@@ -112,8 +117,10 @@ OfLast Said [] = ⊥
 OfLast Said (run ∷ []) = Said run
 OfLast Said (run ∷ (next ∷ runs)) = OfLast Said (next ∷ runs)
 
--- the request's train makes moves of the request from the start place, in their time, within its windows
-pub record IsMadeOfMoves (net : Network) (settings : Settings) (request : Request) (path : Path) : Type 0 where
+-- the request's train makes moves of the request from the start place, in
+-- their time, within its windows
+pub record IsMadeOfMoves (net : Network) (settings : Settings) (request : Request)
+    (path : Path) : Type 0 where
   pub train : path.train ≡ request.train
   pub moves : AreMoves net request start_place path.runs
   pub times : TakeTheirTime net settings request start_place path.runs
@@ -129,7 +136,8 @@ PathsAreMoves =
     → broken net settings path (Asked request) ≡ None
     → IsMadeOfMoves net settings request path × ArePlaces net request start_place path.runs
 
--- a path that is made of moves of the request goes through blocks of the network, and keeps the request
+-- a path that is made of moves of the request goes through blocks of the
+-- network, and keeps the request
 abbrev pub MovesAreAPath : Type 0
 MovesAreAPath =
     (net : Network) (settings : Settings) (request : Request) (path : Path)

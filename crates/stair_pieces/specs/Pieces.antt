@@ -1,5 +1,6 @@
 -- The claims of one step from a place, and those of all steps of a path.
-use Rattle.std.specs.Prelude.{ℕ, ℤ, pos, neg_ℤ, ◌+ℤ◌, ◌-ℤ◌, Bool, true, false, List, [], ◌∷◌, ◌++◌, map, nat_le, int_lt, if◌then◌else◌}
+use Rattle.std.specs.Prelude.{ℕ, ℤ, pos, neg_ℤ, ◌+ℤ◌, ◌-ℤ◌, Bool, true, false, List, [], ◌∷◌, ◌++◌}
+use Rattle.std.specs.Prelude.{map, nat_le, int_lt, if◌then◌else◌}
 use Rattle.rail_types.specs.declared.tracks.Block.{Block}
 use Rattle.rail_types.specs.declared.tracks.Network.{Network}
 use Rattle.rail_types.specs.declared.trains.Train.{Train}
@@ -16,20 +17,24 @@ use Rattle.blocking_time.specs.Passages.{passages_of}
 use Rattle.blocking_time.specs.declared.passages.Passage.{Passage}
 use Rattle.stair_pieces.specs.declared.places.Place.{Place}
 use Rattle.stair_pieces.specs.declared.places.Step.{Step}
-use Rattle.stair_pieces.specs.Places.{start_place, step_of, head_block, entry_of, place_after, uncleared, standing_zones}
+use Rattle.stair_pieces.specs.Places.{start_place, step_of, head_block, entry_of, place_after}
+use Rattle.stair_pieces.specs.Places.{uncleared, standing_zones}
 
--- when a passage is cleared and released in a step whose head enters at tick 0; where it is not cleared, when the
--- step ends
+-- when a passage is cleared and released in a step whose head enters at tick 0; where it is
+-- not cleared, when the step ends
 abbrev pub step_end : Network → Settings → Train → Place → Step → ℕ → ℤ
 step_end net settings train place step metres =
     if nat_le metres (block_at net step.block).length_m
     then
-    pos (part_ticks (block_at net step.block) train settings (entry_of net train place) step.exit metres)
+    pos (part_ticks (block_at net step.block) train settings (entry_of net train place)
+    step.exit metres)
     +ℤ pos settings.release
-    else pos (run_ticks (block_at net step.block) train settings (entry_of net train place) step.exit)
+    else pos
+    (run_ticks (block_at net step.block) train settings (entry_of net train place) step.exit)
 
--- when the route ahead is set for a train that passes the end of this block at tick 0: in time for the train to see it
--- from the sight distance before the block, or from its beginning where it stood there
+-- when the route ahead is set for a train that passes the end of this block at tick 0: in
+-- time for the train to see it from the sight distance before the block, or from its
+-- beginning where it stood there
 abbrev pub step_approach : Settings → Train → Block → Enter → ℤ
 step_approach settings train before Still =
     neg_ℤ (pos (run_ticks before train settings Still Rolling)) -ℤ pos settings.setting
@@ -37,8 +42,8 @@ step_approach settings train before (From speed) =
     neg_ℤ (pos (run_ticks before train settings (From speed) Rolling)) -ℤ pos settings.setting
     -ℤ pos (sight_ticks before train settings)
 
--- when the new block's zones are blocked, its head entering at tick 0: by the setting time before it where the train
--- stands, else before the block in which its head was
+-- when the new block's zones are blocked, its head entering at tick 0: by the setting time before
+-- it where the train stands, else before the block in which its head was
 abbrev pub step_begin : Settings → Train → Block → Enter → Bool → ℤ
 step_begin settings train before entered true = neg_ℤ (pos settings.setting)
 step_begin settings train before entered false = step_approach settings train before entered
@@ -54,8 +59,8 @@ piece net settings train place step from passage = record {
   span = record { from = from; to = step_end net settings train place step passage.metres };
 }
 
--- the claims of a step from a place, its head entering at tick 0: those of the new block, then those of the passages
--- that were not cleared before
+-- the claims of a step from a place, its head entering at tick 0: those of the new block, then
+-- those of the passages that were not cleared before
 abbrev pub pieces_of : Network → Settings → Train → Place → Step → List Claim
 pieces_of net settings train place step =
     map
@@ -85,8 +90,8 @@ abbrev pub wait_end : Settings → Run → List Run → ℤ
 wait_end settings run [] = run.leave +ℤ pos settings.release
 wait_end settings run (next ∷ runs) = next.enter
 
--- the claims of the runs that follow from a place, step by step: each step's pieces at its enter tick, and the
--- standing zones over the wait behind it
+-- the claims of the runs that follow from a place, step by step: each step's pieces at its enter
+-- tick, and the standing zones over the wait behind it
 abbrev pub steps_from : Network → Settings → Train → Place → List Run → List Claim
 steps_from net settings train place [] = []
 steps_from net settings train place (run ∷ runs) =

@@ -1,5 +1,6 @@
 -- The place of a train at the end of a run, and the place after one more step.
-use Rattle.std.specs.Prelude.{◌≡◌, ℕ, ◌+◌, ◌-◌, Bool, true, false, List, [], ◌∷◌, ◌++◌, map, length, sum_by, nat_le, nat_lt, if◌then◌else◌, slice_index}
+use Rattle.std.specs.Prelude.{◌≡◌, ℕ, ◌+◌, ◌-◌, Bool, true, false, List, [], ◌∷◌, ◌++◌, map, length}
+use Rattle.std.specs.Prelude.{sum_by, nat_le, nat_lt, if◌then◌else◌, slice_index}
 use Rattle.rail_types.specs.declared.tracks.Network.{Network}
 use Rattle.rail_types.specs.declared.trains.Train.{Train}
 use Rattle.rail_types.specs.declared.paths.Run.{Run}
@@ -25,7 +26,8 @@ step_of run = record { block = run.block; exit = exit_of run.stops }
 abbrev pub metres_of : Network → List ℕ → ℕ
 metres_of net blocks = sum_by (λ block. (block_at net block).length_m) blocks
 
--- the longest end of a list of blocks in which those behind the first are together shorter than the train
+-- the longest end of a list of blocks in which those behind the first are
+-- together shorter than the train
 abbrev pub under_train : Network → Train → List ℕ → List ℕ
 under_train net train [] = []
 under_train net train (block ∷ blocks) =
@@ -65,23 +67,24 @@ place_behind net train place [] = place
 place_behind net train place (run ∷ runs) =
     place_behind net train (place_after net train place (step_of run)) runs
 
--- the tail behind runs from the start is the longest end of all their blocks in which those behind the first are
--- together shorter than the train
+-- the tail behind runs from the start is the longest end of all their blocks in which those behind
+-- the first are together shorter than the train
 abbrev pub TailsAreLongest : Type 0
 TailsAreLongest =
     (net : Network) (train : Train) (runs : List Run)
     → (place_behind net train start_place runs).tail
     ≡ under_train net train (map (λ run. run.block) runs)
 
--- of the passages those that are not cleared when the head has gone so many metres more, with what is left
+-- of the passages those that are not cleared when the head has gone so many
+-- metres more, with what is left
 abbrev pub left_after : ℕ → List Passage → List Passage
 left_after gone [] = []
 left_after gone (passage ∷ passages) =
     if nat_le passage.metres gone then left_after gone passages
     else record { zone = passage.zone; metres = passage.metres - gone } ∷ left_after gone passages
 
--- the passages of the blocks under a train that it has not cleared, its head being at the end of the last; the last
--- block's first
+-- the passages of the blocks under a train that it has not cleared, its head being at the end of
+-- the last; the last block's first
 abbrev pub uncleared : Network → Train → List ℕ → List Passage
 uncleared net train [] = []
 uncleared net train (block ∷ blocks) =

@@ -1,7 +1,8 @@
 //! The claims of one step, and the zones that a train keeps while it waits.
 
 ghost use Rattle.std.specs.Prelude.{◌≡◌, ◌<◌, ◌++◌, [], true, length, All, IfOk, OnOk};
-ghost use Rattle.rail_types.specs.Limits.{IsBlockWithinLimits, IsTrainWithinLimits, IsSettingsWithinLimits};
+ghost use Rattle.rail_types.specs.Limits.{IsBlockWithinLimits, IsTrainWithinLimits};
+ghost use Rattle.rail_types.specs.Limits.{IsSettingsWithinLimits};
 ghost use Rattle.running_time.specs.Limits.{IsEnterWithinLimits};
 ghost use Rattle.blocking_time.specs.Runs.{block_at};
 ghost use Rattle.blocking_time.specs.Passages.{passages_of};
@@ -11,7 +12,8 @@ ghost use Rattle.stair_pieces.specs.Places.{
   standing_zones,
   uncleared as passages_left,
 };
-ghost use Rattle.stair_pieces.specs.Pieces.{begin_of_step, piece, pieces_of, step_approach, step_end};
+ghost use Rattle.stair_pieces.specs.Pieces.{begin_of_step, piece, pieces_of, step_approach};
+ghost use Rattle.stair_pieces.specs.Pieces.{step_end};
 ghost use Rattle.stair_pieces.specs.Steps.{IsTailIn, IsPlaceIn};
 
 use crate::{Place, Step};
@@ -21,8 +23,8 @@ use rail_types::{Block, Claim, Network, Settings, Span, Tick, Train};
 use running_time::{Edge, Enter, part, run, sight};
 use std::alloc::Global;
 
-// Puts behind the others those passages of a block that are not cleared when the head has gone so many metres from
-// its beginning.
+// Puts behind the others those passages of a block that are not cleared when the head has gone so
+// many metres from its beginning.
 fn push_left(
     passages: &mut Vec<Passage>,
     train: &Train,
@@ -111,7 +113,8 @@ pub(crate) fn entry(net: &Network, train: &Train, place: &Place) -> Enter
     entry_after(block_of(net, tail[tail.len() - 1]), train, false)
 }
 
-// When the zones ahead are blocked for a train that goes through a block and passes its end at tick 0.
+// When the zones ahead are blocked for a train that goes through a block
+// and passes its end at tick 0.
 fn set_ahead(block: &Block, train: &Train, settings: &Settings, entered: Enter) -> Tick
     requires block { IsBlockWithinLimits block.now }
     requires train { IsTrainWithinLimits train.now }
@@ -143,7 +146,8 @@ fn begin(net: &Network, settings: &Settings, train: &Train, place: &Place) -> Ti
     )
 }
 
-// When a passage is cleared and released in a step whose head enters at tick 0; where it is not, the step's end.
+// When a passage is cleared and released in a step whose head enters at tick 0;
+// where it is not, the step's end.
 fn end(
     net: &Network,
     settings: &Settings,
@@ -189,8 +193,8 @@ fn piece_of(
     }
 }
 
-/// The claims of a step from a place, its head entering the next block at tick 0: those of that block, then those of
-/// the blocks that are still under the train.
+/// The claims of a step from a place, its head entering the next block at tick 0: those of that
+/// block, then those of the blocks that are still under the train.
 pub fn pieces(
     alloc: Global,
     net: &Network,

@@ -1,4 +1,5 @@
-//! The laws that join a path's steps and moves to its stairway and rules, each on a function that calls others alone.
+//! The laws that join a path's steps and moves to its stairway and rules, each on a
+//! function that calls others alone.
 
 ghost use Rattle.stair_pieces.specs.Claiming.{
   PiecesAreClaims,
@@ -65,8 +66,9 @@ pub fn tails_are_longest()
     ensures { TailsAreLongest }
 {}
 
-/// The pieces of a step from a place have ticks, which are near, on zones of a network without a flaw; and so are the
-/// zones that a train keeps while it waits there; and each step leads to a place of which the same is true.
+/// The pieces of a step from a place have ticks, which are near, on zones of a network without a
+/// flaw; and so are the zones that a train keeps while it waits there; and each step leads to a
+/// place of which the same is true.
 pub fn pieces_are_claims()
     ensures pieces { PiecesAreClaims }
     ensures standing { StandingZonesAreOfTheNetwork }

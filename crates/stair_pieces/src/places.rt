@@ -21,8 +21,9 @@ use running_time::{Edge, Enter};
 use std::alloc::Global;
 use std::hash::{Hash, Hasher};
 
-/// Where a train is at the end of a run: the blocks from the oldest that is still under it to that of its head, how it
-/// entered the last of them, whether it stands now, and how many named stops it has made, one more behind an end.
+/// Where a train is at the end of a run: the blocks from the oldest that is still under it to that
+/// of its head, how it entered the last of them, whether it stands now, and how many named stops it
+/// has made, one more behind an end.
 #[derive(Debug, Drop)]
 pub struct Place {
     pub tail: List<u32>,
@@ -38,7 +39,8 @@ pub struct Step {
     pub exit: Edge,
 }
 
-// Where the longest end of these blocks begins in which those behind the first are shorter than the train.
+// Where the longest end of these blocks begins in which those behind the
+// first are shorter than the train.
 fn first_under(net: &Network, train: &Train, blocks: &[u32]) -> usize
     requires tail { IsTailIn net.now train.now blocks.now }
     ensures value { drop result blocks.now ≡ under_train net.now train.now blocks.now }

@@ -14,9 +14,10 @@ use exit_status::Status;
 use outside_io::Outside;
 use std::alloc::Global;
 
-/// Runs `stairs` over the names of a network's file, a base timetable's and a journal, the position of an entry, and the
-/// name of a table: opens and reads the three, writes the stairway table of the path that the entry grants, and reports
-/// where something refused. An entry that is no grant ends with `No`.
+/// Runs `stairs` over the names of a network's file, a base timetable's and a journal, the
+/// position of an entry, and the name of a table: opens and reads the three, writes the
+/// stairway table of the path that the entry grants, and reports where something refused. An
+/// entry that is no grant ends with `No`.
 pub fn run_stairs<O: Outside>(
     alloc: Global,
     network: &str,
@@ -42,7 +43,8 @@ pub fn run_stairs<O: Outside>(
         → Untouched (O.sinks outside.old) (O.sinks outside.new) }
     // Names that are given are never refused as words.
     ensures words { result ≢ Status.Words }
-    // Whatever the status, all that was opened is put back, the journal was only read, and no other disk is touched.
+    // Whatever the status, all that was opened is put back, the journal was only read,
+    // and no other disk is touched.
     ensures back { Undisturbed (O.standing outside.old) (O.standing outside.new) }
     ensures read { WasOnlyRead O.Dsk.Disk (O.disks outside.old journal.now)
         (O.disks outside.new journal.now) }

@@ -3,7 +3,8 @@
 ghost use Rattle.std.specs.Prelude.{◌≡◌, ◌++◌, ◌⊎◌, codes, decimal, option_map, IfErr, IfOk};
 ghost use Rattle.exit_status.specs.declared.Status.TheVariants.{No};
 ghost use Rattle.command_reports.specs.Refusals.{IsTold};
-ghost use Rattle.stairs_command.specs.Tables.{granted_at, granted_by, IsNoGrant, IsTableOf, no_grant_line};
+ghost use Rattle.stairs_command.specs.Tables.{granted_at, granted_by, IsNoGrant, IsTableOf};
+ghost use Rattle.stairs_command.specs.Tables.{no_grant_line};
 
 use command_reports::Refusal;
 use exit_status::Status;
@@ -14,8 +15,8 @@ use rail_types::{Deed, Path};
 use stairway_print::stairs_table;
 use std::alloc::Global;
 
-/// The table of the stairway that the entry at a position grants, also where it was freed. A hold, a Free and a position
-/// from the front on are no grant, and refuse as `entry I is no grant`.
+/// The table of the stairway that the entry at a position grants, also where it was freed. A hold,
+/// a Free and a position from the front on are no grant, and refuse as `entry I is no grant`.
 pub(crate) fn table_of(alloc: Global, history: &History, entry: u64) -> Result<Vec<u8>, Refusal>
     ensures table { IfOk result (λ table. IsTableOf history.now entry table.items) }
     ensures refused { IfErr result (λ refusal.

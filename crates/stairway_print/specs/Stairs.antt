@@ -1,5 +1,6 @@
 -- The table of a stairway, line by line: zone, from, to, run, each aligned right.
-use Rattle.std.specs.Prelude.{ℕ, ◌+◌, ◌-◌, List, [], ◌∷◌, ◌++◌, codes, decimal, drop, flat_map, length, map, replicate, take}
+use Rattle.std.specs.Prelude.{ℕ, ◌+◌, ◌-◌, List, [], ◌∷◌, ◌++◌, codes, decimal, drop, flat_map}
+use Rattle.std.specs.Prelude.{length, map, replicate, take}
 use Rattle.std.specs.Fmt.{signed_decimal}
 use Rattle.blocking_time.specs.Runs.{block_at, run_numbers}
 use Rattle.blocking_time.specs.Stairway.{claims_of_run}

@@ -1,7 +1,9 @@
 //! The lines of blocks.
 
 ghost use Rattle.std.specs.Prelude.{◌≡◌, ◌<◌, ◌++◌, OnOk, option_map, slice_get};
-ghost use Rattle.stairway_print.specs.Networks.{block_line, block_lines, cell_text, cells_text, name_of, numbers_text, route_text, serves_text, stop_text};
+ghost use Rattle.stairway_print.specs.Networks.{block_line, block_lines, cell_text, cells_text};
+ghost use Rattle.stairway_print.specs.Networks.{name_of, numbers_text, route_text, serves_text};
+ghost use Rattle.stairway_print.specs.Networks.{stop_text};
 
 use crate::words::{push_name, push_number};
 use named_network::BlockName;
@@ -113,7 +115,8 @@ fn push_stop(alloc: Global, to: &mut Vec<u8>, stop: u32, stops: &[Name]) -> Resu
     push_name(alloc, to, b" ", name_of(stops, stop))
 }
 
-/// The name of an operational point; a network whose parts have names has one for each that a block serves.
+/// The name of an operational point; a network whose parts have names has one
+/// for each that a block serves.
 fn name_of(stops: &[Name], stop: u32) -> &[u8]
     ensures { result.now ≡ name_of stops.now stop }
 {

@@ -11,9 +11,10 @@ use no_memory::NoMemory;
 use rail_types::Network;
 use std::alloc::Global;
 
-/// The table of a network: a line of counts, then a line for each zone with its pieces of track, then one for each
-/// block with its route, its lengths in metres, its speed in millimetres a second, its cells and the operational points
-/// that it serves. Names are escaped, so that fields are what stands between spaces.
+/// The table of a network: a line of counts, then a line for each zone with its pieces of track,
+/// then one for each block with its route, its lengths in metres, its speed in millimetres a
+/// second, its cells and the operational points that it serves. Names are escaped, so that fields
+/// are what stands between spaces.
 pub fn network_table(alloc: Global, named: &Named) -> Result<Vec<u8>, NoMemory>
     ensures { IfOk result (λ text. text.items ≡ network_text named.now) }
 {

@@ -1,10 +1,12 @@
 //! The table of a stairway.
 
-ghost use Rattle.std.specs.Prelude.{◌≡◌, ◌<◌, ◌++◌, IfOk, OnOk, All, drop, length, map, replicate, take};
+ghost use Rattle.std.specs.Prelude.{◌≡◌, ◌<◌, ◌++◌, IfOk, OnOk, All, drop, length, map, replicate};
+ghost use Rattle.std.specs.Prelude.{take};
 ghost use Rattle.blocking_time.specs.Paths.{IsPathIn};
 ghost use Rattle.blocking_time.specs.Rules.{KeepsRunRules};
 ghost use Rattle.blocking_time.specs.Runs.{block_at};
-ghost use Rattle.stairway_print.specs.Stairs.{aligned as aligned_text, claim_line, claim_lines, counts_of, cut_lines, stairs_line, stairs_text};
+ghost use Rattle.stairway_print.specs.Stairs.{aligned as aligned_text, claim_line, claim_lines};
+ghost use Rattle.stairway_print.specs.Stairs.{counts_of, cut_lines, stairs_line, stairs_text};
 
 use blocking_time::stairway;
 use itoa::Buffer;
@@ -12,8 +14,9 @@ use no_memory::NoMemory;
 use rail_types::{Claim, Network, Path, Run, Settings};
 use std::alloc::Global;
 
-/// The stairway table of a path that keeps the rules of runs: a header, then a line for each claim by run, then cell,
-/// with its zone, the first tick that it takes, the tick behind its last, and the number of its run.
+/// The stairway table of a path that keeps the rules of runs: a header, then a line for each
+/// claim by run, then cell, with its zone, the first tick that it takes, the tick behind its
+/// last, and the number of its run.
 pub fn stairs_table(
     alloc: Global,
     net: &Network,

@@ -10,7 +10,8 @@ use std::{env, io};
 fn main(rt: HostRuntime) -> ExitCode {
     let words = match words_of(&rt) {
         Ok(words) => words,
-        // No word that is understood has bytes that are no text: these are refused as no words at all are.
+        // No word that is understood has bytes that are no text: these are
+        // refused as no words at all are.
         Err(error) if error.kind() == ErrorKind::InvalidData => Vec::new(rt.alloc()),
         Err(_) => return ExitCode::from(Status::Memory.number()),
     };

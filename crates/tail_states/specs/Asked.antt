@@ -5,7 +5,8 @@ use Rattle.rail_types.specs.declared.trains.Request.{Request}
 use Rattle.rail_types.specs.declared.limits.TheConstants.{MAX_OBJECTS, MAX_STOPS}
 use Rattle.rail_types.specs.Flaws.{first_flaw}
 use Rattle.rail_types.specs.declared.entries.Settings.{Settings}
-use Rattle.rail_types.specs.Limits.{IsBlockWithinLimits, IsTrainWithinLimits, IsSettingsWithinLimits}
+use Rattle.rail_types.specs.Limits.{IsBlockWithinLimits, IsTrainWithinLimits}
+use Rattle.rail_types.specs.Limits.{IsSettingsWithinLimits}
 use Rattle.stair_pieces.specs.declared.places.Place.{Place}
 use Rattle.stair_pieces.specs.Places.{start_place}
 use Rattle.stair_pieces.specs.Steps.{IsPlaceIn}
@@ -31,8 +32,8 @@ SoundNetworksAreAsked =
     (net : Network) (request : Request) → first_flaw net ≡ None
     → IsTrainWithinLimits request.train → length request.stops ≤ MAX_STOPS → IsAsked net request
 
--- the start place and each place of a request is one of which pieces and standing zones may be asked; no more stops
--- are made than are named
+-- the start place and each place of a request is one of which pieces and standing zones may be
+-- asked; no more stops are made than are named
 pub record MayBeCut (net : Network) (settings : Settings) (request : Request) : Type 0 where
   pub start : IsPlaceIn net settings request.train start_place
   pub places : (place : Place) → IsPlace net request place

@@ -1,5 +1,6 @@
 -- Places and ticks that no free move leads out of.
-use Rattle.std.specs.Prelude.{◌≡◌, ◌-◌, ◌≤◌, ℤ, pos, ◌+ℤ◌, ◌<ℤ◌, ◌≤ℤ◌, true, false, List, All, Any, None, Some, slice_get}
+use Rattle.std.specs.Prelude.{◌≡◌, ◌-◌, ◌≤◌, ℤ, pos, ◌+ℤ◌, ◌<ℤ◌, ◌≤ℤ◌, true, false, List, All, Any}
+use Rattle.std.specs.Prelude.{None, Some, slice_get}
 use Rattle.rail_types.specs.declared.tracks.Network.{Network}
 use Rattle.rail_types.specs.declared.trains.Request.{Request}
 use Rattle.rail_types.specs.declared.trains.Stop.{Stop}
@@ -27,26 +28,31 @@ IsHeld members place tick =
 abbrev pub leaves_at : Network → Settings → Request → Place → Step → ℤ → ℤ
 leaves_at net settings request place step enter =
     enter
-    +ℤ pos (run_ticks (block_at net step.block) request.train settings (entry_of net request.train place) step.exit)
+    +ℤ pos (run_ticks (block_at net step.block) request.train settings
+    (entry_of net request.train place) step.exit)
 
--- a move of the request, entered at a tick, within the horizon, whose pieces clash with none of these
-pub record IsFreeMove (net : Network) (settings : Settings) (request : Request) (live : List Claim) (place : Place) (step : Step) (enter : ℤ) : Type 0 where
+-- a move of the request, entered at a tick, within the horizon, whose
+-- pieces clash with none of these
+pub record IsFreeMove (net : Network) (settings : Settings) (request : Request) (live : List Claim)
+    (place : Place) (step : Step) (enter : ℤ) : Type 0 where
   pub move : IsMove net request place step
   pub begins : pos 0 ≤ℤ enter
   pub ends : leaves_at net settings request place step enter ≤ℤ pos settings.horizon
   pub pieces : Fits (later_by enter (pieces_of net settings request.train place step)) live
 
--- a train goes on at a tick from a place that it reached at another: at once where it rolls, after its dwell where it
--- stands, and the zones that it keeps meanwhile clash with none of these
-pub record GoesOn (net : Network) (request : Request) (live : List Claim) (place : Place) (tick enter : ℤ) : Type 0 where
+-- a train goes on at a tick from a place that it reached at another: at once where it rolls, after
+-- its dwell where it stands, and the zones that it keeps meanwhile clash with none of these
+pub record GoesOn (net : Network) (request : Request) (live : List Claim) (place : Place)
+    (tick enter : ℤ) : Type 0 where
   pub rolls : place.standing ≡ false → enter ≡ tick
   pub dwells : place.standing ≡ true → (stop : Stop)
       → slice_get request.stops (place.made - 1) ≡ Some stop → (tick +ℤ pos stop.dwell) ≤ℤ enter
   pub waits : Fits (kept (standing_zones net request.train place) tick enter) live
 
--- what a free move leads to is held; an end whose zones clash with none of these through its release is outside the
--- window of arrival
-pub record IsAdmitted (net : Network) (settings : Settings) (request : Request) (live : List Claim) (members : List Member) (place : Place) (step : Step) (leave : ℤ) : Type 0 where
+-- what a free move leads to is held; an end whose zones clash with none of these through its
+-- release is outside the window of arrival
+pub record IsAdmitted (net : Network) (settings : Settings) (request : Request) (live : List Claim)
+    (members : List Member) (place : Place) (step : Step) (leave : ℤ) : Type 0 where
   pub held : ¬ IsEnd request place step
       → IsHeld members (place_after net request.train place step) leave
   pub ends : IsEnd request place step
@@ -58,19 +64,23 @@ pub record IsAdmitted (net : Network) (settings : Settings) (request : Request) 
       live
       → ¬ IsInside request.arrive leave
 
--- the members hold what each free move that ends below a tick leads to: each from the start in the window of departure,
--- and each from a member; moves that end at the tick or later are not asked for, so this says less than `IsClosed` does of
--- the request whose window of arrival ends one tick before
-pub record IsClosedBelow (net : Network) (settings : Settings) (request : Request) (live : List Claim) (below : ℤ) (members : List Member) : Type 0 where
+-- the members hold what each free move that ends below a tick leads to: each from the start
+-- in the window of departure, and each from a member; moves that end at the tick or later are
+-- not asked for, so this says less than `IsClosed` does of the request whose window of
+-- arrival ends one tick before
+pub record IsClosedBelow (net : Network) (settings : Settings) (request : Request)
+    (live : List Claim) (below : ℤ) (members : List Member) : Type 0 where
   pub start : (step : Step) (enter : ℤ) → IsInside request.depart enter
       → IsFreeMove net settings request live start_place step enter
       → leaves_at net settings request start_place step enter <ℤ below
-      → IsAdmitted net settings request live members start_place step (leaves_at net settings request start_place step enter)
+      → IsAdmitted net settings request live members start_place step
+      (leaves_at net settings request start_place step enter)
   pub moves : (place : Place) (step : Step) (tick enter : ℤ) → IsHeld members place tick
       → GoesOn net request live place tick enter
       → IsFreeMove net settings request live place step enter
       → leaves_at net settings request place step enter <ℤ below
-      → IsAdmitted net settings request live members place step (leaves_at net settings request place step enter)
+      → IsAdmitted net settings request live members place step
+      (leaves_at net settings request place step enter)
 
 -- the same of each free move
 abbrev pub IsClosed : Network → Settings → Request → List Claim → List Member → Type 0

@@ -12,7 +12,8 @@ pub record AreByPoint (net : Network) (count : ℕ) (lists : List (List ℕ)) : 
   pub whole : (block : ℕ) (blocks : List ℕ) → block < count
       → slice_get lists (block_at net block).from_point ≡ Some blocks → Contains blocks block
 
--- at each operational point's number stand those of the first blocks that serve it, so many being looked at
+-- at each operational point's number stand those of the first blocks that
+-- serve it, so many being looked at
 pub record AreServing (net : Network) (count : ℕ) (lists : List (List ℕ)) : Type 0 where
   pub stops : length lists ≡ net.stops
   pub sound : (stop block : ℕ) → Contains (slice_index_or lists stop []) block
@@ -20,12 +21,14 @@ pub record AreServing (net : Network) (count : ℕ) (lists : List (List ℕ)) : 
   pub whole : (stop block : ℕ) → block < count → Contains (block_at net block).serves stop
       → Contains (slice_index_or lists stop []) block
 
--- the blocks of a network by the point at which they begin, and by the operational points that they serve
+-- the blocks of a network by the point at which they begin, and by the
+-- operational points that they serve
 pub record BlocksByNumber : Type 0 where
   pub by_point : List (List ℕ)
   pub by_stop : List (List ℕ)
 
--- at each point's number stand the blocks that begin there, at each operational point's those that serve it
+-- at each point's number stand the blocks that begin there, at each
+-- operational point's those that serve it
 pub record AreFollowers (net : Network) (lists : BlocksByNumber) : Type 0 where
   pub by_point : AreByPoint net (length net.blocks) lists.by_point
   pub by_stop : AreServing net (length net.blocks) lists.by_stop

@@ -1,5 +1,6 @@
 -- Inside the listing of places: what is known on the way.
-use Rattle.std.specs.Prelude.{◌≡◌, ◌⊎◌, ℕ, ◌<◌, ◌≤◌, true, List, [], ◌∷◌, ◌++◌, length, All, Contains, Option, Some, None, slice_get}
+use Rattle.std.specs.Prelude.{◌≡◌, ◌⊎◌, ℕ, ◌<◌, ◌≤◌, true, List, [], ◌∷◌, ◌++◌, length, All}
+use Rattle.std.specs.Prelude.{Contains, Option, Some, None, slice_get}
 use Rattle.rail_types.specs.declared.tracks.Network.{Network}
 use Rattle.rail_types.specs.declared.trains.Request.{Request}
 use Rattle.rail_types.specs.declared.trains.Stop.{Stop}
@@ -41,33 +42,47 @@ abbrev pub Grows : List Place → List Place → Type 0
 Grows old new = (more : List Place) × (new ≡ old ++ more)
 
 -- the blocks that a train may enter from behind these
-pub record AreNextBlocks (net : Network) (request : Request) (tail : List ℕ) (blocks : List ℕ) : Type 0 where
-  pub sound : (block : ℕ) → Contains blocks block → (block < length net.blocks) × Reaches net request tail (block_at net block)
-  pub whole : (block : ℕ) → block < length net.blocks → Reaches net request tail (block_at net block) → Contains blocks block
+pub record AreNextBlocks (net : Network) (request : Request) (tail : List ℕ)
+    (blocks : List ℕ) : Type 0 where
+  pub sound : (block : ℕ) → Contains blocks block
+      → (block < length net.blocks) × Reaches net request tail (block_at net block)
+  pub whole : (block : ℕ) → block < length net.blocks
+      → Reaches net request tail (block_at net block) → Contains blocks block
 
 -- a step is put behind the moves, with where it leads
 abbrev pub AddsMove : Network → Request → List Place → Place → Step → List Move → List Move → Type 0
-AddsMove net request members place step old new = (one : Move) × (new ≡ old ++ one ∷ []) × (one.step ≡ step) × IsListedMove net request members place one
+AddsMove net request members place step old new =
+    (one : Move) × (new ≡ old ++ one ∷ []) × (one.step ≡ step)
+    × IsListedMove net request members place one
 
 -- exactly the moves onto a block are among these
-pub record AreMovesOnto (net : Network) (request : Request) (members : List Place) (place : Place) (block : ℕ) (moves : List Move) : Type 0 where
+pub record AreMovesOnto (net : Network) (request : Request) (members : List Place) (place : Place)
+    (block : ℕ) (moves : List Move) : Type 0 where
   pub sound : All (IsListedMove net request members place) moves
-  pub whole : (exit : Edge) → IsMove net request place (record { block = block; exit = exit }) → HasStep moves (record { block = block; exit = exit })
+  pub whole : (exit : Edge) → IsMove net request place (record { block = block; exit = exit })
+      → HasStep moves (record { block = block; exit = exit })
 
 -- the moves onto a block are put behind the moves
 abbrev pub AddsMoves : Network → Request → List Place → Place → ℕ → List Move → List Move → Type 0
-AddsMoves net request members place block old new = (more : List Move) × (new ≡ old ++ more) × AreMovesOnto net request members place block more
+AddsMoves net request members place block old new =
+    (more : List Move) × (new ≡ old ++ more) × AreMovesOnto net request members place block more
 
 -- exactly the moves onto these blocks
-pub record AreMovesOver (net : Network) (request : Request) (members : List Place) (place : Place) (blocks : List ℕ) (moves : List Move) : Type 0 where
+pub record AreMovesOver (net : Network) (request : Request) (members : List Place) (place : Place)
+    (blocks : List ℕ) (moves : List Move) : Type 0 where
   pub sound : All (IsListedMove net request members place) moves
-  pub whole : (step : Step) → IsMove net request place step → Contains blocks step.block → HasStep moves step
+  pub whole : (step : Step) → IsMove net request place step → Contains blocks step.block
+      → HasStep moves step
 
 -- the moves from the first places, so many
-pub record AreFirstMoves (net : Network) (request : Request) (members : List Place) (moves : List (List Move)) : Type 0 where
+pub record AreFirstMoves (net : Network) (request : Request) (members : List Place)
+    (moves : List (List Move)) : Type 0 where
   pub count : length moves ≤ length members
-  pub moves_are : (number : ℕ) (place : Place) (own : List Move) → slice_get members number ≡ Some place → slice_get moves number ≡ Some own → AreMovesFrom net request members place own
+  pub moves_are : (number : ℕ) (place : Place) (own : List Move)
+      → slice_get members number ≡ Some place → slice_get moves number ≡ Some own
+      → AreMovesFrom net request members place own
 
 -- the moves from the place that has this number among the old places
 abbrev pub AreMovesAt : Network → Request → List Place → ℕ → List Place → List Move → Type 0
-AreMovesAt net request old number new moves = (place : Place) → slice_get old number ≡ Some place → AreMovesFrom net request new place moves
+AreMovesAt net request old number new moves =
+    (place : Place) → slice_get old number ≡ Some place → AreMovesFrom net request new place moves

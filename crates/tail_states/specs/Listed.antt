@@ -1,5 +1,6 @@
 -- The places of a request by number, with the moves from each.
-use Rattle.std.specs.Prelude.{◌≡◌, ◌≢◌, ◌⊎◌, ℕ, ◌+◌, ◌<◌, List, [], ◌∷◌, ◌++◌, length, All, AllPairs, Contains, Some, slice_get}
+use Rattle.std.specs.Prelude.{◌≡◌, ◌≢◌, ◌⊎◌, ℕ, ◌+◌, ◌<◌, List, [], ◌∷◌, ◌++◌, length, All}
+use Rattle.std.specs.Prelude.{AllPairs, Contains, Some, slice_get}
 use Rattle.rail_types.specs.declared.tracks.Network.{Network}
 use Rattle.rail_types.specs.declared.trains.Request.{Request}
 use Rattle.rail_types.specs.declared.limits.TheConstants.{MAX_PLACES}
@@ -13,7 +14,8 @@ use Rattle.tail_states.specs.declared.moves.Next.TheVariants.{End, At}
 use Rattle.tail_states.specs.declared.faults.PlacesFault.{PlacesFault}
 use Rattle.tail_states.specs.declared.faults.PlacesFault.TheVariants.{Wide, Memory}
 
--- the places in the order of their numbers, the moves from the start place, and for each place those from it
+-- the places in the order of their numbers, the moves from the start place, and
+-- for each place those from it
 pub record Listed : Type 0 where
   pub members : List Place
   pub starts : List Move
@@ -31,7 +33,8 @@ LeadsTo net request members place step (At number) =
     × (slice_get members number ≡ Some (place_after net request.train place step))
 
 -- a move of the request from a place, with where it leads
-pub record IsListedMove (net : Network) (request : Request) (members : List Place) (place : Place) (one : Move) : Type 0 where
+pub record IsListedMove (net : Network) (request : Request) (members : List Place) (place : Place)
+    (one : Move) : Type 0 where
   pub allowed : IsMove net request place one.step
   pub leads : LeadsTo net request members place one.step one.next
 
@@ -40,7 +43,8 @@ abbrev pub HasStep : List Move → Step → Type 0
 HasStep moves step = (next : Next) × Contains moves (record { step = step; next = next })
 
 -- these are exactly the moves of the request from a place
-pub record AreMovesFrom (net : Network) (request : Request) (members : List Place) (place : Place) (moves : List Move) : Type 0 where
+pub record AreMovesFrom (net : Network) (request : Request) (members : List Place) (place : Place)
+    (moves : List Move) : Type 0 where
   pub sound : All (IsListedMove net request members place) moves
   pub whole : (step : Step) → IsMove net request place step → HasStep moves step
 

@@ -1,6 +1,7 @@
 //! Which blocks follow which, made once for a network.
 
-ghost use Rattle.std.specs.Prelude.{◌≡◌, ◌<◌, ◌≤◌, ◌∷◌, ◌++◌, [], length, All, IfOk, OnErr, OnOk, Some, slice_get, slice_set};
+ghost use Rattle.std.specs.Prelude.{◌≡◌, ◌<◌, ◌≤◌, ◌∷◌, ◌++◌, [], length, All, IfOk, OnErr, OnOk};
+ghost use Rattle.std.specs.Prelude.{Some, slice_get, slice_set};
 ghost use Rattle.std.specs.List.{slice_index_or};
 ghost use Rattle.blocking_time.specs.Runs.{block_at};
 ghost use Rattle.tail_states.specs.Asked.{HasPoints};
@@ -61,7 +62,8 @@ impl BlockLists {
     }
 }
 
-/// The blocks of a network by the point at which they begin, and by the operational points that they serve.
+/// The blocks of a network by the point at which they begin, and by the
+/// operational points that they serve.
 #[derive(Drop)]
 pub struct Followers {
     by_point: BlockLists,
@@ -77,7 +79,8 @@ impl Model for Followers {
 }
 
 impl Followers {
-    /// The blocks of a network by the point at which they begin, and by the operational points that they serve.
+    /// The blocks of a network by the point at which they begin, and by the
+    /// operational points that they serve.
     pub fn new(alloc: Global, net: &Network) -> Result<Followers, NoMemory>
         requires { HasPoints net.now }
         ensures { IfOk result (λ followers. AreFollowers net.now followers) }

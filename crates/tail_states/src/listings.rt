@@ -1,6 +1,7 @@
 //! The places of a request as they are listed.
 
-ghost use Rattle.std.specs.Prelude.{◌≡◌, ◌↔◌, ◌<◌, length, Contains, IfNone, IfSome, IsTrue, Some, slice_get};
+ghost use Rattle.std.specs.Prelude.{◌≡◌, ◌↔◌, ◌<◌, length, Contains, IfNone, IfSome, IsTrue, Some};
+ghost use Rattle.std.specs.Prelude.{slice_get};
 
 use crate::Move;
 use crate::interned::Members;
@@ -8,7 +9,8 @@ use rail_types::List;
 use stair_pieces::Place;
 use std::marker::Model;
 
-/// The places of a request by their numbers, the moves from the start place, and the moves from each place.
+/// The places of a request by their numbers, the moves from the start place,
+/// and the moves from each place.
 #[derive(Drop)]
 pub struct Places {
     pub(crate) members: Members,
@@ -53,7 +55,8 @@ impl Places {
 
     /// The number of a place, None where it is none of them.
     pub fn number(&self, place: &Place) -> Option<usize>
-        ensures found { IfSome result (λ number. slice_get self.now.members number ≡ Some place.now) }
+        ensures found { IfSome result
+            (λ number. slice_get self.now.members number ≡ Some place.now) }
         ensures none { IfNone result (¬ Contains self.now.members place.now) }
     {
         self.members.find(place)

@@ -1,5 +1,6 @@
 -- What is wrong with the switches and positions of an infrastructure.
-use Rattle.std.specs.Prelude.{◌≡◌, ℕ, ◌<◌, ◌⊎◌, Bool, nat_lt, List, ◌++◌, map, find, Option, Some, None, option_map}
+use Rattle.std.specs.Prelude.{◌≡◌, ℕ, ◌<◌, ◌⊎◌, Bool, nat_lt, List, ◌++◌, map, find, Option, Some}
+use Rattle.std.specs.Prelude.{None, option_map}
 use Rattle.std.specs.List.{flat_map, filter_map}
 use Rattle.infra_types.specs.declared.ends.TrackEnd.{TrackEnd}
 use Rattle.infra_types.specs.declared.infras.Infra.{Infra}
@@ -15,12 +16,14 @@ use Rattle.track_graph.specs.Ways.{HasPort}
 
 -- a port stands earlier: by switch, then by the order of the switch's ports
 abbrev pub IsEarlier : ℕ → ℕ → ℕ → ℕ → Type 0
-IsEarlier number port other_number other_port = (number < other_number) ⊎ ((number ≡ other_number) × (port < other_port))
+IsEarlier number port other_number other_port =
+    (number < other_number) ⊎ ((number ≡ other_number) × (port < other_port))
 
 -- an earlier port has the same track end
 abbrev pub IsTwice : List Switch → ℕ → ℕ → TrackEnd → Type 0
 IsTwice switches number port end =
-    HasPort switches number port end × ((n : ℕ) × (p : ℕ) × IsEarlier n p number port × HasPort switches n p end)
+    HasPort switches number port end
+    × ((n : ℕ) × (p : ℕ) × IsEarlier n p number port × HasPort switches n p end)
 
 -- No port before this one names a track end for the second time.
 abbrev pub AreOnceBefore : List Switch → ℕ → ℕ → Type 0
@@ -30,7 +33,8 @@ AreOnceBefore switches number port =
 -- The first port that names a track end already named names this one.
 abbrev pub IsFirstTwice : List Switch → TrackEnd → Type 0
 IsFirstTwice switches end =
-    (number : ℕ) × (port : ℕ) × IsTwice switches number port end × AreOnceBefore switches number port
+    (number : ℕ) × (port : ℕ) × IsTwice switches number port end
+    × AreOnceBefore switches number port
 
 -- No track end is named by two ports.
 abbrev pub AreOnce : List Switch → Type 0
@@ -50,7 +54,8 @@ kept_at id None = None
 kept_at id (Some bal) = Some (record { id = id; track = bal.track; position = bal.position })
 
 abbrev pub parts_at : OperationalPoint → List Located
-parts_at point = map (λ part. record { id = point.id; track = part.track; position = part.position }) point.parts
+parts_at point =
+    map (λ part. record { id = point.id; track = part.track; position = part.position }) point.parts
 
 -- whether a position is beyond its track
 abbrev pub is_off : List Track → Located → Bool

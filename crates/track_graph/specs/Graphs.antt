@@ -14,11 +14,20 @@ use Rattle.track_graph.specs.Layouts.{IsLayout, Layout, Tells}
 use Rattle.track_graph.specs.PieceRows.{AreFirsts}
 
 -- the layout of these tables
-abbrev pub layout_of : Infra → List (List Stand) → List (List Stand) → List (List Piece) → Zones → Layout
-layout_of infra stands stops pieces zones = record { infra = infra; stands = stands; stops = stops; pieces = pieces; count = zones.count; zones = zones.of_pieces.items }
+abbrev pub layout_of : Infra → List (List Stand) → List (List Stand) → List (List Piece) → Zones
+    → Layout
+layout_of infra stands stops pieces zones = record {
+  infra = infra;
+  stands = stands;
+  stops = stops;
+  pieces = pieces;
+  count = zones.count;
+  zones = zones.of_pieces.items;
+}
 
 -- The tables are those of a layout.
-pub record IsGraph (layout : Layout) (firsts : List ℕ) (joints : List (Option Joint)) (junctions : List Junction) : Type 0 where
+pub record IsGraph (layout : Layout) (firsts : List ℕ) (joints : List (Option Joint))
+    (junctions : List Junction) : Type 0 where
   pub sound : IsLayout layout
   pub offsets : AreFirsts layout.pieces firsts
   pub few : sum_by length layout.pieces < 2 ^ 32

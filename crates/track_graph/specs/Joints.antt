@@ -1,5 +1,6 @@
 -- *Inside*: for each end of a track the port that is there.
-use Rattle.std.specs.Prelude.{◌≡◌, ℕ, ◌+◌, ◌*◌, ◌<◌, List, length, slice_index_or, slice_set, Bool, true, false, Option, Some, None}
+use Rattle.std.specs.Prelude.{◌≡◌, ℕ, ◌+◌, ◌*◌, ◌<◌, List, length, slice_index_or, slice_set, Bool}
+use Rattle.std.specs.Prelude.{true, false, Option, Some, None}
 use Rattle.std.specs.List.{All}
 use Rattle.infra_types.specs.declared.ends.End.{End}
 use Rattle.infra_types.specs.declared.ends.End.TheVariants as ends
@@ -23,7 +24,8 @@ abbrev pub joint_at : List (Option Joint) → TrackEnd → Option Joint
 joint_at joints end = slice_index_or joints (heading_of end) None
 
 -- The ends of all earlier ports have them, and no other end has one.
-pub record AreJoints (switches : List Switch) (number port : ℕ) (joints : List (Option Joint)) : Type 0 where
+pub record AreJoints (switches : List Switch) (number port : ℕ)
+    (joints : List (Option Joint)) : Type 0 where
   pub there : (n p : ℕ) (end : TrackEnd) → IsEarlier n p number port → HasPort switches n p end
       → joint_at joints end ≡ Some (record { switch = n; port = p })
   pub from : (end : TrackEnd) (joint : Joint) → joint_at joints end ≡ Some joint
@@ -35,11 +37,13 @@ AreAllNamed switches joints = AreJoints switches (length switches) 0 joints
 
 -- each port's end has a number below this
 abbrev pub AreHeadings : ℕ → List Switch → Type 0
-AreHeadings count switches = All (λ switch. All (λ end. heading_of end < count) switch.ports) switches
+AreHeadings count switches =
+    All (λ switch. All (λ end. heading_of end < count) switch.ports) switches
 
 -- The port took an end that had none, or the end had one.
 abbrev pub Took : List (Option Joint) → List (Option Joint) → TrackEnd → Joint → Bool → Type 0
-Took old new end joint true = (joint_at old end ≡ None) × (new ≡ slice_set old (heading_of end) (Some joint))
+Took old new end joint true =
+    (joint_at old end ≡ None) × (new ≡ slice_set old (heading_of end) (Some joint))
 Took old new end joint false = (other : Joint) × (joint_at old end ≡ Some other)
 
 -- All ports before this one took their ends, or the first that could not has this one.

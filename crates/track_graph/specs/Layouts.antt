@@ -1,5 +1,6 @@
 -- The layout of an infrastructure: its pieces and their zones.
-use Rattle.std.specs.Prelude.{◌≡◌, ℕ, ◌+◌, ◌↔◌, List, length, Option, Some, None, slice_get, slice_index, option_map}
+use Rattle.std.specs.Prelude.{◌≡◌, ℕ, ◌+◌, ◌↔◌, List, length, Option, Some, None, slice_get}
+use Rattle.std.specs.Prelude.{slice_index, option_map}
 use Rattle.std.specs.List.{sum_by}
 use Rattle.infra_types.specs.declared.ends.TrackEnd.{TrackEnd}
 use Rattle.infra_types.specs.declared.infras.Infra.{Infra}
@@ -14,7 +15,8 @@ use Rattle.track_graph.specs.Stands.{AreOnRows}
 use Rattle.track_graph.specs.Ways.{HasPort, LeadsTo}
 use Rattle.track_graph.specs.Zones.{AreJoined, AreZones}
 
--- An infrastructure with the detectors, the buffer stops and the pieces of each track, and the zone of each piece.
+-- An infrastructure with the detectors, the buffer stops and the pieces of each
+-- track, and the zone of each piece.
 pub record Layout : Type 0 where
   pub infra : Infra
   pub stands : List (List Stand)
@@ -27,8 +29,10 @@ pub record Layout : Type 0 where
 pub record IsLayout (layout : Layout) : Type 0 where
   pub stands : AreOnRows layout.infra.detectors (length layout.infra.tracks) layout.stands
   pub stops : AreOnRows layout.infra.buffer_stops (length layout.infra.tracks) layout.stops
-  pub pieces : ArePieceRows layout.infra.tracks layout.stands (length layout.infra.tracks) layout.pieces
-  pub zones : AreZones (AreJoined layout.infra.switches layout.pieces) (sum_by length layout.pieces) layout.count layout.zones
+  pub pieces : ArePieceRows layout.infra.tracks layout.stands (length layout.infra.tracks)
+      layout.pieces
+  pub zones : AreZones (AreJoined layout.infra.switches layout.pieces) (sum_by length layout.pieces)
+      layout.count layout.zones
   pub once : AreOnce layout.infra.switches
   pub within : first_off layout.infra ≡ None
 
@@ -47,7 +51,8 @@ IsNamed infra track name = option_map (λ one. one.id) (slice_get infra.tracks t
 
 -- The end to which the group leads from this one, None where no switch or no such way is there.
 abbrev pub IsStep : Layout → TrackEnd → Group → Option TrackEnd → Type 0
-IsStep layout end group found = (next : TrackEnd) → (found ≡ Some next) ↔ LeadsTo layout.infra.switches end group next
+IsStep layout end group found =
+    (next : TrackEnd) → (found ≡ Some next) ↔ LeadsTo layout.infra.switches end group next
 
 -- the switch of that number has a port at this end
 abbrev pub HasSwitch : Layout → TrackEnd → ℕ → Type 0
@@ -60,6 +65,7 @@ IsSwitchAt layout end found = (number : ℕ) → (found ≡ Some number) ↔ Has
 -- The first port whose track end has one already, or else the first position beyond its track.
 abbrev pub Tells : Infra → GraphFault → Type 0
 Tells infra (EndTwice name end) =
-    (track : ℕ) × IsNamed infra track name × IsFirstTwice infra.switches (record { track = track; end = end })
+    (track : ℕ) × IsNamed infra track name
+    × IsFirstTwice infra.switches (record { track = track; end = end })
 Tells infra (OffTrack id) = AreOnce infra.switches × (first_off infra ≡ Some id)
 Tells infra Memory = Unit {0}

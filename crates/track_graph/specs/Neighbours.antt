@@ -1,5 +1,6 @@
 -- *Inside*: joins, and for each piece a row of those that are joined to it.
-use Rattle.std.specs.Prelude.{ℕ, ◌+◌, ◌-◌, ◌<◌, ◌⊎◌, ◌↔◌, List, [], ◌∷◌, ◌++◌, length, map, slice_index, slice_index_or, slice_set}
+use Rattle.std.specs.Prelude.{ℕ, ◌+◌, ◌-◌, ◌<◌, ◌⊎◌, ◌↔◌, List, [], ◌∷◌, ◌++◌, length, map}
+use Rattle.std.specs.Prelude.{slice_index, slice_index_or, slice_set}
 use Rattle.std.specs.List.{All, Contains, flat_map}
 use Rattle.infra_types.specs.declared.ends.End.{End}
 use Rattle.infra_types.specs.declared.ends.End.TheVariants as ends
@@ -9,7 +10,8 @@ use Rattle.track_graph.specs.declared.neighbours.Join.{Join}
 
 -- A join of the list names these two, in either order.
 abbrev pub AreNamed : List Join → ℕ → ℕ → Type 0
-AreNamed joins a b = Contains joins (record { one = a; other = b }) ⊎ Contains joins (record { one = b; other = a })
+AreNamed joins a b =
+    Contains joins (record { one = a; other = b }) ⊎ Contains joins (record { one = b; other = a })
 
 abbrev pub AreWithin : ℕ → List Join → Type 0
 AreWithin pieces joins = All (λ join. (join.one < pieces) × (join.other < pieces)) joins

@@ -1,5 +1,6 @@
 -- Pieces of track, between detectors.
-use Rattle.std.specs.Prelude.{◌≡◌, ℕ, ◌+◌, ◌-◌, ◌<◌, ◌≤◌, ◌↔◌, List, [], ◌∷◌, length, take, slice_get, slice_index_or, Option, Some, None}
+use Rattle.std.specs.Prelude.{◌≡◌, ℕ, ◌+◌, ◌-◌, ◌<◌, ◌≤◌, ◌↔◌, List, [], ◌∷◌, length, take}
+use Rattle.std.specs.Prelude.{slice_get, slice_index_or, Option, Some, None}
 use Rattle.std.specs.List.{All, Contains, sum_by}
 use Rattle.std.specs.List.Sorted.{IsStrictlyIncreasing}
 use Rattle.infra_types.specs.declared.tracks.Track.{Track}
@@ -48,10 +49,12 @@ pieces_of rows track = slice_index_or rows track []
 
 -- the pieces of a track that is cut at these detectors
 abbrev pub AreCutFrom : List Track → List (List Stand) → List (List Piece) → ℕ → Type 0
-AreCutFrom tracks stands rows track = ArePieces track (length_of tracks track) (stands_of stands track) (pieces_of rows track)
+AreCutFrom tracks stands rows track =
+    ArePieces track (length_of tracks track) (stands_of stands track) (pieces_of rows track)
 
 -- The row of each track below done has its pieces; they are no more than detectors and tracks.
-pub record ArePieceRows (tracks : List Track) (stands : List (List Stand)) (done : ℕ) (rows : List (List Piece)) : Type 0 where
+pub record ArePieceRows (tracks : List Track) (stands : List (List Stand)) (done : ℕ)
+    (rows : List (List Piece)) : Type 0 where
   pub long : length rows ≡ done
   pub each : (track : ℕ) → track < done → AreCutFrom tracks stands rows track
   pub many : sum_by length rows ≤ sum_by length (take done stands) + done

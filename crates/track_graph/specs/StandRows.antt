@@ -1,5 +1,6 @@
 -- *Inside*: detectors or buffer stops, sorted over all tracks and handed out to their tracks.
-use Rattle.std.specs.Prelude.{◌≡◌, ℕ, ◌<◌, ◌↔◌, Bool, nat_eq, List, [], ◌∷◌, ◌++◌, length, slice_index_or, slice_set}
+use Rattle.std.specs.Prelude.{◌≡◌, ℕ, ◌<◌, ◌↔◌, Bool, nat_eq, List, [], ◌∷◌, ◌++◌, length}
+use Rattle.std.specs.Prelude.{slice_index_or, slice_set}
 use Rattle.std.specs.List.{AllPairs, Contains, filter, sum_by}
 use Rattle.infra_types.specs.declared.tracks.Placed.{Placed}
 use Rattle.track_graph.specs.declared.stands.Stand.{Stand}
@@ -27,7 +28,8 @@ IsNumbered detectors number stand = Stands detectors stand × (stand.number ≡ 
 -- Those so far, by number.
 pub record AreFront (detectors : List Placed) (done : ℕ) (listed : List Stand) : Type 0 where
   pub long : length listed ≡ done
-  pub each : (number : ℕ) (d : Stand) → number < done → IsNumbered detectors number (slice_index_or listed number d)
+  pub each : (number : ℕ) (d : Stand) → number < done
+      → IsNumbered detectors number (slice_index_or listed number d)
 
 -- the rows with one more behind those of its track
 abbrev pub with_stand : List (List Stand) → Stand → List (List Stand)

@@ -1,5 +1,6 @@
 -- The detectors and the buffer stops along each track.
-use Rattle.std.specs.Prelude.{◌≡◌, ℕ, ◌<◌, ◌⊎◌, ◌↔◌, List, [], length, slice_get, slice_index_or, Some}
+use Rattle.std.specs.Prelude.{◌≡◌, ℕ, ◌<◌, ◌⊎◌, ◌↔◌, List, [], length, slice_get, slice_index_or}
+use Rattle.std.specs.Prelude.{Some}
 use Rattle.std.specs.List.{AllPairs, Contains, sum_by}
 use Rattle.infra_types.specs.declared.tracks.Placed.{Placed}
 use Rattle.track_graph.specs.declared.stands.Stand.{Stand}
@@ -13,7 +14,9 @@ pub record Stands (all : List Placed) (stand : Stand) : Type 0 where
 
 -- nearer to the track's begin, or at the same position and earlier in the file
 abbrev pub ComesBefore : Stand → Stand → Type 0
-ComesBefore one other = (one.position < other.position) ⊎ ((one.position ≡ other.position) × (one.number < other.number))
+ComesBefore one other =
+    (one.position < other.position)
+    ⊎ ((one.position ≡ other.position) × (one.number < other.number))
 
 -- Those that stand on a track, from its begin to its end.
 pub record AreStands (all : List Placed) (track : ℕ) (stands : List Stand) : Type 0 where

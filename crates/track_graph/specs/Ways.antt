@@ -1,11 +1,14 @@
 -- Where the ways across a switch lead.
-use Rattle.std.specs.Prelude.{◌≡◌, ℕ, nat_eq, List, [], ◌∷◌, slice_get, Option, Some, None, if◌then◌else◌}
+use Rattle.std.specs.Prelude.{◌≡◌, ℕ, nat_eq, List, [], ◌∷◌, slice_get, Option, Some, None}
+use Rattle.std.specs.Prelude.{if◌then◌else◌}
 use Rattle.infra_types.specs.declared.ends.TrackEnd.{TrackEnd}
 use Rattle.infra_types.specs.declared.switches.Group.{Group}
-use Rattle.infra_types.specs.declared.switches.Group.TheVariants.{AB1, AB2, A1B1, A1B2, A2B1, A2B2, Other}
+use Rattle.infra_types.specs.declared.switches.Group.TheVariants.{AB1, AB2, A1B1, A1B2, A2B1, A2B2}
+use Rattle.infra_types.specs.declared.switches.Group.TheVariants.{Other}
 use Rattle.infra_types.specs.declared.switches.Switch.{Switch}
 use Rattle.infra_types.specs.declared.switches.SwitchKind.{SwitchKind}
-use Rattle.infra_types.specs.declared.switches.SwitchKind.TheVariants.{Point, Link, Crossing, DoubleSlip}
+use Rattle.infra_types.specs.declared.switches.SwitchKind.TheVariants.{Point, Link, Crossing}
+use Rattle.infra_types.specs.declared.switches.SwitchKind.TheVariants.{DoubleSlip}
 
 -- the ways of a point switch with the ports A, B1 and B2
 abbrev pub point_ways : Group → List (ℕ × ℕ)
@@ -27,7 +30,8 @@ slip_ways A2B1 = (1, 2) ∷ []
 slip_ways A2B2 = (1, 3) ∷ []
 slip_ways Other = []
 
--- the pairs of ports that a group joins; a link (A, B) and a crossing (A1, B1, A2, B2) follow no group
+-- the pairs of ports that a group joins; a link (A, B) and a crossing
+-- (A1, B1, A2, B2) follow no group
 abbrev pub ways : SwitchKind → Group → List (ℕ × ℕ)
 ways Point group = point_ways group
 ways Link group = (0, 1) ∷ []
@@ -44,10 +48,12 @@ port_across (way ∷ rest) port =
 -- the switch of this number has this track end at this port
 abbrev pub HasPort : List Switch → ℕ → ℕ → TrackEnd → Type 0
 HasPort switches number port end =
-    (switch : Switch) × (slice_get switches number ≡ Some switch) × (slice_get switch.ports port ≡ Some end)
+    (switch : Switch) × (slice_get switches number ≡ Some switch)
+    × (slice_get switch.ports port ≡ Some end)
 
 -- A switch has a port at this end, and its group leads from there to the port at the next end.
-pub record LeadsTo (switches : List Switch) (end : TrackEnd) (group : Group) (next : TrackEnd) : Type 0 where
+pub record LeadsTo (switches : List Switch) (end : TrackEnd) (group : Group)
+    (next : TrackEnd) : Type 0 where
   pub number : ℕ
   pub switch : Switch
   pub port : ℕ

@@ -10,7 +10,8 @@ use Rattle.track_graph.specs.Pieces.{end_piece}
 abbrev pub AreJoined : List Switch → List (List Piece) → ℕ → ℕ → Type 0
 AreJoined switches rows a b =
     (switch : Switch) × (one : TrackEnd) × (other : TrackEnd) × Contains switches switch
-    × Contains switch.ports one × Contains switch.ports other × (end_piece rows one ≡ a) × (end_piece rows other ≡ b)
+    × Contains switch.ports one × Contains switch.ports other × (end_piece rows one ≡ a)
+    × (end_piece rows other ≡ b)
 
 -- from a, each next one leads on to the one behind it, and the last to b
 abbrev pub Leads : (ℕ → ℕ → Type 0) → ℕ → List ℕ → ℕ → Type 0
@@ -21,18 +22,23 @@ Leads next a (c ∷ via) b = next a c × Leads next c via b
 abbrev pub AreLinked : (ℕ → ℕ → Type 0) → ℕ → ℕ → Type 0
 AreLinked joined a b = (via : List ℕ) × Leads joined a via b
 
--- The zone of each piece: linked pieces have one zone, and zones are numbered from 0 by their first pieces.
+-- The zone of each piece: linked pieces have one zone, and zones are numbered
+-- from 0 by their first pieces.
 pub record AreZones (joined : ℕ → ℕ → Type 0) (pieces count : ℕ) (zones : List ℕ) : Type 0 where
   pub long : length zones ≡ pieces
-  pub same : (a b : ℕ) → a < pieces → b < pieces → (slice_index zones a ≡ slice_index zones b) ↔ AreLinked joined a b
+  pub same : (a b : ℕ) → a < pieces → b < pieces
+      → (slice_index zones a ≡ slice_index zones b) ↔ AreLinked joined a b
   pub below : (a : ℕ) → a < pieces → slice_index zones a < count
   pub each : (zone : ℕ) → zone < count → (a : ℕ) × (a < pieces) × (slice_index zones a ≡ zone)
   -- each lesser zone has a piece before this one
-  pub order : (b zone : ℕ) → b < pieces → zone < slice_index zones b → (a : ℕ) × (a < b) × (slice_index zones a ≡ zone)
+  pub order : (b zone : ℕ) → b < pieces → zone < slice_index zones b
+      → (a : ℕ) × (a < b) × (slice_index zones a ≡ zone)
 
 -- Two numberings of the same pieces are the same.
 abbrev pub ZonesAreOne : Type 0
 ZonesAreOne =
-    (switches : List Switch) (rows : List (List Piece)) (pieces one other : ℕ) (zones others : List ℕ)
-    → AreZones (AreJoined switches rows) pieces one zones → AreZones (AreJoined switches rows) pieces other others
+    (switches : List Switch) (rows : List (List Piece)) (pieces one other : ℕ)
+    (zones others : List ℕ)
+    → AreZones (AreJoined switches rows) pieces one zones
+    → AreZones (AreJoined switches rows) pieces other others
     → zones ≡ others

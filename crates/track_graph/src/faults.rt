@@ -11,7 +11,8 @@ pub enum GraphFault {
     /// Two ports of switches name this end of the track.
     #[error("two ports at one end of a track")]
     EndTwice { track: Name, end: End },
-    /// The position of a detector, a buffer stop, a block signal or a part of an operational point is beyond its track.
+    /// The position of a detector, a buffer stop, a block signal or a part of an
+    /// operational point is beyond its track.
     #[error("a position beyond its track")]
     OffTrack { id: Name },
     /// The memory that was needed was not there.

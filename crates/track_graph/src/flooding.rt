@@ -43,7 +43,8 @@ fn mark_all(
     zone: u32,
 ) -> Result<(), NoMemory>
     requires { All (λ piece. piece < length marks.old) pieces.now }
-    ensures ok { OnOk result (AreMarked pieces.now zone marks.old marks.new waiting.old.items waiting.new.items) }
+    ensures ok { OnOk result
+        (AreMarked pieces.now zone marks.old marks.new waiting.old.items waiting.new.items) }
 {
     'row: for piece in pieces {
         let index = *piece as usize;

@@ -1,12 +1,14 @@
 //! The graph of an infrastructure.
 
-ghost use Rattle.std.specs.Prelude.{◌≡◌, ℕ, ◌*◌, ◌<◌, ◌↔◌, ◌^◌, length, map, slice_get, IfErr, IfOk, Some, None};
+ghost use Rattle.std.specs.Prelude.{◌≡◌, ℕ, ◌*◌, ◌<◌, ◌↔◌, ◌^◌, length, map, slice_get, IfErr};
+ghost use Rattle.std.specs.Prelude.{IfOk, Some, None};
 ghost use Rattle.std.specs.List.{All};
 ghost use Rattle.std.specs.List.Sorted.{IsNonDecreasingBy};
 ghost use Rattle.track_graph.specs.Faults.{first_off};
 ghost use Rattle.infra_types.specs.Infras.{IsInfra};
 ghost use Rattle.track_graph.specs.Joints.{AreAllNamed, junction_of};
-ghost use Rattle.track_graph.specs.Layouts.{IsLayout, IsLayoutOf, IsStep, IsSwitchAt, Tells, zone_at};
+ghost use Rattle.track_graph.specs.Layouts.{IsLayout, IsLayoutOf, IsStep, IsSwitchAt, Tells};
+ghost use Rattle.track_graph.specs.Layouts.{zone_at};
 ghost use Rattle.track_graph.specs.Graphs.{IsGraph, TellsOf};
 ghost use Rattle.track_graph.specs.Pieces.{AreCutFrom, AreOn, pieces_of};
 ghost use Rattle.track_graph.specs.Stands.{AreStands, stands_of};
@@ -26,8 +28,8 @@ use std::alloc::Global;
 use std::marker::Model;
 use std::snapshot::Snapshot;
 
-/// The graph of an infrastructure: where ways across switches lead, the pieces of each track, and their zones.
-/// Contracts see the layout, and the infrastructure in it.
+/// The graph of an infrastructure: where ways across switches lead, the pieces of each track, and
+/// their zones. Contracts see the layout, and the infrastructure in it.
 #[derive(Drop)]
 pub struct Graph {
     infra: Snapshot<Infra>,
@@ -46,9 +48,12 @@ impl Model for Graph {
 
     ghost Value = { Layout };
 
-    ghost view = { λ g. layout_of g.infra.value g.stands.items g.stops.items g.pieces.items g.zones };
+    ghost view = { λ g.
+        layout_of g.infra.value g.stands.items g.stops.items g.pieces.items g.zones };
 
-    ghost invariant = { λ g. IsGraph (layout_of g.infra.value g.stands.items g.stops.items g.pieces.items g.zones) g.firsts.items g.joints.items g.junctions.items };
+    ghost invariant = { λ g.
+        IsGraph (layout_of g.infra.value g.stands.items g.stops.items g.pieces.items g.zones)
+        g.firsts.items g.joints.items g.junctions.items };
 }
 
 impl Graph {
@@ -56,9 +61,10 @@ impl Graph {
     ///
     /// # Errors
     ///
-    /// `EndTwice` at the first port, by switch and then in the order of the kind's ports, that names a track end already
-    /// named. Else `OffTrack` at the first position beyond its track: of a detector, then of a buffer stop, of a block
-    /// signal, of a part of an operational point. `Memory` where memory runs out.
+    /// `EndTwice` at the first port, by switch and then in the order of the kind's ports, that
+    /// names a track end already named. Else `OffTrack` at the first position beyond its track: of
+    /// a detector, then of a buffer stop, of a block signal, of a part of an operational point.
+    /// `Memory` where memory runs out.
     pub fn of(alloc: Global, infra: &Infra) -> Result<Graph, GraphFault>
         requires { IsInfra infra.now }
         ensures graph { IfOk result (IsLayoutOf infra.now) }
@@ -74,8 +80,8 @@ impl Graph {
         Ok(graph)
     }
 
-    /// The end of a track to which a switch leads from this one in this group, None where no switch or no such way is
-    /// there. A link and a crossing lead on in every group.
+    /// The end of a track to which a switch leads from this one in this group, None where no switch
+    /// or no such way is there. A link and a crossing lead on in every group.
     pub fn step(&self, end: TrackEnd, group: Group) -> Option<TrackEnd>
         ensures { IsStep self.now end group result }
     {
@@ -130,8 +136,8 @@ impl Graph {
         row.as_slice()
     }
 
-    /// The detectors of a track, from its begin to its end; those at one position in the file's order. Each stands
-    /// within the track.
+    /// The detectors of a track, from its begin to its end; those at one position in the file's
+    /// order. Each stands within the track.
     pub fn stands(&self, track: u32) -> &[Stand]
         requires { track < length self.now.infra.tracks }
         ensures stands { result.now ≡ stands_of self.now.stands track }
@@ -142,8 +148,8 @@ impl Graph {
         row.as_slice()
     }
 
-    /// The buffer stops of a track, from its begin to its end; those at one position in the file's order. Each
-    /// stands within the track.
+    /// The buffer stops of a track, from its begin to its end; those at one position in the file's
+    /// order. Each stands within the track.
     pub fn stops(&self, track: u32) -> &[Stand]
         requires { track < length self.now.infra.tracks }
         ensures stops { result.now ≡ stands_of self.now.stops track }

@@ -2,7 +2,8 @@
 
 ghost use Rattle.std.specs.Prelude.{◌≡◌, ◌+◌, ◌*◌, ◌<◌, ◌^◌, length, slice_index_or, None, Some};
 ghost use Rattle.std.specs.List.{All};
-ghost use Rattle.track_graph.specs.Joints.{AreHeadings, AreJoints, Named, Took, heading_of, joint_at};
+ghost use Rattle.track_graph.specs.Joints.{AreHeadings, AreJoints, Named, Took, heading_of};
+ghost use Rattle.track_graph.specs.Joints.{joint_at};
 
 use infra_types::{End, Switch, TrackEnd};
 
@@ -35,8 +36,8 @@ pub(crate) fn joint_at(joints: &[Option<Joint>], end: TrackEnd) -> Option<Joint>
     }
 }
 
-/// Puts the ports of all switches at their track ends. The first port whose end has one already ends it, and
-/// gives that end.
+/// Puts the ports of all switches at their track ends. The first port whose end has one already
+/// ends it, and gives that end.
 pub(crate) fn name_all(joints: &mut [Option<Joint>], switches: &[Switch]) -> Option<TrackEnd>
     requires few { length switches.now < 2 ^ 32 }
     requires ports { All (λ switch. length switch.ports < 2 ^ 32) switches.now }

@@ -1,5 +1,5 @@
-//! The graph of an infrastructure's tracks: where the ways across its switches lead, the pieces into which detectors
-//! cut its tracks, and the zones of joined pieces.
+//! The graph of an infrastructure's tracks: where the ways across its switches lead, the pieces
+//! into which detectors cut its tracks, and the zones of joined pieces.
 #![tactic(auto)]
 
 mod faults;

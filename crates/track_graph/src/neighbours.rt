@@ -3,7 +3,8 @@
 ghost use Rattle.std.specs.Prelude.{◌≡◌, ◌+◌, ◌<◌, ◌++◌, [], length, IfOk, OnOk};
 ghost use Rattle.std.specs.List.{All};
 ghost use Rattle.std.specs.List.Sorted.{IsStrictlyIncreasing};
-ghost use Rattle.track_graph.specs.Neighbours.{AreOffset, AreWithin, ShowJoins, piece_by, star, stars, with_neighbour};
+ghost use Rattle.track_graph.specs.Neighbours.{AreOffset, AreWithin, ShowJoins, piece_by, star};
+ghost use Rattle.track_graph.specs.Neighbours.{stars, with_neighbour};
 
 use infra_types::{End, Switch, TrackEnd};
 use no_memory::NoMemory;

@@ -11,8 +11,8 @@ use no_memory::NoMemory;
 use rail_types::List;
 use std::alloc::Global;
 
-/// A piece of track between two neighbours among the positions of its detectors and its ends: its metres from the track's
-/// begin.
+/// A piece of track between two neighbours among the positions of its detectors and its ends: its
+/// metres from the track's begin.
 #[derive(Clone, Copy, Debug, PartialEq, Eq)]
 pub struct Piece {
     pub track: u32,

@@ -2,7 +2,8 @@
 
 ghost use Rattle.std.specs.Prelude.{◌≡◌, map, nat_lt, option_map};
 ghost use Rattle.std.specs.List.{list_any};
-ghost use Rattle.track_graph.specs.Faults.{first_off, is_part_off, off_among, placed_at, points_at, signals_at};
+ghost use Rattle.track_graph.specs.Faults.{first_off, is_part_off, off_among, placed_at, points_at};
+ghost use Rattle.track_graph.specs.Faults.{signals_at};
 ghost use Rattle.track_graph.specs.Pieces.{length_of};
 
 use infra_types::{Infra, OperationalPoint, Part, Placed, Signal, Track};

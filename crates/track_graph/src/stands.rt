@@ -11,7 +11,8 @@ use no_memory::NoMemory;
 use rail_types::List;
 use std::alloc::Global;
 
-/// A detector or a buffer stop on its track, by its number among its kind: its metres from the track's begin.
+/// A detector or a buffer stop on its track, by its number among its kind: its
+/// metres from the track's begin.
 #[derive(Clone, Copy, Debug, PartialEq, Eq)]
 pub struct Stand {
     pub track: u32,

@@ -1,5 +1,6 @@
 -- Fields of an object: what each reads as, or its first fault.
-use Rattle.std.specs.Prelude.{◌≡◌, ℕ, ◌≤◌, ℤ, IsUtf8, pos, negsuc, List, [], ◌∷◌, length, if◌then◌else◌, ◌&&◌, nat_eq, nat_le, is_some, Option, Result, Ok, Err}
+use Rattle.std.specs.Prelude.{◌≡◌, ℕ, ◌≤◌, ℤ, IsUtf8, pos, negsuc, List, [], ◌∷◌, length}
+use Rattle.std.specs.Prelude.{if◌then◌else◌, ◌&&◌, nat_eq, nat_le, is_some, Option, Result, Ok, Err}
 use Rattle.serde_json.specs.Data.{Data, Items, no_items, item}
 use Rattle.serde_json.specs.Find.{get, as_array, as_object, as_str}
 use Rattle.decimal_quote.specs.declared.values.NotWhole.{NotWhole}
@@ -11,7 +12,8 @@ use Rattle.json_fields.specs.Places.{FilePlace, spot_of}
 use Rattle.json_fields.specs.Reading.{◌>>=◌, or_fault}
 use Rattle.json_fields.specs.Reading as reading
 use Rattle.train_file.specs.declared.faults.TrainFault.{TrainFault}
-use Rattle.train_file.specs.declared.faults.TrainFault.TheVariants.{Missing, Kind, Zero, Limit, Memory}
+use Rattle.train_file.specs.declared.faults.TrainFault.TheVariants.{Missing, Kind, Zero, Limit}
+use Rattle.train_file.specs.declared.faults.TrainFault.TheVariants.{Memory}
 use Rattle.train_file.specs.declared.faults.What.{What}
 use Rattle.train_file.specs.declared.faults.What.TheVariants as what
 

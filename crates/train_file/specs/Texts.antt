@@ -5,7 +5,8 @@ use Rattle.json_fields.specs.declared.spots.Spot.{Spot}
 use Rattle.json_fields.specs.Escapes.{escaped}
 use Rattle.json_fields.specs.Spots.{spot_text}
 use Rattle.train_file.specs.declared.faults.TrainFault.{TrainFault}
-use Rattle.train_file.specs.declared.faults.TrainFault.TheVariants.{NotJson, Missing, Kind, Zero, Twice, Limit, Memory}
+use Rattle.train_file.specs.declared.faults.TrainFault.TheVariants.{NotJson, Missing, Kind, Zero}
+use Rattle.train_file.specs.declared.faults.TrainFault.TheVariants.{Twice, Limit, Memory}
 use Rattle.train_file.specs.declared.faults.What.{What}
 use Rattle.train_file.specs.declared.faults.What.TheVariants as what
 

@@ -1,17 +1,21 @@
 -- What the bytes of a file of trains read as: the trains in their order, or the first fault.
-use Rattle.std.specs.Prelude.{◌≡◌, ◌≢◌, ℕ, ◌≤◌, ◌+◌, pos, List, [], ◌∷◌, ◌++◌, length, map, codes, find, if◌then◌else◌, nat_le, is_some, Option, Result, Ok, Err}
+use Rattle.std.specs.Prelude.{◌≡◌, ◌≢◌, ℕ, ◌≤◌, ◌+◌, pos, List, [], ◌∷◌, ◌++◌, length, map, codes}
+use Rattle.std.specs.Prelude.{find, if◌then◌else◌, nat_le, is_some, Option, Result, Ok, Err}
 use Rattle.std.specs.List.{All, AllPairs, list_any}
 use Rattle.std.specs.Str.{bytes_eq}
 use Rattle.serde_json.specs.Data.{Data}
 use Rattle.serde_json.specs.Find.{as_object}
 use Rattle.rail_types.specs.declared.trains.Train.{Train}
 use Rattle.rail_types.specs.Limits.{IsTrainWithinLimits}
-use Rattle.rail_types.specs.declared.limits.TheConstants.{MAX_TIMETABLE_FILE_BYTES, MAX_TRAINS, MAX_TRAIN_LENGTH_M, MAX_SPEED_MM_S, MAX_ACCEL_MM_S2, MAX_ALLOWANCE_PERCENT}
+use Rattle.rail_types.specs.declared.limits.TheConstants.{MAX_TIMETABLE_FILE_BYTES, MAX_TRAINS}
+use Rattle.rail_types.specs.declared.limits.TheConstants.{MAX_TRAIN_LENGTH_M, MAX_SPEED_MM_S}
+use Rattle.rail_types.specs.declared.limits.TheConstants.{MAX_ACCEL_MM_S2, MAX_ALLOWANCE_PERCENT}
 use Rattle.json_fields.specs.Places.{FilePlace, whole_file, element, spot_of}
 use Rattle.json_fields.specs.Reading.{◌>>=◌, or_fault}
 use Rattle.json_fields.specs.Texts.{data_of}
 use Rattle.train_file.specs.declared.faults.TrainFault.{TrainFault}
-use Rattle.train_file.specs.declared.faults.TrainFault.TheVariants.{NotJson, Kind, Twice, Limit, Memory}
+use Rattle.train_file.specs.declared.faults.TrainFault.TheVariants.{NotJson, Kind, Twice, Limit}
+use Rattle.train_file.specs.declared.faults.TrainFault.TheVariants.{Memory}
 use Rattle.train_file.specs.declared.faults.What.TheVariants as what
 use Rattle.train_file.specs.Fields.{object_at, name_at, number_at, some_number_at, list_at}
 
@@ -69,7 +73,8 @@ text_at quoted = do
   d ← or_fault NotJson (data_of quoted)
   object_of d
 
--- What bytes read as, where `quoted` is their text with its numbers quoted. The size of a file comes before all else.
+-- What bytes read as, where `quoted` is their text with its numbers quoted. The size of
+-- a file comes before all else.
 abbrev pub trains_at : List ℕ → List ℕ → Result (List Train) TrainFault
 trains_at bytes quoted =
     if nat_le (length bytes) MAX_TIMETABLE_FILE_BYTES then text_at quoted

@@ -4,7 +4,9 @@ ghost use Rattle.std.specs.Prelude.{◌≡◌, ◌<◌, ◌≤◌, length, map, 
 ghost use Rattle.serde_json.specs.View.{view};
 ghost use Rattle.json_fields.specs.Places.{spot_of};
 ghost use Rattle.rail_types.specs.declared.limits.TheConstants.{MAX_TRAINS};
-ghost use Rattle.train_file.specs.Fields.{Gives, IsName, object_at, found_at, name_at, limited_name, number_read, within, number_at, some_number, some_number_at, list_at, elements_of, few};
+ghost use Rattle.train_file.specs.Fields.{Gives, IsName, object_at, found_at, name_at};
+ghost use Rattle.train_file.specs.Fields.{limited_name, number_read, within, number_at};
+ghost use Rattle.train_file.specs.Fields.{some_number, some_number_at, list_at, elements_of, few};
 
 use crate::faults::{TrainFault, What};
 use decimal_quote::NotWhole;

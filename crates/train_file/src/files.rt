@@ -17,9 +17,9 @@ use rail_types::MAX_TIMETABLE_FILE_BYTES;
 use serde_json::Value;
 use std::alloc::Global;
 
-/// Reads a file of trains, a JSON object whose list `trains` has for each train `name`, `length_m`, `speed`, `accel`,
-/// `brake` and `allowance`. Answers the first fault: the file's size, its form, then train by train and field by field
-/// in this order; and want of memory.
+/// Reads a file of trains, a JSON object whose list `trains` has for each train `name`, `length_m`,
+/// `speed`, `accel`, `brake` and `allowance`. Answers the first fault: the file's size, its form,
+/// then train by train and field by field in this order; and want of memory.
 pub fn read_trains(alloc: Global, bytes: &[u8]) -> Result<Trains, TrainFault>
     ensures read { (quoted : list_of ℕ) → IsQuoted bytes.now quoted →
         Gives (λ trains. trains) result (trains_at bytes.now quoted) }

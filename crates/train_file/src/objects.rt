@@ -1,13 +1,15 @@
 //! The trains of a file.
 
-ghost use Rattle.std.specs.Prelude.{◌≡◌, ◌<◌, ◌≤◌, ◌++◌, ◌∷◌, [], false, codes, length, map, option_map, slice_get, OnOk, IfOk};
+ghost use Rattle.std.specs.Prelude.{◌≡◌, ◌<◌, ◌≤◌, ◌++◌, ◌∷◌, [], false, codes, length, map};
+ghost use Rattle.std.specs.Prelude.{option_map, slice_get, OnOk, IfOk};
 ghost use Rattle.std.specs.List.{list_any};
 ghost use Rattle.std.specs.Str.{bytes_eq};
 ghost use Rattle.serde_json.specs.View.{view};
 ghost use Rattle.rail_types.specs.declared.limits.TheConstants.{MAX_TRAINS};
 ghost use Rattle.json_fields.specs.Places.{element};
 ghost use Rattle.train_file.specs.Fields.{Gives, IsName};
-ghost use Rattle.train_file.specs.Trains.{AreTrains, GivesNext, name_of, new_name, read_each, train_in, train_named};
+ghost use Rattle.train_file.specs.Trains.{AreTrains, GivesNext, name_of, new_name, read_each};
+ghost use Rattle.train_file.specs.Trains.{train_in, train_named};
 
 use crate::faults::{TrainFault, What};
 use crate::fields::{name, number, number_above_zero, object};
@@ -21,7 +23,8 @@ use serde_json::Value;
 use std::alloc::Global;
 use std::marker::Model;
 
-/// The trains of a file, found by their names. Contracts see the list of trains in the file's order.
+/// The trains of a file, found by their names. Contracts see the list
+/// of trains in the file's order.
 #[derive(Debug, Drop)]
 pub struct Trains {
     trains: Vec<Train>,

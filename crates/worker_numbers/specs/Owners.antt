@@ -1,5 +1,6 @@
 -- Numbers of lines that stand in a history already, and the workers whose they are.
-use Rattle.std.specs.Prelude.{◌≡◌, ℕ, ◌+◌, ◌<◌, ◌≤◌, Bool, true, false, List, [], ◌∷◌, Option, None, Some, if◌then◌else◌, is_some, map}
+use Rattle.std.specs.Prelude.{◌≡◌, ℕ, ◌+◌, ◌<◌, ◌≤◌, Bool, true, false, List, [], ◌∷◌, Option, None}
+use Rattle.std.specs.Prelude.{Some, if◌then◌else◌, is_some, map}
 use Rattle.std.specs.List.{list_any}
 use Rattle.batch_words.specs.Workers.{worker_name}
 use Rattle.batch_words.specs.declared.clients.TheConstants.{MAX_WORKERS}
@@ -12,7 +13,8 @@ stands entries owner number = is_some (place_of entries owner number)
 
 -- ---- the worker whose a number is
 
--- the first of these workers under whose name the number stands, where the first of them is at this place
+-- the first of these workers under whose name the number stands, where the
+-- first of them is at this place
 abbrev pub owner_from : List Entry → ℕ → List (List ℕ) → ℕ → Option ℕ
 owner_from entries at [] number = None
 owner_from entries at (worker ∷ workers) number =
@@ -43,8 +45,8 @@ abbrev pub AreEnough : List Entry → (batch : List ℕ) → (workers : ℕ) →
 AreEnough entries batch workers numbers = (other : ℕ) → workers < other → other ≤ MAX_WORKERS
     → needs entries (worker_name batch other) numbers ≡ false
 
--- one of the numbers stands under the name of this worker, which is behind the first so many, and none under that of a
--- later one
+-- one of the numbers stands under the name of this worker, which is behind the first so many, and
+-- none under that of a later one
 pub record IsNeeded (entries : List Entry) (batch : List ℕ) (workers : ℕ)
     (numbers : List (Option ℕ)) (worker : ℕ) : Type 0 where
   pub behind : workers < worker

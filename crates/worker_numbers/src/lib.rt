@@ -1,5 +1,5 @@
-//! The numbers by which the lines of a list ask, beside a history in which some of them stand already: the worker whose each
-//! is, and the workers that are not there.
+//! The numbers by which the lines of a list ask, beside a history in which some of them stand
+//! already: the worker whose each is, and the workers that are not there.
 #![tactic(auto)]
 
 mod needed;

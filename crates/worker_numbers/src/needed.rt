@@ -1,7 +1,8 @@
 //! Workers that are not there.
 
 ghost use Rattle.std.specs.Prelude.{◌≡◌, ◌≤◌, IfNone, IfOk, IfSome, length};
-ghost use Rattle.batch_words.specs.declared.clients.TheConstants.{MAX_BATCH_NAME_BYTES, MAX_WORKERS};
+ghost use Rattle.batch_words.specs.declared.clients.TheConstants.{MAX_BATCH_NAME_BYTES};
+ghost use Rattle.batch_words.specs.declared.clients.TheConstants.{MAX_WORKERS};
 ghost use Rattle.rail_types.specs.declared.limits.TheConstants.{MAX_OWNER_BYTES};
 ghost use Rattle.worker_numbers.specs.Owners.{AreEnough, IsNeeded, needs};
 
@@ -12,8 +13,8 @@ use no_memory::NoMemory;
 use rail_types::Name;
 use std::alloc::Global;
 
-/// The last worker of a batch, behind the first so many, under whose name one of the numbers of lines stands in the history;
-/// None where there is none.
+/// The last worker of a batch, behind the first so many, under whose name one of the numbers of
+/// lines stands in the history; None where there is none.
 pub fn needed_worker(
     alloc: Global,
     history: &History,

@@ -10,8 +10,8 @@ use no_memory::NoMemory;
 use rail_types::{Deed, Name};
 use std::alloc::Global;
 
-/// For each number of a line the first of the workers, counted from 0, under whose name it stands in the history; None where
-/// it stands under none, and for a line without a number.
+/// For each number of a line the first of the workers, counted from 0, under whose name it stands
+/// in the history; None where it stands under none, and for a line without a number.
 pub fn owners_of(
     alloc: Global,
     history: &History,
@@ -57,7 +57,8 @@ fn first_owner(history: &History, workers: &[Name], number: u64) -> Option<u32>
     None
 }
 
-/// Whether the number stands under the owner: then something is told again, whatever is sent with it.
+/// Whether the number stands under the owner: then something is told
+/// again, whatever is sent with it.
 pub(crate) fn stands(history: &History, owner: &Name, number: u64) -> bool
     requires { length owner.now ≤ MAX_OWNER_BYTES }
     ensures { result ≡ stands history.now.entries owner.now number }
