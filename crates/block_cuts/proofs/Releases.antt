@@ -40,3 +40,6 @@ release_late walk from place to is low high end =
 
 pub release_within : (releases : List ℕ) (end last : ℕ) → release_of releases end last ≤ last
 release_within releases end last = omega arith
+
+-- a release point lies between the places that were passed
+pub ruleset release_between = (release_late, release_within)

@@ -53,7 +53,7 @@ fn zone_at(zones: &[Option<u32>], place: usize) -> Option<u32>
 }
 
 /// The cell that begins at a place, None where no zone is passed before the next one.
-#[tactic(auto, using(crate::proofs::Releases::release_late, crate::proofs::Releases::release_within))]
+#[tactic(auto, using(crate::proofs::Releases::release_between))]
 fn cell_at(walk: &Walk, from: usize, to: usize, place: usize) -> Option<Cell>
     requires walk { IsWalk walk.now }
     requires from { from ≤ place }

@@ -54,3 +54,6 @@ module _ {E F : Type 0} where
 
   pub budget_joined : (v w : View E F) → IsWithinShare v → IsWithinShare w → w.has_ticket ≡ false → budget (joining v w) ≡ budget v + budget w
   budget_joined v w h k idle = let both = length-merged v.turns w.turns in let no_ticket : one_if w.has_ticket ≡ 0 = ap one_if idle in omega arith
+
+-- what is merged has the turns, the own entries and the rises of both
+pub ruleset joined = (merged_permutes, own_merged, rises_merged)

@@ -188,7 +188,7 @@ impl<S: Stands> Gate<S> {
     }
 
     /// Takes in all that another pass knows, with its turns and its share.
-    #[tactic(auto, using(crate::proofs::Merging::merged_permutes, crate::proofs::Merging::own_merged, crate::proofs::Merging::rises_merged))]
+    #[tactic(auto, using(crate::proofs::Merging::joined))]
     pub fn join(&self, into: &mut Pass<S>, other: Pass<S>)
         requires own { IsOf S.footing self.now into.old }
         requires idle { IsIdle into.old }

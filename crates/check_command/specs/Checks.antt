@@ -54,8 +54,7 @@ pub record AreGood (known : Names) (timetable : Timetable) (entries : List Entry
 
 -- the bytes are the texts of these proofs, which hold
 pub record AreProofs (known : Names) (timetable : Timetable) (entries : List Entry) (bytes : List ℕ)
-    (proofs : List Proof)
-    : Type 0 where
+    (proofs : List Proof) : Type 0 where
   pub good : AreGood known timetable entries proofs
   pub text_is : bytes ≡ texts_of known proofs
 

@@ -40,8 +40,8 @@ abbrev pub ReadsProofs : {Src Snk Dsk : Type 0} → Sources Src → List ℕ →
     → Scene Src Snk Dsk → Scene Src Snk Dsk → Result (List ℕ) Refusal → Type 0
 ReadsProofs source proof known history old new result =
     Follows (ProofFileStep source proof)
-    (λ (bytes : Vec ℕ Global). Tells
-    (TellsProofs known history.timetable history.entries bytes.items)) old new result
+    (λ (bytes : Vec ℕ Global).
+    Tells (TellsProofs known history.timetable history.entries bytes.items)) old new result
 
 -- the journal is read, and then the proofs
 abbrev pub ReadsJournal : {Src Snk Dsk : Type 0} → Sources Src → Disks Dsk → List ℕ → List ℕ

@@ -62,5 +62,6 @@ begins_run (b ∷ _) = is_number_byte b
 abbrev pub HaveLongestRuns : List (List ℕ) → Type 0
 HaveLongestRuns [] = Unit {0}
 HaveLongestRuns (piece ∷ pieces) =
-    (begins_run piece ≡ true → (list_all is_number_byte piece ≡ true)
-    × (begins_run (concat pieces) ≡ false)) × HaveLongestRuns pieces
+    (begins_run piece ≡ true
+    → (list_all is_number_byte piece ≡ true) × (begins_run (concat pieces) ≡ false))
+    × HaveLongestRuns pieces

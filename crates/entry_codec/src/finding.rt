@@ -104,7 +104,7 @@ pub(crate) fn find_tick(fields: &mut Fields) -> Result<Tick, Wrong>
     }
 }
 
-#[tactic(auto, unfolding(crate::specs::Reading::window_field), using(crate::proofs::Fields::passed))]
+#[tactic(auto, unfolding(crate::specs::Reading::window_field))]
 pub(crate) fn find_window(fields: &mut Fields) -> Result<Window, Wrong>
     ensures { Finds fields.new result (window_field fields.old) }
 {
@@ -169,7 +169,7 @@ fn find_begin(fields: &mut Fields, before: &Claim, zone: u32) -> Result<Tick, Wr
     }
 }
 
-#[tactic(auto, unfolding(crate::specs::Reading::next_claim_field), using(crate::proofs::Fields::passed))]
+#[tactic(auto, unfolding(crate::specs::Reading::next_claim_field))]
 pub(crate) fn find_next_claim(fields: &mut Fields, before: &Claim) -> Result<Claim, Wrong>
     ensures { Finds fields.new result (next_claim_field before.now fields.old) }
 {

@@ -127,8 +127,9 @@ abbrev pub list_at : FilePlace → List ℕ → Data → Result (List Data) Infr
 list_at place field d = list_or_none (spot_of place field) (get field d)
 
 -- Objects are read in order, each with its index and the ids of those before it.
-abbrev pub read_each : {X : Type 0} → (X → List ℕ) → (ℕ → List (List ℕ) → Data
-    → Result X InfraFault) → List X → List Data → Result (List X) InfraFault
+abbrev pub read_each : {X : Type 0} → (X → List ℕ)
+    → (ℕ → List (List ℕ) → Data → Result X InfraFault) → List X → List Data
+    → Result (List X) InfraFault
 read_each id one before [] = Ok before
 read_each id one before (d ∷ ds) = do
   it ← one (length before) (map id before) d
