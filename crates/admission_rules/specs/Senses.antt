@@ -2,8 +2,8 @@
 use Rattle.std.specs.Prelude.{ℕ, ◌-◌, ℤ, ◌≤ℤ◌, ◌<ℤ◌, Bool, not, ◌&&◌, int_le, int_lt, nat_le}
 use Rattle.std.specs.Prelude.{nat_lt, List, [], ◌∷◌, slice_index_or}
 use Rattle.rail_types.specs.declared.paths.Window.{Window}
-use Rattle.rule_names.specs.declared.RuleName.{RuleName}
-use Rattle.rule_names.specs.declared.RuleName.TheVariants.{Quota, Curfew, Longest}
+use Rattle.admission_rules.specs.declared.rule_names.RuleName.{RuleName}
+use Rattle.admission_rules.specs.declared.rule_names.RuleName.TheVariants.{Quota, Curfew, Longest}
 use Rattle.admission_rules.specs.declared.rules.Wish.{Wish}
 use Rattle.admission_rules.specs.declared.tallies.Tally.{Tally}
 use Rattle.admission_rules.specs.Tallies.{with_free, with_grant}

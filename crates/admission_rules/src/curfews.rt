@@ -4,9 +4,9 @@ ghost use Rattle.std.specs.Prelude.{◌≡◌};
 ghost use Rattle.admission_rules.specs.Senses.{curfew, holds_tick, numbers_of};
 ghost use Rattle.admission_rules.specs.Tallies.{no_tally};
 
+use crate::rule_names::RuleName;
 use crate::{Rule, Tally, Wish};
 use rail_types::{Tick, Window};
-use rule_names::RuleName;
 
 /// Denies a path whose window of departure holds a tick from `from` up to and without `to`.
 #[derive(Debug, Drop)]

@@ -1,10 +1,12 @@
 //! Rules by which the grant of a path may be denied.
 #![tactic(auto)]
 
+pub mod client_rules;
 mod curfews;
 mod laws;
 mod longest;
 mod quotas;
+pub mod rule_names;
 mod rules;
 mod tallies;
 

@@ -4,8 +4,8 @@ ghost use Rattle.std.specs.Prelude.{◌≡◌};
 ghost use Rattle.admission_rules.specs.Senses.{longest, numbers_of};
 ghost use Rattle.admission_rules.specs.Tallies.{no_tally};
 
+use crate::rule_names::RuleName;
 use crate::{Rule, Tally, Wish};
-use rule_names::RuleName;
 
 /// Denies a path whose train is longer than so many metres.
 #[derive(Debug, Drop)]

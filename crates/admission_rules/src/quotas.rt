@@ -4,8 +4,8 @@ ghost use Rattle.std.specs.Prelude.{◌≡◌};
 ghost use Rattle.admission_rules.specs.Senses.{quota, numbers_of};
 ghost use Rattle.admission_rules.specs.Tallies.{no_tally};
 
+use crate::rule_names::RuleName;
 use crate::{Rule, Tally, Wish};
-use rule_names::RuleName;
 
 /// Denies a path where as many as the limit are granted and not freed.
 #[derive(Debug, Drop)]

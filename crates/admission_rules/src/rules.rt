@@ -4,8 +4,8 @@ ghost use Rattle.std.specs.Prelude.{◌≡◌, ℕ, List};
 ghost use Rattle.admission_rules.specs.Senses.{Sense};
 
 use crate::Tally;
+use crate::rule_names::RuleName;
 use rail_types::Window;
-use rule_names::RuleName;
 
 /// What is known of a path before it is granted: the train's length in metres, and the windows of
 /// ticks in which it may depart and arrive. Of a path that is given both windows are single ticks.

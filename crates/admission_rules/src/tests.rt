@@ -1,8 +1,8 @@
 //! The three rules over a table of wishes.
 
+use crate::rule_names::RuleName;
 use crate::{Curfew, Longest, Quota, Rule, Tally, Wish};
 use rail_types::{Tick, Window};
-use rule_names::RuleName;
 use std::test::*;
 
 // A wish of a train of so many metres that departs from one tick to another.

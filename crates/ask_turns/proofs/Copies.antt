@@ -17,8 +17,8 @@ use Rattle.rail_types.specs.declared.trains.Request.{Request}
 use Rattle.rail_types.specs.FirstClash.{AreApart, HoldAlike}
 use Rattle.rail_types.specs.Occupation.{Clash, Fits, HasTicks, HeldClaim}
 use Rattle.rail_types.specs.Timetables.{Timetable}
-use Rattle.client_turns.specs.declared.clients.Client.{Client}
-use Rattle.client_turns.specs.Clients.{IsCopyOf}
+use Rattle.ask_turns.specs.declared.client_turns.clients.Client.{Client}
+use Rattle.ask_turns.specs.Clients.{IsCopyOf}
 use Rattle.ask_turns.specs.Laws.{HaveTicks}
 use Rattle.ask_turns.specs.Searched.{FitsAt, IsEarliestAt, IsPossibleAt}
 

@@ -27,9 +27,9 @@ use Rattle.rail_types.specs.declared.trains.Request.{Request}
 use Rattle.rail_types.specs.FirstClash.{ClashesWith}
 use Rattle.rail_types.specs.Occupation.{Clash, Fits, HeldClaim}
 use Rattle.rail_types.specs.Timetables.{Timetable, base_claims}
-use Rattle.client_turns.specs.declared.told.Refusal.{Refusal}
-use Rattle.client_turns.specs.declared.told.Refusal.TheVariants as refusal
-use Rattle.client_turns.specs.Told.{IsRefusal, IsTakenBefore, IsTakenSince}
+use Rattle.ask_turns.specs.declared.client_turns.told.Refusal.{Refusal}
+use Rattle.ask_turns.specs.declared.client_turns.told.Refusal.TheVariants as refusal
+use Rattle.ask_turns.specs.Told.{IsRefusal, IsTakenBefore, IsTakenSince}
 use Rattle.ask_turns.specs.declared.asks.Ask.{Ask}
 use Rattle.ask_turns.specs.Finds.{IsNewNumber, entry_for}
 use Rattle.ask_turns.specs.Laws.{HaveTicks, IsLater}

@@ -4,3 +4,9 @@ pub mod Judged
 pub mod Searching
 pub mod Short
 pub mod Showing
+pub mod Ended
+pub mod Kept
+pub mod Known
+pub mod Opened
+pub mod Taken
+pub mod Turned

@@ -12,13 +12,13 @@ use Rattle.rail_types.specs.declared.paths.Run.{Run}
 use Rattle.rail_types.specs.declared.tracks.Network.{Network}
 use Rattle.rail_types.specs.Limits.{IsClientName}
 use Rattle.rail_types.specs.Timetables.{Timetable}
-use Rattle.client_turns.specs.declared.clients.Client.{Client}
-use Rattle.client_turns.specs.declared.told.Entered.{Entered as Became}
-use Rattle.client_turns.specs.declared.told.Entered.TheVariants as became
-use Rattle.client_turns.specs.declared.told.Tried.{Tried}
-use Rattle.client_turns.specs.declared.told.Tried.TheVariants as tried
-use Rattle.client_turns.specs.Clients.{IsCopyOf}
-use Rattle.client_turns.specs.Turns.{HasEntered, HasTried, Sight}
+use Rattle.ask_turns.specs.declared.client_turns.clients.Client.{Client}
+use Rattle.ask_turns.specs.declared.client_turns.told.Entered.{Entered as Became}
+use Rattle.ask_turns.specs.declared.client_turns.told.Entered.TheVariants as became
+use Rattle.ask_turns.specs.declared.client_turns.told.Tried.{Tried}
+use Rattle.ask_turns.specs.declared.client_turns.told.Tried.TheVariants as tried
+use Rattle.ask_turns.specs.Clients.{IsCopyOf}
+use Rattle.ask_turns.specs.Turns.{HasEntered, HasTried, Sight}
 use Rattle.ask_turns.specs.declared.asks.Ask.{Ask}
 use Rattle.ask_turns.specs.declared.asks.Found.{Found}
 use Rattle.ask_turns.specs.Finds.{IsFoundBeside, MayBeSearched, Takes, entry_for}

@@ -23,7 +23,7 @@ use Rattle.rail_types.specs.declared.trains.Train.{Train}
 use Rattle.rail_types.specs.Flaws.{first_flaw}
 use Rattle.rail_types.specs.Limits.{IsAnswered, IsRunWithinLimits, IsTrainWithinLimits}
 use Rattle.rail_types.specs.Networks.{HasCountsWithinLimits}
-use Rattle.reply_texts.specs.Rooms.{PrintsRuns}
+use Rattle.client_lines.specs.Rooms.{PrintsRuns}
 use Rattle.ask_turns.specs.declared.asks.Ask.{Ask}
 use Rattle.ask_turns.specs.Finds.{MayBeSearched}
 

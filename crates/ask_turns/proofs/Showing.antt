@@ -1,8 +1,8 @@
 -- The text of what shows an answer.
 use Rattle.std.proofs.Common.{◌≡◌, ℕ, ◌≤◌, List, Option, None, Some, length, sym, ◌∙◌, subst, refl}
-use Rattle.certificates.specs.declared.searches.Certified.{Certified}
-use Rattle.certificates.specs.Certified.{IsCertified, Passes, excluded}
-use Rattle.certificates.specs.Laws.{CertificatesCanBeTold}
+use Rattle.path_labels.specs.declared.certificates.searches.Certified.{Certified}
+use Rattle.path_labels.specs.Certified.{IsCertified, Passes, excluded}
+use Rattle.path_labels.specs.Laws.{CertificatesCanBeTold}
 use Rattle.client_lines.specs.Names.{Names}
 use Rattle.grant_log.specs.Live.{live_claims}
 use Rattle.occupation_book.specs.Held.{held}
@@ -18,8 +18,8 @@ use Rattle.rail_types.specs.declared.paths.Path.{Path}
 use Rattle.rail_types.specs.declared.trains.Request.{Request}
 use Rattle.rail_types.specs.Limits.{IsRequestWithinLimits}
 use Rattle.rail_types.specs.Timetables.{Timetable}
-use Rattle.client_turns.specs.declared.clients.Client.{Client}
-use Rattle.client_turns.specs.Clients.{IsCopyOf}
+use Rattle.ask_turns.specs.declared.client_turns.clients.Client.{Client}
+use Rattle.ask_turns.specs.Clients.{IsCopyOf}
 use Rattle.ask_turns.specs.declared.asks.Ask.{Ask}
 use Rattle.ask_turns.specs.declared.asks.Found.{Found}
 use Rattle.ask_turns.specs.Finds.{MayBeSearched}

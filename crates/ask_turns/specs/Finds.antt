@@ -16,9 +16,9 @@ use Rattle.rail_types.specs.declared.paths.Run.{Run}
 use Rattle.rail_types.specs.declared.tracks.Network.{Network}
 use Rattle.rail_types.specs.Flaws.{first_flaw}
 use Rattle.rail_types.specs.Limits.{IsRequestWithinLimits, IsSettingsWithinLimits}
-use Rattle.reply_texts.specs.Rooms.{PrintsRuns, room_for}
+use Rattle.client_lines.specs.Rooms.{PrintsRuns, room_for}
 use Rattle.tail_states.specs.Listed.{AreTheMoves, AreThePlaces}
-use Rattle.client_turns.specs.declared.clients.Client.{Client}
+use Rattle.ask_turns.specs.declared.client_turns.clients.Client.{Client}
 use Rattle.ask_turns.specs.declared.asks.Ask.{Ask}
 use Rattle.ask_turns.specs.declared.asks.Found.{Found}
 use Rattle.ask_turns.specs.declared.asks.Outcome.{Outcome}

@@ -14,9 +14,9 @@ use Rattle.rail_types.specs.declared.tracks.Network.{Network}
 use Rattle.rail_types.specs.Limits.{IsAnswered}
 use Rattle.rail_types.specs.Occupation.{HasTicks}
 use Rattle.rail_types.specs.Timetables.{Timetable}
-use Rattle.reply_texts.specs.Rooms.{PrintsRuns}
-use Rattle.client_turns.specs.declared.told.Refusal.{Refusal}
-use Rattle.client_turns.specs.Told.{IsRefusal, IsTakenBefore, IsTakenSince}
+use Rattle.client_lines.specs.Rooms.{PrintsRuns}
+use Rattle.ask_turns.specs.declared.client_turns.told.Refusal.{Refusal}
+use Rattle.ask_turns.specs.Told.{IsRefusal, IsTakenBefore, IsTakenSince}
 use Rattle.ask_turns.specs.declared.asks.Ask.{Ask}
 use Rattle.ask_turns.specs.Finds.{IsNewNumber, MayBeSearched, entry_for}
 use Rattle.ask_turns.specs.Searched.{FitsAt, IsMissed, live_in}

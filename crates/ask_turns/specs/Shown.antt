@@ -1,6 +1,6 @@
 -- What the text of a proof shows beside an ask.
 use Rattle.std.specs.Prelude.{◌≡◌, ℕ, List, Option, None, Some, length}
-use Rattle.certificates.specs.Certified.{Passes, excluded}
+use Rattle.path_labels.specs.Certified.{Passes, excluded}
 use Rattle.client_lines.specs.Names.{Names}
 use Rattle.path_labels.specs.Answers.{claims_held}
 use Rattle.proof_texts.specs.declared.refusals.Proof.{Proof}
@@ -12,8 +12,8 @@ use Rattle.rail_types.specs.declared.paths.Claim.{Claim}
 use Rattle.rail_types.specs.declared.paths.Path.{Path}
 use Rattle.rail_types.specs.declared.tracks.Network.{Network}
 use Rattle.rail_types.specs.Timetables.{Timetable}
-use Rattle.client_turns.specs.declared.clients.Client.{Client}
-use Rattle.client_turns.specs.Turns.{HasEntered, Sight}
+use Rattle.ask_turns.specs.declared.client_turns.clients.Client.{Client}
+use Rattle.ask_turns.specs.Turns.{HasEntered, Sight}
 use Rattle.ask_turns.specs.declared.asks.Ask.{Ask}
 use Rattle.ask_turns.specs.declared.asks.Found.{Found}
 use Rattle.ask_turns.specs.declared.asks.Outcome.{Outcome}

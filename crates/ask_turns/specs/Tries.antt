@@ -5,13 +5,13 @@ use Rattle.grant_log.specs.declared.verdicts.Verdict.TheVariants as verdict
 use Rattle.rail_types.specs.declared.paths.Path.{Path}
 use Rattle.rail_types.specs.declared.paths.Run.{Run}
 use Rattle.rail_types.specs.Timetables.{Timetable}
-use Rattle.client_turns.specs.declared.halts.Halt.{Halt}
-use Rattle.client_turns.specs.declared.halts.Halt.TheVariants.{NoMemory}
-use Rattle.client_turns.specs.declared.told.Entered.{Entered as Became}
-use Rattle.client_turns.specs.declared.told.Entered.TheVariants as became
-use Rattle.client_turns.specs.declared.told.Refusal.{Refusal}
-use Rattle.client_turns.specs.declared.told.Refusal.TheVariants as refusal
-use Rattle.client_turns.specs.Turns.{HasEntered, IsStopped, Looks, Sight}
+use Rattle.ask_turns.specs.declared.client_turns.halts.Halt.{Halt}
+use Rattle.ask_turns.specs.declared.client_turns.halts.Halt.TheVariants.{NoMemory}
+use Rattle.ask_turns.specs.declared.client_turns.told.Entered.{Entered as Became}
+use Rattle.ask_turns.specs.declared.client_turns.told.Entered.TheVariants as became
+use Rattle.ask_turns.specs.declared.client_turns.told.Refusal.{Refusal}
+use Rattle.ask_turns.specs.declared.client_turns.told.Refusal.TheVariants as refusal
+use Rattle.ask_turns.specs.Turns.{HasEntered, IsStopped, Looks, Sight}
 use Rattle.ask_turns.specs.declared.asks.Ask.{Ask}
 use Rattle.ask_turns.specs.declared.asks.Outcome.{Outcome}
 use Rattle.ask_turns.specs.declared.asks.Outcome.TheVariants.{Entered, NoPath, Again}

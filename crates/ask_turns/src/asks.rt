@@ -1,6 +1,6 @@
 //! What is asked for, and what comes of it.
 
-use client_turns::Entered;
+use crate::client_turns::Entered;
 use rail_types::{Entry, List, Request, Run};
 use tail_states::Places;
 

@@ -2,11 +2,11 @@
 ghost use Rattle.std.specs.Prelude.{All, List};
 ghost use Rattle.rail_types.specs.declared.entries.Entry.{Entry as entry_type};
 ghost use Rattle.rail_types.specs.Timetables.{Timetable};
-ghost use Rattle.client_turns.specs.Clients.{IsCopyOf};
+ghost use Rattle.ask_turns.specs.Clients.{IsCopyOf};
 ghost use Rattle.ask_turns.specs.Laws.{AreJudged, AreShort, HaveTicks};
 
+use crate::client_turns::Client;
 use blocking_time::{joined_claims_fit_alike, stairways_have_ticks, the_first_broken_rule_is_told};
-use client_turns::Client;
 use grant_log::{contents_are_compared, live_claims_are_unfreed, verdicts_say_what_they_mean};
 use rail_types::networks_without_flaws;
 

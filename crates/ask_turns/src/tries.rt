@@ -4,19 +4,19 @@ ghost use Rattle.std.specs.Prelude.{◌≡◌, ◌+◌, ◌≤◌, IfErr, IfOk, 
 ghost use Rattle.book_gate.specs.Passes.{turns_left, view};
 ghost use Rattle.client_lines.specs.Within.{AreSound};
 ghost use Rattle.rail_types.specs.Limits.{IsClientName};
-ghost use Rattle.client_turns.specs.Clients.{IsCopyOf, Knows};
-ghost use Rattle.client_turns.specs.Turns.{IsReady, timetable_at};
+ghost use Rattle.ask_turns.specs.Clients.{IsCopyOf, Knows};
+ghost use Rattle.ask_turns.specs.Turns.{IsReady, timetable_at};
 ghost use Rattle.ask_turns.specs.Finds.{HasRoomFor, MayBeSearched};
 ghost use Rattle.ask_turns.specs.Shown.{Shows};
 ghost use Rattle.ask_turns.specs.Tries.{HasSearched, HasStopped, IsTheFront};
 
 use crate::asks::{Ask, Outcome};
+use crate::client_turns::{Client, Halt, Tried, try_entry};
 use crate::laws::{copies_have_ticks, found_paths_are_judged, found_paths_are_short};
 use crate::searches::find_entry;
 use book_gate::{Gate, Pass};
 use byte_fields::Buffer;
 use client_lines::Known;
-use client_turns::{Client, Halt, Tried, try_entry};
 use outside_io::{Between, Disk};
 use path_commit::Book;
 use rail_types::Settings;

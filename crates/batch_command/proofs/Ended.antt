@@ -5,15 +5,15 @@ use Rattle.outside_io.specs.Places.{Untouched}
 use Rattle.outside_io.specs.declared.disks.Disk.{Ghosts as Disks}
 use Rattle.outside_io.specs.declared.sinks.Sink.{Ghosts as Sinks}
 use Rattle.outside_io.specs.declared.sources.Source.{Ghosts as Sources}
-use Rattle.exit_status.specs.declared.Status.{Status}
-use Rattle.exit_status.specs.declared.Status.TheVariants.{Done, No, Words, Network, Base, Trains, Journal, Opening as not_opened, DiskFault, ClientEnd, Report, Memory}
-use Rattle.file_rounds.specs.Scenes.{Scene}
-use Rattle.file_rounds.specs.Writing.{ReportSays}
+use Rattle.command_reports.specs.declared.exit_status.Status.{Status}
+use Rattle.command_reports.specs.declared.exit_status.Status.TheVariants.{Done, No, Words, Network, Base, Trains, Journal, Opening as not_opened, DiskFault, ClientEnd, Report, Memory}
+use Rattle.command_reports.specs.Scenes.{Scene}
+use Rattle.command_reports.specs.Writing.{ReportSays}
 use Rattle.line_sessions.specs.declared.sessions.Ended.{Ended}
 use Rattle.line_sessions.specs.declared.sessions.Why.{Why}
 use Rattle.line_sessions.specs.declared.sessions.Why.TheVariants as why
-use Rattle.list_lines.specs.declared.lists.ListFault.{ListFault}
-use Rattle.list_lines.specs.declared.lists.ListFault.TheVariants.{ReadFault, LongLine, LineCount, Memory as of_list}
+use Rattle.batch_command.specs.declared.list_lines.lists.ListFault.{ListFault}
+use Rattle.batch_command.specs.declared.list_lines.lists.ListFault.TheVariants.{ReadFault, LongLine, LineCount, Memory as of_list}
 use Rattle.command_reports.specs.Refusals.{IsTold, status_of}
 use Rattle.command_reports.specs.declared.refusals.Refusal.{Refusal}
 use Rattle.command_reports.proofs.Steps.{follows_clean}
@@ -24,19 +24,19 @@ use Rattle.command_files.specs.declared.networks.NetworkFile.{NetworkFile}
 use Rattle.command_files.proofs.Refused.{file_other, memory_other, told_other}
 use Rattle.rail_types.specs.declared.trains.Train.{Train}
 use Rattle.admission_rules.specs.declared.rules.Rule.{Ghosts as Rules}
-use Rattle.batch_reports.specs.Ends.{IsEnds, report_text}
-use Rattle.batch_reports.specs.Flaws.{TellsStop}
-use Rattle.batch_server.specs.declared.members.Worked.{Worked}
-use Rattle.client_rules.specs.declared.clients.ClientRules.{ClientRules}
-use Rattle.client_streams.specs.Clients.{pair_calls}
-use Rattle.client_streams.specs.Refusing.{AreMade, WhyStopped}
-use Rattle.client_words.specs.declared.clients.ClientWord.{ClientWord}
-use Rattle.serve_reports.specs.Ends.{EndsSay, is_faulty, is_wanting}
-use Rattle.serve_reports.specs.declared.ends.Ends.{Ends}
-use Rattle.serve_reports.proofs.Statuses.{AtEnd, other_end, said_at, said_done}
-use Rattle.served_journals.specs.Files.{files_of, known_by}
-use Rattle.served_journals.specs.declared.files.Files.{Files}
-use Rattle.served_journals.proofs.Statuses.{IsNoJournals, open_other}
+use Rattle.batch_command.specs.Ends.{IsEnds, report_text}
+use Rattle.batch_command.specs.Flaws.{TellsStop}
+use Rattle.batch_command.specs.declared.batch_server.members.Worked.{Worked}
+use Rattle.admission_rules.specs.declared.client_rules.clients.ClientRules.{ClientRules}
+use Rattle.request_server.specs.StreamClients.{pair_calls}
+use Rattle.request_server.specs.Refusing.{AreMade, WhyStopped}
+use Rattle.command_line.specs.declared.client_words.clients.ClientWord.{ClientWord}
+use Rattle.request_server.specs.Ends.{EndsSay, is_faulty, is_wanting}
+use Rattle.request_server.specs.declared.serve_reports.ends.Ends.{Ends}
+use Rattle.request_server.proofs.ReportStatuses.{AtEnd, other_end, said_at, said_done}
+use Rattle.request_server.specs.Files.{files_of, known_by}
+use Rattle.request_server.specs.declared.served_journals.files.Files.{Files}
+use Rattle.request_server.proofs.JournalStatuses.{IsNoJournals, open_other}
 use Rattle.batch_command.specs.Asked.{HasFlaw}
 use Rattle.batch_command.specs.Journals.{BatchSays, BatchStep, Refuses, Stops}
 use Rattle.batch_command.specs.Lists.{IsFlawed}

@@ -6,3 +6,17 @@ pub mod Steps
 pub mod Ended
 mod Once
 pub mod Plain
+pub mod Matched
+pub mod Places
+pub mod Clerking
+pub mod Keeping
+pub mod Leaving
+pub mod Shares
+pub mod Outcome
+pub mod Gathered
+pub mod Fields
+pub mod Numbered
+pub mod Numbering
+pub mod Tables
+pub mod Writings
+pub mod Enough

@@ -4,22 +4,22 @@ use Rattle.outside_io.specs.Openings.{Opening, Opens as CallsOf}
 use Rattle.outside_io.specs.declared.disks.Disk.{Ghosts as Disks}
 use Rattle.outside_io.specs.declared.sinks.Sink.{Ghosts as Sinks}
 use Rattle.outside_io.specs.declared.sources.Source.{Ghosts as Sources}
-use Rattle.file_rounds.specs.Scenes.{Scene}
+use Rattle.command_reports.specs.Scenes.{Scene}
 use Rattle.admission_rules.specs.declared.rules.Rule.{Ghosts as Rules}
 use Rattle.client_lines.specs.Names.{Names}
-use Rattle.client_rules.specs.declared.clients.ClientRules.{ClientRules}
-use Rattle.client_streams.specs.Clients.{pair_calls, pair_loans}
-use Rattle.client_streams.specs.Lending.{AreIn, AreOut}
-use Rattle.client_streams.specs.Refusing.{IsStopped}
-use Rattle.client_streams.proofs.Loans.{as_before, in_calls, in_quiet, out_calls, out_quiet}
-use Rattle.client_streams.proofs.Stops.{outs_open}
-use Rattle.client_streams.proofs.Uses.{Apart, nested_keeps, NestKeeps, sink_used, source_used}
-use Rattle.client_words.specs.declared.clients.ClientWord.{ClientWord}
+use Rattle.admission_rules.specs.declared.client_rules.clients.ClientRules.{ClientRules}
+use Rattle.request_server.specs.StreamClients.{pair_calls, pair_loans}
+use Rattle.request_server.specs.Lending.{AreIn, AreOut}
+use Rattle.request_server.specs.Refusing.{IsStopped}
+use Rattle.request_server.proofs.StreamLoans.{as_before, in_calls, in_quiet, out_calls, out_quiet}
+use Rattle.request_server.proofs.StreamStops.{outs_open}
+use Rattle.request_server.proofs.Uses.{Apart, nested_keeps, NestKeeps, sink_used, source_used}
+use Rattle.command_line.specs.declared.client_words.clients.ClientWord.{ClientWord}
 use Rattle.command_reports.specs.Works.{KeepsTo}
 use Rattle.command_reports.specs.declared.refusals.Refusal.{Refusal}
 use Rattle.path_commit.specs.Ledgers.{Ledger}
-use Rattle.serve_reports.specs.declared.ends.Ends.{Ends}
-use Rattle.served_journals.proofs.Halts.{Unserved, unserved_stopped}
+use Rattle.request_server.specs.declared.serve_reports.ends.Ends.{Ends}
+use Rattle.request_server.proofs.Halts.{Unserved, unserved_stopped}
 use Rattle.batch_command.specs.Books.{BookSays, HadPair}
 use Rattle.batch_command.specs.Lists.{ListSays}
 

@@ -1,11 +1,11 @@
 -- A list comes to one flaw at most.
 use Rattle.std.proofs.Common.{◌≡◌, ◌∙◌, ap, sym, subst, ℕ, ◌<◌, ◌⊎◌, inl, inr, ⊎_elim, true≢false, List, [], None, Option, Some, arith}
-use Rattle.batch_reports.specs.Flaws.{needed_line, no_ask_line, twice_line}
+use Rattle.batch_command.specs.Flaws.{needed_line, no_ask_line, twice_line}
 use Rattle.client_lines.specs.Names.{Names}
-use Rattle.list_lines.specs.Asks.{first_no_ask}
-use Rattle.list_lines.specs.Numbers.{first_repeat, NumbersAreOne}
+use Rattle.batch_command.specs.Asks.{first_no_ask}
+use Rattle.batch_command.specs.Numbers.{first_repeat, NumbersAreOne}
 use Rattle.rail_types.specs.declared.entries.Entry.{Entry}
-use Rattle.worker_numbers.specs.Owners.{AreEnough, IsNeeded}
+use Rattle.batch_command.specs.Owners.{AreEnough, IsNeeded}
 use Rattle.batch_command.specs.Asked.{HasNeed, HasTwice, IsAsked, IsFlaw}
 
 none_some : {X : Type 0} (found : Option X) (x : X) → found ≡ None → found ≡ Some x → ⊥

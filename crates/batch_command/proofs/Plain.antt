@@ -1,13 +1,13 @@
 -- The workers of a batch, told without what happens between their searches.
 use Rattle.std.proofs.Common.{◌≡◌, ◌∙◌, ℕ, List, [], ◌∷◌, Option, map, refl, ap}
 use Rattle.admission_rules.specs.declared.rules.Rule.{Ghosts as Rules}
-use Rattle.batch_server.specs.Batches.{HasWorked, WereAnswered}
-use Rattle.batch_server.specs.declared.members.Member.{Member}
-use Rattle.batch_server.specs.declared.members.Worked.{Worked}
+use Rattle.batch_command.specs.Batches.{HasWorked, WereAnswered}
+use Rattle.batch_command.specs.declared.batch_server.members.Member.{Member}
+use Rattle.batch_command.specs.declared.batch_server.members.Worked.{Worked}
 use Rattle.client_lines.specs.Names.{Names}
-use Rattle.client_rules.specs.declared.clients.ClientRules.{ClientRules}
-use Rattle.client_seats.specs.Runs.{AreMatched}
-use Rattle.client_seats.specs.Talks.{Talk}
+use Rattle.admission_rules.specs.declared.client_rules.clients.ClientRules.{ClientRules}
+use Rattle.request_server.specs.ClientRuns.{AreMatched}
+use Rattle.request_server.specs.Talks.{Talk}
 use Rattle.outside_io.specs.declared.betweens.NoBetween.{NoBetween}
 use Rattle.path_commit.specs.Ledgers.{Ledger}
 use Rattle.rail_types.specs.declared.entries.Entry.{Entry}

@@ -2,14 +2,14 @@
 use Rattle.std.proofs.Common.{ℕ, List, Result, Ok, Err, inr}
 use Rattle.admission_rules.specs.declared.rules.Rule.{Ghosts as Rules}
 use Rattle.client_lines.specs.Names.{Names}
-use Rattle.client_rules.specs.declared.clients.ClientRules.{ClientRules}
+use Rattle.admission_rules.specs.declared.client_rules.clients.ClientRules.{ClientRules}
 use Rattle.command_reports.specs.declared.refusals.Refusal.{Refusal}
-use Rattle.list_lines.specs.Lists.{IsWhole}
+use Rattle.batch_command.specs.LineLists.{IsWhole}
 use Rattle.outside_io.specs.declared.disks.Disk.{Ghosts as Disks}
 use Rattle.outside_io.specs.declared.sinks.Sink.{Ghosts as Sinks}
 use Rattle.outside_io.specs.declared.sources.Source.{Ghosts as Sources}
 use Rattle.path_commit.specs.Ledgers.{Ledger}
-use Rattle.serve_reports.specs.declared.ends.Ends.{Ends}
+use Rattle.request_server.specs.declared.serve_reports.ends.Ends.{Ends}
 use Rattle.batch_command.specs.Lists.{LinesSay, ListSays}
 
 -- what is said of a list, by what is said of its lines

@@ -8,21 +8,21 @@ use Rattle.std.proofs.lemmas.List.Elements.{All-cons, All-nil}
 use Rattle.std.proofs.Math.ListN.{drop_of_length-le}
 use Rattle.std.proofs.Math.Seq.{get_or-append_seam}
 use Rattle.admission_rules.specs.declared.rules.Rule.{Ghosts as Rules}
-use Rattle.batch_server.specs.Batches.{WereAnswered}
-use Rattle.batch_server.specs.declared.members.Member.{Member}
-use Rattle.batch_server.specs.declared.members.Worked.{Worked}
-use Rattle.batch_words.specs.Workers.{two_digits, underscore, worker_name, worker_names}
-use Rattle.batch_words.specs.declared.clients.TheConstants.{MAX_BATCH_NAME_BYTES, MAX_WORKERS}
+use Rattle.batch_command.specs.Batches.{WereAnswered}
+use Rattle.batch_command.specs.declared.batch_server.members.Member.{Member}
+use Rattle.batch_command.specs.declared.batch_server.members.Worked.{Worked}
+use Rattle.command_line.specs.Workers.{two_digits, underscore, worker_name, worker_names}
+use Rattle.command_line.specs.declared.batch_words.clients.TheConstants.{MAX_BATCH_NAME_BYTES, MAX_WORKERS}
 use Rattle.client_lines.specs.Names.{Names}
-use Rattle.client_rules.specs.Clients.{rules_named}
-use Rattle.client_rules.specs.declared.clients.ClientRules.{ClientRules}
-use Rattle.list_lines.specs.Numbers.{AreNumbered}
+use Rattle.admission_rules.specs.Clients.{rules_named}
+use Rattle.admission_rules.specs.declared.client_rules.clients.ClientRules.{ClientRules}
+use Rattle.batch_command.specs.Numbers.{AreNumbered}
 use Rattle.path_commit.specs.Ledgers.{Ledger}
 use Rattle.rail_types.specs.Limits.{IsClientName}
 use Rattle.rail_types.specs.declared.limits.TheConstants.{MAX_OWNER_BYTES}
 use Rattle.rail_types.specs.declared.entries.Entry.{Entry}
-use Rattle.reply_texts.specs.Replies.{reply_text}
-use Rattle.worker_numbers.specs.Owners.{owner_from, owner_of, owners_of, stands}
+use Rattle.client_lines.specs.Replies.{reply_text}
+use Rattle.batch_command.specs.Owners.{owner_from, owner_of, owners_of, stands}
 use Rattle.batch_command.specs.Lists.{AreMembers}
 
 -- ---- names

@@ -1,15 +1,15 @@
 -- What a list asks for, and the flaws for which it is refused.
 use Rattle.std.specs.Prelude.{◌≡◌, ◌⊎◌, ℕ, List, [], Option, None, Some}
-use Rattle.batch_reports.specs.Flaws.{needed_line, no_ask_line, twice_line}
+use Rattle.batch_command.specs.Flaws.{needed_line, no_ask_line, twice_line}
 use Rattle.client_lines.specs.Names.{Names}
 use Rattle.command_reports.specs.Refusals.{IsTold}
 use Rattle.command_reports.specs.declared.refusals.Refusal.{Refusal}
 use Rattle.command_reports.specs.declared.refusals.Refusal.TheVariants.{Memory}
-use Rattle.exit_status.specs.declared.Status.TheVariants.{No}
-use Rattle.list_lines.specs.Asks.{first_no_ask}
-use Rattle.list_lines.specs.Numbers.{AreNumbered, first_repeat}
+use Rattle.command_reports.specs.declared.exit_status.Status.TheVariants.{No}
+use Rattle.batch_command.specs.Asks.{first_no_ask}
+use Rattle.batch_command.specs.Numbers.{AreNumbered, first_repeat}
 use Rattle.rail_types.specs.declared.entries.Entry.{Entry}
-use Rattle.worker_numbers.specs.Owners.{AreEnough, IsNeeded}
+use Rattle.batch_command.specs.Owners.{AreEnough, IsNeeded}
 
 -- Each line of the list asks, and these are the numbers of the lines that are in the form: they
 -- differ, and none stands in the history under the name of a worker that is not there.

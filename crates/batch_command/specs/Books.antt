@@ -2,18 +2,18 @@
 use Rattle.std.specs.Prelude.{◌≡◌, ◌⊎◌, ℕ, All, List, Result, Ok, Err}
 use Rattle.admission_rules.specs.declared.rules.Rule.{Ghosts as Rules}
 use Rattle.client_lines.specs.Names.{Names}
-use Rattle.client_rules.specs.declared.clients.ClientRules.{ClientRules}
-use Rattle.client_streams.specs.Clients.{IsExchanged, pair_calls}
-use Rattle.client_streams.specs.Refusing.{IsOpen}
-use Rattle.client_words.specs.declared.clients.ClientWord.{ClientWord}
+use Rattle.admission_rules.specs.declared.client_rules.clients.ClientRules.{ClientRules}
+use Rattle.request_server.specs.StreamClients.{IsExchanged, pair_calls}
+use Rattle.request_server.specs.Refusing.{IsOpen}
+use Rattle.command_line.specs.declared.client_words.clients.ClientWord.{ClientWord}
 use Rattle.command_reports.specs.declared.refusals.Refusal.{Refusal}
-use Rattle.file_rounds.specs.Scenes.{Scene}
+use Rattle.command_reports.specs.Scenes.{Scene}
 use Rattle.outside_io.specs.declared.disks.Disk.{Ghosts as Disks}
 use Rattle.outside_io.specs.declared.sinks.Sink.{Ghosts as Sinks}
 use Rattle.outside_io.specs.declared.sources.Source.{Ghosts as Sources}
 use Rattle.path_commit.specs.Ledgers.{Ledger}
-use Rattle.serve_reports.specs.declared.ends.Ends.{Ends}
-use Rattle.served_journals.specs.Rounds.{IsUnserved}
+use Rattle.request_server.specs.declared.serve_reports.ends.Ends.{Ends}
+use Rattle.request_server.specs.Rounds.{IsUnserved}
 use Rattle.batch_command.specs.Lists.{IsAnswered, IsRefused}
 
 -- the source and the sink of a client were opened, came to this, and were

@@ -4,3 +4,17 @@ pub mod Journals
 pub mod Books
 pub mod Lists
 pub mod Asked
+pub mod Ends
+pub mod Flaws
+pub mod Batches
+pub mod Clerks
+pub mod Seating
+pub mod Rooms
+pub mod Outcomes
+pub mod LineLists
+pub mod Asks
+pub mod Numbers
+pub mod InOrder
+pub mod Writing
+pub mod Tables
+pub mod Owners

@@ -1,31 +1,31 @@
 -- The run of `batch`.
 use Rattle.std.specs.Prelude.{◌≡◌, ℕ, List, Result, Ok, Err}
 use Rattle.admission_rules.specs.declared.rules.Rule.{Ghosts as Rules}
-use Rattle.batch_reports.specs.Ends.{report_text}
-use Rattle.client_rules.specs.declared.clients.ClientRules.{ClientRules}
-use Rattle.client_words.specs.declared.clients.ClientWord.{ClientWord}
+use Rattle.batch_command.specs.Ends.{report_text}
+use Rattle.admission_rules.specs.declared.client_rules.clients.ClientRules.{ClientRules}
+use Rattle.command_line.specs.declared.client_words.clients.ClientWord.{ClientWord}
 use Rattle.command_files.specs.Files.{BaseStep, NetworkStep, TrainStep}
 use Rattle.command_files.specs.declared.bases.BaseFile.{BaseFile}
 use Rattle.command_files.specs.declared.networks.NetworkFile.{NetworkFile}
 use Rattle.command_reports.specs.Reports.{TellsRefusal}
 use Rattle.command_reports.specs.Works.{KeepsTo}
 use Rattle.command_reports.specs.declared.refusals.Refusal.{Refusal}
-use Rattle.exit_status.specs.declared.Status.{Status}
-use Rattle.file_rounds.specs.Scenes.{ChangesOnlyReport, Scene}
-use Rattle.file_rounds.specs.Writing.{ReportSays}
+use Rattle.command_reports.specs.declared.exit_status.Status.{Status}
+use Rattle.command_reports.specs.Scenes.{ChangesOnlyReport, Scene}
+use Rattle.command_reports.specs.Writing.{ReportSays}
 use Rattle.line_sessions.specs.declared.sessions.Why.TheVariants.{Input}
-use Rattle.list_lines.specs.Lists.{IsWhole}
+use Rattle.batch_command.specs.LineLists.{IsWhole}
 use Rattle.outside_io.specs.Places.{IsKeptAt}
 use Rattle.outside_io.specs.declared.disks.Disk.{Ghosts as Disks}
 use Rattle.outside_io.specs.declared.sinks.Sink.{Ghosts as Sinks}
 use Rattle.outside_io.specs.declared.sources.Source.{Ghosts as Sources}
 use Rattle.path_commit.specs.Ledgers.{Ledger}
 use Rattle.rail_types.specs.declared.trains.Train.{Train}
-use Rattle.serve_reports.specs.Ends.{EndsSay}
-use Rattle.serve_reports.specs.declared.ends.Ends.{Ends}
-use Rattle.served_journals.specs.Files.{files_of, known_by}
-use Rattle.served_journals.specs.Journals.{IsFound}
-use Rattle.served_journals.specs.declared.files.Files.{Files}
+use Rattle.request_server.specs.Ends.{EndsSay}
+use Rattle.request_server.specs.declared.serve_reports.ends.Ends.{Ends}
+use Rattle.request_server.specs.Files.{files_of, known_by}
+use Rattle.request_server.specs.ServedJournals.{IsFound}
+use Rattle.request_server.specs.declared.served_journals.files.Files.{Files}
 use Rattle.batch_command.specs.Asked.{IsFlaw}
 use Rattle.batch_command.specs.Journals.{Serves}
 use Rattle.batch_command.specs.Works.{batch_calls, ReadsNetwork}

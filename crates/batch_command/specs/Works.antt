@@ -2,22 +2,22 @@
 -- and then a list is answered.
 use Rattle.std.specs.Prelude.{ℕ, List, ◌∷◌, Result}
 use Rattle.admission_rules.specs.declared.rules.Rule.{Ghosts as Rules}
-use Rattle.client_rules.specs.declared.clients.ClientRules.{ClientRules}
-use Rattle.client_streams.specs.Clients.{pair_calls}
-use Rattle.client_words.specs.declared.clients.ClientWord.{ClientWord}
+use Rattle.admission_rules.specs.declared.client_rules.clients.ClientRules.{ClientRules}
+use Rattle.request_server.specs.StreamClients.{pair_calls}
+use Rattle.command_line.specs.declared.client_words.clients.ClientWord.{ClientWord}
 use Rattle.command_files.specs.Files.{BaseStep, NetworkStep, TrainStep}
 use Rattle.command_files.specs.declared.bases.BaseFile.{BaseFile}
 use Rattle.command_files.specs.declared.networks.NetworkFile.{NetworkFile}
 use Rattle.command_reports.specs.Works.{Follows}
 use Rattle.command_reports.specs.declared.refusals.Refusal.{Refusal}
-use Rattle.file_rounds.specs.Scenes.{Scene}
+use Rattle.command_reports.specs.Scenes.{Scene}
 use Rattle.outside_io.specs.Openings.{disk_at, Opening, source_at}
 use Rattle.outside_io.specs.declared.disks.Disk.{Ghosts as Disks}
 use Rattle.outside_io.specs.declared.sinks.Sink.{Ghosts as Sinks}
 use Rattle.outside_io.specs.declared.sources.Source.{Ghosts as Sources}
 use Rattle.rail_types.specs.declared.trains.Train.{Train}
-use Rattle.serve_reports.specs.declared.ends.Ends.{Ends}
-use Rattle.served_journals.specs.Files.{files_of}
+use Rattle.request_server.specs.declared.serve_reports.ends.Ends.{Ends}
+use Rattle.request_server.specs.Files.{files_of}
 use Rattle.batch_command.specs.Journals.{BatchStep}
 
 -- the base timetable is read on the zones of the network, and then the list is answered

@@ -2,25 +2,25 @@
 
 ghost use Rattle.std.specs.Prelude.{◌≡◌, length};
 ghost use Rattle.batch_command.specs.Books.{BookSays};
-ghost use Rattle.batch_words.specs.Workers.{AreWorkers, IsBatchClient};
+ghost use Rattle.command_line.specs.Workers.{AreWorkers, IsBatchClient};
 ghost use Rattle.client_lines.specs.Within.{AreSound};
-ghost use Rattle.client_streams.specs.Clients.{pair_calls};
+ghost use Rattle.request_server.specs.StreamClients.{pair_calls};
 ghost use Rattle.command_reports.specs.Works.{KeepsTo};
-ghost use Rattle.file_rounds.specs.Scenes.{scene};
+ghost use Rattle.command_reports.specs.Scenes.{scene};
 ghost use Rattle.path_commit.specs.Ledgers.{settled_of};
-ghost use Rattle.served_journals.specs.Files.{names_of};
+ghost use Rattle.request_server.specs.Files.{names_of};
 
 use crate::lists::serve_list;
 use admission_rules::Rule;
+use admission_rules::client_rules::ClientRules;
 use client_lines::Known;
-use client_rules::ClientRules;
-use client_streams::{open_streams, put_back_client};
-use client_words::ClientWord;
+use command_line::client_words::ClientWord;
 use command_reports::Refusal;
-use named_network::Named;
 use outside_io::Outside;
 use path_commit::Book;
-use serve_reports::Ends;
+use rail_types::named_network::Named;
+use request_server::client_streams::{open_streams, put_back_client};
+use request_server::serve_reports::Ends;
 use std::alloc::AllocGlobal;
 use std::sync::Wait;
 use std::thread::Threads;

@@ -2,20 +2,20 @@
 
 ghost use Rattle.std.specs.Prelude.{◌≤◌, All, IfErr, IfOk, length};
 ghost use Rattle.batch_command.specs.Asked.{HasFlaw, IsAsked};
-ghost use Rattle.batch_words.specs.declared.clients.TheConstants.{MAX_BATCH_NAME_BYTES};
-ghost use Rattle.batch_words.specs.declared.clients.TheConstants.{MAX_WORKERS};
+ghost use Rattle.command_line.specs.declared.batch_words.clients.TheConstants.{MAX_BATCH_NAME_BYTES};
+ghost use Rattle.command_line.specs.declared.batch_words.clients.TheConstants.{MAX_WORKERS};
 ghost use Rattle.client_lines.specs.declared.lines.TheConstants.{MAX_LINE_BYTES};
 ghost use Rattle.line_sessions.specs.declared.sessions.TheConstants.{MAX_LINES};
 
-use batch_reports::{no_ask, number_twice, workers_needed};
+use crate::batch_reports::{no_ask, number_twice, workers_needed};
+use crate::list_lines::{first_no_ask, first_twice, numbers_of};
+use crate::worker_numbers::needed_worker;
 use client_lines::Known;
 use command_reports::Refusal;
 use grant_log::History;
-use list_lines::{first_no_ask, first_twice, numbers_of};
 use no_memory::NoMemory;
 use rail_types::Name;
 use std::alloc::Global;
-use worker_numbers::needed_worker;
 
 /// The numbers of the lines of a list, each of which asks for a path: they differ, and
 /// none stands in the history under the name of a worker that is not there. A flaw

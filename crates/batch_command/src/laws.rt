@@ -2,7 +2,7 @@
 
 ghost use Rattle.batch_command.specs.Asked.{ListsAreJudgedOnce};
 
-use list_lines::numbers_are_one;
+use crate::list_lines::numbers_are_one;
 
 /// A list comes to the first of its flaws, or it has none.
 pub fn lists_are_judged_once()

@@ -2,40 +2,40 @@
 
 ghost use Rattle.std.specs.Prelude.{◌≡◌, ◌≤◌, All, IfOk, IfSome, length, option_map};
 ghost use Rattle.batch_command.specs.Lists.{LinesSay, ListSays, WritesTexts};
-ghost use Rattle.batch_words.specs.Workers.{AreWorkers, worker_names as names_of_workers};
-ghost use Rattle.batch_words.specs.declared.clients.TheConstants.{MAX_BATCH_NAME_BYTES};
+ghost use Rattle.command_line.specs.Workers.{AreWorkers, worker_names as names_of_workers};
+ghost use Rattle.command_line.specs.declared.batch_words.clients.TheConstants.{MAX_BATCH_NAME_BYTES};
 ghost use Rattle.client_lines.specs.Within.{AreSound};
-ghost use Rattle.client_streams.specs.Lending.{IsUnchanged};
-ghost use Rattle.file_rounds.specs.Scenes.{scene};
+ghost use Rattle.request_server.specs.Lending.{IsUnchanged};
+ghost use Rattle.command_reports.specs.Scenes.{scene};
 ghost use Rattle.client_lines.specs.declared.lines.TheConstants.{MAX_LINE_BYTES};
 ghost use Rattle.line_sessions.specs.declared.sessions.TheConstants.{MAX_LINES};
 ghost use Rattle.path_commit.specs.Ledgers.{settled_of};
 ghost use Rattle.rail_types.specs.Limits.{IsClientName};
-ghost use Rattle.worker_numbers.specs.Owners.{owners_of};
+ghost use Rattle.batch_command.specs.Owners.{owners_of};
 
+use crate::batch_reports::{ends_of, list_stops};
+use crate::batch_server::{Answered, answer_list};
 use crate::flaws::numbers_asked;
+use crate::list_lines::read_list;
+use crate::list_replies::write_texts;
 use crate::members::members_of;
+use crate::worker_numbers::owners_of;
 use admission_rules::Rule;
-use batch_reports::{ends_of, list_stops};
-use batch_server::{Answered, answer_list};
-use batch_words::{worker_names, worker_names_are_names, worker_names_differ};
+use admission_rules::client_rules::ClientRules;
 use client_lines::Known;
-use client_rules::ClientRules;
+use command_line::batch_words::{worker_names, worker_names_are_names, worker_names_differ};
 use command_reports::Refusal;
 use grant_log::History;
 use line_sessions::{Ended, Why};
-use list_lines::read_list;
-use list_replies::write_texts;
 use no_memory::NoMemory;
 use outside_io::{Disk, Outside, Sink, Source};
 use path_commit::Book;
 use rail_types::{List, Name};
-use serve_reports::Ends;
-use served_journals::close_book;
+use request_server::serve_reports::Ends;
+use request_server::served_journals::close_book;
 use std::alloc::{AllocGlobal, Global};
 use std::sync::Wait;
 use std::thread::Threads;
-use worker_numbers::owners_of;
 
 /// Reads a list as a whole, answers it over a book by so many workers, writes the replies in the
 /// order of the list, and hands back the book's disk. A list that is not read, or has a flaw, is

@@ -2,19 +2,19 @@
 
 ghost use Rattle.std.specs.Prelude.{◌≡◌, ◌≤◌, IfOk};
 ghost use Rattle.batch_command.specs.Lists.{AreMembers};
-ghost use Rattle.batch_words.specs.declared.clients.TheConstants.{MAX_BATCH_NAME_BYTES};
-ghost use Rattle.batch_words.specs.declared.clients.TheConstants.{MAX_WORKERS};
-ghost use Rattle.client_streams.specs.Lending.{IsUnchanged};
-ghost use Rattle.file_rounds.specs.Scenes.{scene};
+ghost use Rattle.command_line.specs.declared.batch_words.clients.TheConstants.{MAX_BATCH_NAME_BYTES};
+ghost use Rattle.command_line.specs.declared.batch_words.clients.TheConstants.{MAX_WORKERS};
+ghost use Rattle.request_server.specs.Lending.{IsUnchanged};
+ghost use Rattle.command_reports.specs.Scenes.{scene};
 
+use crate::batch_server::Member;
 use admission_rules::Rule;
-use batch_server::Member;
-use batch_words::{worker_name, worker_names_differ};
-use client_rules::{ClientRules, take_rules};
-use client_streams::between_of;
+use admission_rules::client_rules::{ClientRules, take_rules};
+use command_line::batch_words::{worker_name, worker_names_differ};
 use no_memory::NoMemory;
 use outside_io::Outside;
 use rail_types::Name;
+use request_server::client_streams::between_of;
 use std::alloc::Global;
 
 /// So many workers of a batch, in order, each with what the outside has called

@@ -2,19 +2,19 @@
 
 ghost use Rattle.std.specs.Prelude.{◌≡◌, ◌≢◌, ℕ, List};
 ghost use Rattle.batch_command.specs.Runs.{EndsRun, IsBatchDone, IsRefusedList, RunsBatch};
-ghost use Rattle.batch_words.specs.Workers.{AreWorkers, IsBatchClient};
-ghost use Rattle.file_rounds.specs.Scenes.{scene};
+ghost use Rattle.command_line.specs.Workers.{AreWorkers, IsBatchClient};
+ghost use Rattle.command_reports.specs.Scenes.{scene};
 ghost use Rattle.outside_io.specs.Openings.{Undisturbed};
 ghost use Rattle.outside_io.specs.Places.{Untouched};
 
 use crate::works::batch;
 use admission_rules::Rule;
-use client_rules::ClientRules;
-use client_words::ClientWord;
+use admission_rules::client_rules::ClientRules;
+use command_line::client_words::ClientWord;
+use command_reports::exit_status::Status;
 use command_reports::{Refusal, finish};
-use exit_status::Status;
 use outside_io::Outside;
-use serve_reports::{Ends, tell_ends};
+use request_server::serve_reports::{Ends, tell_ends};
 use std::alloc::AllocGlobal;
 use std::sync::Wait;
 use std::thread::Threads;

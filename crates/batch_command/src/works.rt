@@ -1,22 +1,22 @@
 //! The work of `batch`: reads the three files, and then answers the list.
 
 ghost use Rattle.batch_command.specs.Works.{ReadsBase, ReadsNetwork, ReadsTrains};
-ghost use Rattle.batch_words.specs.Workers.{AreWorkers, IsBatchClient};
-ghost use Rattle.file_rounds.specs.Scenes.{scene};
+ghost use Rattle.command_line.specs.Workers.{AreWorkers, IsBatchClient};
+ghost use Rattle.command_reports.specs.Scenes.{scene};
 ghost use Rattle.rail_types.specs.Limits.{IsTrainWithinLimits};
-ghost use Rattle.served_journals.specs.Files.{IsNetworkRead};
+ghost use Rattle.request_server.specs.Files.{IsNetworkRead};
 ghost use Rattle.std.specs.Prelude.{All};
 
 use crate::journals::serve_files;
 use admission_rules::Rule;
+use admission_rules::client_rules::ClientRules;
 use base_file::bases_make_timetables;
-use client_rules::ClientRules;
-use client_words::ClientWord;
 use command_files::{NetworkFile, read_base_file, read_network_file, read_train_file};
+use command_line::client_words::ClientWord;
 use command_reports::Refusal;
 use outside_io::Outside;
-use serve_reports::Ends;
-use served_journals::Files;
+use request_server::serve_reports::Ends;
+use request_server::served_journals::Files;
 use std::alloc::AllocGlobal;
 use std::sync::Wait;
 use std::thread::Threads;

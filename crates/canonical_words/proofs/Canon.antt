@@ -1,6 +1,6 @@
 -- What `clap` makes of canonical words.
 use Rattle.std.proofs.Common.{◌≡◌, ℕ, List, [], ◌∷◌, Some, true, refl, codes}
-use Rattle.option_words.specs.Spelling.{joined, setting, Word}
+use Rattle.command_line.specs.Spelling.{joined, setting, Word}
 use Rattle.clap.specs.Words.{first_of, matches_of, takes}
 use Rattle.clap.proofs.OnLiterals.{clap_on_literals}
 use Rattle.canonical_words.specs.Canonical.{batch_app, canonical_batch, canonical_capacity, capacity_app, check_app, demo_app, init_app, list_app, move_app, serve_app, stairs_app}

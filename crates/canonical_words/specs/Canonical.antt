@@ -1,7 +1,7 @@
 -- *Inside*: the commands as `clap` is given them.
 use Rattle.std.specs.Prelude.{List, [], ◌∷◌, ℕ, codes, true, Some}
 use Rattle.clap.specs.Words.{App, Rule, new_app, new_rule, with_rule}
-use Rattle.option_words.specs.Spelling.{joined, setting, Word}
+use Rattle.command_line.specs.Spelling.{joined, setting, Word}
 use Rattle.clap.specs.declared.builder.action.ArgAction.TheVariants.{Set}
 
 -- an option that must stand once, with a value

@@ -9,8 +9,8 @@ ghost use Rattle.canonical_words.specs.Canonical.{list_app, move_app, serve_app,
 use crate::names::{FileNames, StretchWords};
 use crate::parsing::{joined, parse, required, value_of};
 use clap::Command;
+use command_line::Text;
 use no_memory::NoMemory;
-use option_words::Text;
 use std::alloc::Global;
 
 /// The values of the options of `list` that stand once.

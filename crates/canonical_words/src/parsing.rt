@@ -2,13 +2,13 @@
 //! and words in one fixed form.
 
 ghost use Rattle.std.specs.Prelude.{◌≡◌, true, false, Some, IfOk, is_some, map, string_bytes};
-ghost use Rattle.option_words.specs.Spelling.{joined as joined_word, setting};
+ghost use Rattle.command_line.specs.Spelling.{joined as joined_word, setting};
 ghost use Rattle.clap.specs.Words.{app_of, first_of, found_of, matches_of, rows_of, rule_of, takes};
 ghost use Rattle.canonical_words.specs.Canonical.{required_rule};
 
 use clap::{Arg, ArgAction, ArgMatches, Command};
+use command_line::Text;
 use no_memory::NoMemory;
-use option_words::Text;
 use std::alloc::Global;
 
 /// Parses words that the command takes.

@@ -10,6 +10,7 @@ mod firsts;
 mod laws;
 mod places;
 mod reports;
+pub mod stretch_trains;
 mod trains;
 
 pub use compressions::compress;

@@ -4,13 +4,13 @@ use Rattle.std.specs.Global.{Global}
 use Rattle.outside_io.specs.declared.disks.Disk.{Ghosts as Disks}
 use Rattle.outside_io.specs.declared.sinks.Sink.{Ghosts as Sinks}
 use Rattle.outside_io.specs.declared.sources.Source.{Ghosts as Sources}
-use Rattle.exit_status.specs.declared.Status.{Status}
-use Rattle.exit_status.specs.declared.Status.TheVariants.{Done, No, Words, Network, Base, Trains, Journal, Opening as not_opened, DiskFault, Report, Memory}
-use Rattle.file_rounds.specs.Scenes.{Scene}
-use Rattle.file_rounds.specs.Writing.{ReportSays}
-use Rattle.file_rounds.specs.declared.writing.OutFault.{OutFault}
-use Rattle.journal_reading.specs.declared.faults.OpenFault.{OpenFault}
-use Rattle.journal_reading.specs.declared.faults.OpenFault.TheVariants.{ReadFault, Empty, OldVersion, NotAJournal, OtherNetwork, OtherBase, Damaged, Illegal, Memory as of_open}
+use Rattle.command_reports.specs.declared.exit_status.Status.{Status}
+use Rattle.command_reports.specs.declared.exit_status.Status.TheVariants.{Done, No, Words, Network, Base, Trains, Journal, Opening as not_opened, DiskFault, Report, Memory}
+use Rattle.command_reports.specs.Scenes.{Scene}
+use Rattle.command_reports.specs.Writing.{ReportSays}
+use Rattle.command_reports.specs.declared.file_rounds.writing.OutFault.{OutFault}
+use Rattle.path_recover.specs.declared.journal_reading.faults.OpenFault.{OpenFault}
+use Rattle.path_recover.specs.declared.journal_reading.faults.OpenFault.TheVariants.{ReadFault, Empty, OldVersion, NotAJournal, OtherNetwork, OtherBase, Damaged, Illegal, Memory as of_open}
 use Rattle.path_recover.specs.Texts.{fault_text}
 use Rattle.command_reports.specs.Refusals.{IsTold, status_of}
 use Rattle.command_reports.specs.declared.refusals.Refusal.{Refusal}
@@ -20,7 +20,7 @@ use Rattle.command_files.specs.declared.bases.BaseFile.{BaseFile}
 use Rattle.command_files.specs.declared.files.FileKind.TheVariants as kind
 use Rattle.command_files.specs.declared.networks.NetworkFile.{NetworkFile}
 use Rattle.command_files.proofs.Refused.{file_other, memory_other, told_other}
-use Rattle.journal_files.specs.Journals.{JournalSays, TellsOpen, TellsText}
+use Rattle.print_commands.specs.Journals.{JournalSays, TellsOpen, TellsText}
 use Rattle.rail_types.specs.declared.trains.Train.{Train}
 use Rattle.check_command.specs.Checks.{TellsProofs}
 use Rattle.check_command.specs.Files.{ProofFileSays, ProofFileStep}

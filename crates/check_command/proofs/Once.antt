@@ -6,7 +6,7 @@ use Rattle.std.proofs.lemmas.List.Elements.{All-head, All-tail}
 use Rattle.client_lines.specs.Names.{Names}
 use Rattle.rail_types.specs.declared.entries.Entry.{Entry}
 use Rattle.rail_types.specs.Timetables.{Timetable}
-use Rattle.reply_texts.specs.Fields.{line_of}
+use Rattle.client_lines.specs.Fields.{line_of}
 use Rattle.proof_texts.specs.declared.refusals.Proof.{Proof}
 use Rattle.proof_texts.specs.Read.{ProofsAreReadOnce}
 use Rattle.proof_texts.specs.Texts.{count_fields, ended, head_fields, member_text, proof_text}

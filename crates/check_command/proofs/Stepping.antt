@@ -5,10 +5,10 @@ use Rattle.outside_io.specs.Openings.{source_at, disk_at}
 use Rattle.outside_io.specs.Places.{Place, hidden, kept, lent, empty, Replaces}
 use Rattle.outside_io.specs.declared.disks.Disk.{Ghosts as Disks}
 use Rattle.outside_io.specs.declared.sources.Source.{Ghosts as Sources}
-use Rattle.file_rounds.specs.Scenes.{ChangesOnlySource, Scene}
+use Rattle.command_reports.specs.Scenes.{ChangesOnlySource, Scene}
 use Rattle.client_lines.specs.Names.{Names}
 use Rattle.grant_log.specs.Legal.{Register}
-use Rattle.history_reading.specs.Failing.{IsOnlyRead}
+use Rattle.path_recover.specs.Failing.{IsOnlyRead}
 use Rattle.command_reports.specs.Works.{Keeps, KeepsTo}
 use Rattle.command_reports.specs.declared.refusals.Refusal.{Refusal}
 use Rattle.command_reports.proofs.Steps.{alone, follows_keep, silent}
@@ -17,9 +17,9 @@ use Rattle.command_files.specs.declared.bases.BaseFile.{BaseFile}
 use Rattle.command_files.specs.declared.files.FileKind.TheVariants as kind
 use Rattle.command_files.specs.declared.networks.NetworkFile.{NetworkFile}
 use Rattle.command_files.proofs.Kept.{file_keeps}
-use Rattle.journal_files.specs.Journals.{IsHistoryOn, IsRefusedOn, JournalSays, JournalStep}
-use Rattle.journal_files.specs.Steps.{Tells, WasOnlyRead}
-use Rattle.journal_files.proofs.Printed.{journal_keeps}
+use Rattle.print_commands.specs.Journals.{IsHistoryOn, IsRefusedOn, JournalSays, JournalStep}
+use Rattle.print_commands.specs.Steps.{Tells, WasOnlyRead}
+use Rattle.print_commands.proofs.Printed.{journal_keeps}
 use Rattle.rail_types.specs.declared.trains.Train.{Train}
 use Rattle.check_command.specs.Checks.{TellsProofs}
 use Rattle.check_command.specs.Files.{ProofFileStep}

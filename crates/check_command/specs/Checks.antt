@@ -5,7 +5,7 @@ use Rattle.client_lines.specs.Names.{Names}
 use Rattle.command_reports.specs.Refusals.{IsTold, line_with}
 use Rattle.command_reports.specs.declared.refusals.Refusal.{Refusal}
 use Rattle.command_reports.specs.declared.refusals.Refusal.TheVariants.{Memory}
-use Rattle.exit_status.specs.declared.Status.TheVariants.{No}
+use Rattle.command_reports.specs.declared.exit_status.Status.TheVariants.{No}
 use Rattle.grant_log.specs.Live.{live_claims}
 use Rattle.rail_types.specs.declared.limits.TheConstants.{MAX_PLACES}
 use Rattle.rail_types.specs.declared.entries.Entry.{Entry}

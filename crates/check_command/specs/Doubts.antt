@@ -4,7 +4,7 @@ use Rattle.client_lines.specs.Names.{Names}
 use Rattle.command_reports.specs.Refusals.{IsTold}
 use Rattle.command_reports.specs.declared.refusals.Refusal.{Refusal}
 use Rattle.command_reports.specs.declared.refusals.Refusal.TheVariants.{Memory}
-use Rattle.exit_status.specs.declared.Status.TheVariants.{No}
+use Rattle.command_reports.specs.declared.exit_status.Status.TheVariants.{No}
 use Rattle.rail_types.specs.declared.entries.Entry.{Entry}
 use Rattle.rail_types.specs.Timetables.{Timetable}
 use Rattle.proof_texts.specs.declared.refusals.Proof.{Proof}

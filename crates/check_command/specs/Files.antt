@@ -4,9 +4,9 @@ use Rattle.std.specs.Global.{Global}
 use Rattle.command_files.specs.Steps.{IsNotOpened, Reads, WantsMemory}
 use Rattle.command_reports.specs.Refusals.{IsTold, line_with}
 use Rattle.command_reports.specs.declared.refusals.Refusal.{Refusal}
-use Rattle.exit_status.specs.declared.Status.TheVariants.{No, Opening}
-use Rattle.file_rounds.specs.Reading.{GaveTooMuch}
-use Rattle.file_rounds.specs.Scenes.{ChangesOnlySource, Opens, Scene}
+use Rattle.command_reports.specs.declared.exit_status.Status.TheVariants.{No, Opening}
+use Rattle.command_reports.specs.Reading.{GaveTooMuch}
+use Rattle.command_reports.specs.Scenes.{ChangesOnlySource, Opens, Scene}
 use Rattle.outside_io.specs.Amounts.{FailsWithin}
 use Rattle.outside_io.specs.Openings.{source_at}
 use Rattle.outside_io.specs.Places.{Replaces}

@@ -7,14 +7,14 @@ use Rattle.command_files.specs.declared.networks.NetworkFile.{NetworkFile}
 use Rattle.command_reports.specs.Reports.{TellsRefusal}
 use Rattle.command_reports.specs.Works.{KeepsTo}
 use Rattle.command_reports.specs.declared.refusals.Refusal.{Refusal}
-use Rattle.exit_status.specs.declared.Status.{Status}
-use Rattle.exit_status.specs.declared.Status.TheVariants.{Done, Report}
-use Rattle.file_rounds.specs.Reading.{GaveTooMuch}
-use Rattle.file_rounds.specs.Scenes.{ChangesOnlyReport, Scene}
-use Rattle.file_rounds.specs.Writing.{ReportSays}
-use Rattle.file_rounds.specs.declared.writing.OutFault.{OutFault}
+use Rattle.command_reports.specs.declared.exit_status.Status.{Status}
+use Rattle.command_reports.specs.declared.exit_status.Status.TheVariants.{Done, Report}
+use Rattle.command_reports.specs.Reading.{GaveTooMuch}
+use Rattle.command_reports.specs.Scenes.{ChangesOnlyReport, Scene}
+use Rattle.command_reports.specs.Writing.{ReportSays}
+use Rattle.command_reports.specs.declared.file_rounds.writing.OutFault.{OutFault}
 use Rattle.grant_log.specs.Legal.{Register}
-use Rattle.journal_files.specs.Journals.{JournalStep}
+use Rattle.print_commands.specs.Journals.{JournalStep}
 use Rattle.outside_io.specs.Places.{Replaces}
 use Rattle.outside_io.specs.declared.disks.Disk.{Ghosts as Disks}
 use Rattle.outside_io.specs.declared.sinks.Sink.{Ghosts as Sinks}

@@ -9,11 +9,11 @@ use Rattle.command_files.specs.declared.bases.BaseFile.{BaseFile}
 use Rattle.command_files.specs.declared.networks.NetworkFile.{NetworkFile}
 use Rattle.command_reports.specs.Works.{Follows}
 use Rattle.command_reports.specs.declared.refusals.Refusal.{Refusal}
-use Rattle.file_rounds.specs.Scenes.{Scene}
+use Rattle.command_reports.specs.Scenes.{Scene}
 use Rattle.grant_log.specs.Legal.{Register}
-use Rattle.journal_files.specs.Journals.{JournalStep}
-use Rattle.journal_files.specs.Steps.{Tells}
-use Rattle.named_network.specs.Named.{IsNamed}
+use Rattle.print_commands.specs.Journals.{JournalStep}
+use Rattle.print_commands.specs.Steps.{Tells}
+use Rattle.rail_types.specs.Named.{IsNamed}
 use Rattle.outside_io.specs.Openings.{Opening, disk_at, source_at}
 use Rattle.outside_io.specs.declared.disks.Disk.{Ghosts as Disks}
 use Rattle.outside_io.specs.declared.sources.Source.{Ghosts as Sources}

@@ -1,13 +1,13 @@
 //! Why a proof does not hold.
 
 ghost use Rattle.std.specs.Prelude.{◌≡◌, ◌++◌, decimal, IfOk};
-ghost use Rattle.exit_status.specs.declared.Status.TheVariants.{No};
+ghost use Rattle.command_reports.specs.declared.exit_status.Status.TheVariants.{No};
 ghost use Rattle.command_reports.specs.Refusals.{IsTold, line_with};
 ghost use Rattle.check_command.specs.Checks.{done_line, doubt_line};
 ghost use Rattle.check_command.specs.Doubts.{IsReported, why_text as text_of};
 
 use command_reports::Refusal;
-use exit_status::Status;
+use command_reports::exit_status::Status;
 use itoa::Buffer;
 use no_memory::NoMemory;
 use rail_types::List;

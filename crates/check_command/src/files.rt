@@ -2,15 +2,15 @@
 
 ghost use Rattle.std.specs.Prelude.{◌≤◌, IfOk, length};
 ghost use Rattle.check_command.specs.Files.{ProofFileStep};
-ghost use Rattle.file_rounds.specs.Reading.{ReadSays};
-ghost use Rattle.file_rounds.specs.Scenes.{ChangesOnlySource, scene};
+ghost use Rattle.command_reports.specs.Reading.{ReadSays};
+ghost use Rattle.command_reports.specs.Scenes.{ChangesOnlySource, scene};
 ghost use Rattle.proof_texts.specs.declared.reading.TheConstants.{
   MAX_PROOF_FILE_BYTES as most_bytes,
 };
 
 use command_reports::Refusal;
-use exit_status::Status;
-use file_rounds::FileFault;
+use command_reports::exit_status::Status;
+use command_reports::file_rounds::FileFault;
 use outside_io::{AllFault, Outside, read_all};
 use proof_texts::MAX_PROOF_FILE_BYTES;
 use std::alloc::Global;

@@ -2,7 +2,7 @@
 
 ghost use Rattle.std.specs.Prelude.{◌≡◌, ◌≤◌, length, IfOk};
 ghost use Rattle.client_lines.specs.Within.{AreSound};
-ghost use Rattle.file_rounds.specs.Scenes.{scene};
+ghost use Rattle.command_reports.specs.Scenes.{scene};
 ghost use Rattle.proof_texts.specs.declared.reading.TheConstants.{MAX_PROOF_FILE_BYTES};
 ghost use Rattle.check_command.specs.Checks.{TellsProofs};
 ghost use Rattle.check_command.specs.Works.{IsBaseRead, ReadsJournal, ReadsProofs, named_by};
@@ -15,10 +15,10 @@ use client_lines::Known;
 use command_files::{BaseFile, NetworkFile};
 use command_reports::Refusal;
 use grant_log::History;
-use journal_files::read_journal_file;
-use named_network::{BlockName, Named, ZoneName};
 use no_memory::NoMemory;
 use outside_io::Outside;
+use print_commands::read_journal_file;
+use rail_types::named_network::{BlockName, Named, ZoneName};
 use rail_types::{List, Name, networks_without_flaws};
 use std::alloc::Global;
 use train_file::Trains;

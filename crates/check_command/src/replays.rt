@@ -5,8 +5,8 @@ ghost use Rattle.std.specs.Prelude.{◌≡◌, ◌≤◌, length, IfOk, OnOk};
 ghost use Rattle.grant_log.specs.Legal.{IsLegal};
 ghost use Rattle.check_command.specs.Replays.{IsUp, all_of, entries_of};
 
-use copy_since::{bring_up, copy_of};
 use grant_log::History;
+use grant_log::copy_since::{bring_up, copy_of};
 use no_memory::NoMemory;
 use occupation_book::Occupations;
 use rail_types::Entry;

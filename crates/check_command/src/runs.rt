@@ -3,14 +3,14 @@
 ghost use Rattle.std.specs.Prelude.{◌≡◌, ◌≢◌, ℕ, List as list_of};
 ghost use Rattle.outside_io.specs.Openings.{Undisturbed};
 ghost use Rattle.outside_io.specs.Places.{Untouched};
-ghost use Rattle.file_rounds.specs.Scenes.{scene};
-ghost use Rattle.journal_files.specs.Steps.{WasOnlyRead};
+ghost use Rattle.command_reports.specs.Scenes.{scene};
+ghost use Rattle.print_commands.specs.Steps.{WasOnlyRead};
 ghost use Rattle.check_command.specs.Runs.{EndsRun, IsChecked, IsRefused, ReportsLine, RunsCheck};
 
 use crate::works::work;
+use command_reports::exit_status::Status;
+use command_reports::file_rounds::write_report;
 use command_reports::{Refusal, finish};
-use exit_status::Status;
-use file_rounds::write_report;
 use outside_io::Outside;
 use rail_types::List;
 use std::alloc::Global;

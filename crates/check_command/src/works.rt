@@ -1,7 +1,7 @@
 //! The work of `check`: reads the files, and then the journal and the proofs.
 
-ghost use Rattle.file_rounds.specs.Scenes.{scene};
-ghost use Rattle.named_network.specs.Named.{IsNamed};
+ghost use Rattle.command_reports.specs.Scenes.{scene};
+ghost use Rattle.rail_types.specs.Named.{IsNamed};
 ghost use Rattle.check_command.specs.Works.{AreRead, ReadsBase, ReadsNetwork, ReadsTrains};
 
 use crate::journals::check_journal;

@@ -4,7 +4,7 @@ use Rattle.std.specs.List.{All, position_or_len}
 use Rattle.std.specs.Str.{bytes_eq}
 use Rattle.std.proofs.lemmas.Bool.Decides.{nat_tests}
 use Rattle.std.proofs.lemmas.List.Elements.{All-head, All-tail}
-use Rattle.id_lists.specs.Ids.{number_of}
+use Rattle.rail_types.specs.IdLists.{number_of}
 use Rattle.rail_types.specs.declared.limits.TheConstants.{MAX_REASON_BYTES}
 use Rattle.client_lines.specs.Lines.{short_reason}
 

@@ -10,3 +10,5 @@ pub mod Claims
 pub mod Found
 pub mod Ranges
 pub mod Asking
+pub mod Printing
+pub mod Roominess

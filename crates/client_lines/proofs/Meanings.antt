@@ -2,8 +2,8 @@
 use Rattle.std.proofs.Common.{◌≡◌, ◌∙◌, ap, ℕ, ◌/◌, ◌%◌, ◌≤◌, Bool, true, false, if◌then◌else◌, subst, List, [], ◌∷◌, ◌++◌, length, Option, Some, None, option_and_then, refl, arith}
 use Rattle.std.proofs.lemmas.Option.{option_and_then_some}
 use Rattle.json_fields.specs.Escapes.{escaped, hex_digit, is_plain}
-use Rattle.name_text.specs.Reading.{name_in}
-use Rattle.name_text.specs.Spellings.{AreBytes, Spells}
+use Rattle.json_fields.specs.NameReading.{name_in}
+use Rattle.json_fields.specs.Spellings.{AreBytes, Spells}
 use Rattle.client_lines.specs.Forms.{IsName, Kind, a_number, a_tick, a_word, a_name, Says}
 use Rattle.client_lines.specs.Reading.{field_name, meaning}
 use Rattle.client_lines.proofs.Decimals.{number_in-decimal, number_in-spells}

@@ -3,7 +3,7 @@ use Rattle.std.specs.Prelude.{◌≡◌, ℕ, ◌+◌, ◌^◌, ◌<◌, ◌≤�
 use Rattle.std.specs.Prelude.{take, Option, Some, None, decimal}
 use Rattle.std.specs.Fmt.{signed_decimal}
 use Rattle.json_fields.specs.Escapes.{escaped}
-use Rattle.name_text.specs.Spellings.{AreBytes}
+use Rattle.json_fields.specs.Spellings.{AreBytes}
 use Rattle.rail_types.specs.Limits.{IsTick}
 
 -- The kinds of fields, by what a field of the kind says: a number of 64 bits, from the first of

@@ -4,3 +4,7 @@ pub mod Forms
 pub mod Reading
 pub mod Lines
 pub mod Within
+pub mod Fields
+pub mod Replies
+pub mod Rooms
+pub mod Parts

@@ -1,7 +1,7 @@
 -- The forms of clients' lines: which fields each has, and what it asks for.
 use Rattle.std.specs.Prelude.{ℕ, zero, suc, ◌+◌, ℤ, Bool, List, [], ◌∷◌, length, Option, Some, None}
 use Rattle.std.specs.Prelude.{nat_eq, nat_le, option_map, codes, bytes_eq, if◌then◌else◌}
-use Rattle.id_lists.specs.Ids.{number_of}
+use Rattle.rail_types.specs.IdLists.{number_of}
 use Rattle.rail_types.specs.declared.limits.TheConstants.{MAX_NUMBER, MAX_STOPS, MAX_DWELL}
 use Rattle.rail_types.specs.declared.limits.TheConstants.{MAX_PINNED_RUNS, MAX_HOLD_CLAIMS}
 use Rattle.rail_types.specs.declared.limits.TheConstants.{MAX_REASON_BYTES}

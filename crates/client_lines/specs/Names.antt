@@ -3,7 +3,7 @@ use Rattle.std.specs.Prelude.{◌≡◌, ℕ, ◌≤◌, List, length, Option}
 use Rattle.std.specs.List.{position_from}
 use Rattle.std.specs.Map.{lookup}
 use Rattle.std.specs.Str.{bytes_eq}
-use Rattle.named_network.specs.declared.Named.{Named}
+use Rattle.rail_types.specs.declared.named_network.Named.{Named}
 use Rattle.rail_types.specs.declared.limits.TheConstants.{MAX_OBJECTS}
 use Rattle.rail_types.specs.declared.trains.Train.{Train}
 

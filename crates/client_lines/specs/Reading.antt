@@ -8,7 +8,7 @@ use Rattle.std.specs.Char.{is_ascii_digit}
 use Rattle.std.specs.Int.{int_gap}
 use Rattle.std.specs.List.{list_all}
 use Rattle.std.specs.Str.Parse.{digits_value}
-use Rattle.name_text.specs.Reading.{name_in}
+use Rattle.json_fields.specs.NameReading.{name_in}
 use Rattle.rail_types.specs.declared.limits.TheConstants.{MAX_TICK}
 use Rattle.client_lines.specs.declared.faults.LineFault.{LineFault}
 use Rattle.client_lines.specs.declared.faults.LineFault.TheVariants.{Bad, Memory}

@@ -1,6 +1,6 @@
 -- What callers may rely on in a line that was read.
 use Rattle.std.specs.Prelude.{◌<◌, ◌≤◌, All, IfSome, length}
-use Rattle.named_network.specs.Named.{IsNamed}
+use Rattle.rail_types.specs.Named.{IsNamed}
 use Rattle.rail_types.specs.declared.limits.TheConstants.{MAX_NUMBER, MAX_PINNED_RUNS}
 use Rattle.rail_types.specs.declared.tracks.Network.{Network}
 use Rattle.rail_types.specs.declared.trains.Request.{Request}

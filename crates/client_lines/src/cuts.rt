@@ -8,8 +8,8 @@ ghost use Rattle.client_lines.specs.Reading.{Gives, field_name, read};
 
 use crate::faults::LineFault;
 use crate::numbers::{number_in, tick_in};
+use json_fields::name_text::unescaped;
 use memchr::memchr;
-use name_text::unescaped;
 use no_memory::NoMemory;
 use rail_types::Tick;
 use std::alloc::Global;

@@ -1,15 +1,15 @@
 //! What lines may name, found by its names.
 
 ghost use Rattle.std.specs.Prelude.{◌≡◌, ◌≤◌, length, option_map, IfOk};
-ghost use Rattle.id_lists.specs.Ids.{number_of};
+ghost use Rattle.rail_types.specs.IdLists.{number_of};
 ghost use Rattle.rail_types.specs.declared.limits.TheConstants.{MAX_OBJECTS};
 ghost use Rattle.train_file.specs.Trains.{train_named};
 
 use crate::places::{place_in, places_of};
 use indexmap::IndexMap;
-use named_network::Named;
 use no_memory::NoMemory;
 use rail_types::Train;
+use rail_types::named_network::Named;
 use std::alloc::Global;
 use std::marker::Model;
 use train_file::Trains;

@@ -11,6 +11,7 @@ mod laws;
 mod lines;
 mod numbers;
 mod places;
+pub mod reply_texts;
 mod words;
 
 pub use asks::{Ask, Line};

@@ -16,7 +16,7 @@ use crate::groups::{Group, read_groups};
 use crate::items::{read_point, read_position, read_reason, read_train, read_window};
 use crate::known::Known;
 use crate::words::{read_first_word, read_word};
-use name_text::names_are_spelled_once;
+use json_fields::name_text::names_are_spelled_once;
 use rail_types::{Claim, List, MAX_HOLD_CLAIMS, MAX_PINNED_RUNS, MAX_STOPS, Name, Path, Request};
 use std::alloc::Global;
 

@@ -5,8 +5,8 @@ use Rattle.outside_io.specs.Places.{Untouched}
 use Rattle.outside_io.proofs.Names.{name_cases}
 use Rattle.outside_io.specs.declared.sinks.Sink.{Ghosts as Sinks}
 use Rattle.outside_io.specs.declared.sources.Source.{Ghosts as Sources}
-use Rattle.exit_status.specs.declared.Status.{Status}
-use Rattle.file_rounds.specs.Scenes.{ChangesOnlySink, ChangesOnlySource, Scene}
+use Rattle.command_reports.specs.declared.exit_status.Status.{Status}
+use Rattle.command_reports.specs.Scenes.{ChangesOnlySink, ChangesOnlySource, Scene}
 use Rattle.command_reports.specs.Works.{Keeps, KeepsTo}
 use Rattle.command_reports.specs.declared.refusals.Refusal.{Refusal}
 use Rattle.command_files.specs.Outs.{OutStep}

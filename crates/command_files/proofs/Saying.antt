@@ -1,6 +1,6 @@
 -- What is told of bytes by the fault of their network.
 use Rattle.std.proofs.Common.{◌≡◌, ◌⊎◌, ℕ, List, inl, inr, refl}
-use Rattle.infra_types.specs.declared.infras.Infra.{Infra}
+use Rattle.rail_types.specs.declared.infra_types.infras.Infra.{Infra}
 use Rattle.signal_blocks.specs.Networks.{NetTells}
 use Rattle.signal_blocks.specs.Texts.{fault_text}
 use Rattle.signal_blocks.specs.declared.faults.NetFault.{NetFault}

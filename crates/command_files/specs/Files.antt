@@ -7,12 +7,12 @@ use Rattle.base_file.specs.Texts.{fault_text as base_text}
 use Rattle.base_file.specs.declared.faults.BaseFault.{BaseFault}
 use Rattle.base_file.specs.declared.faults.BaseFault.TheVariants as of_base
 use Rattle.decimal_quote.specs.Quoted.{IsQuoted}
-use Rattle.file_rounds.specs.Scenes.{Scene}
+use Rattle.command_reports.specs.Scenes.{Scene}
 use Rattle.infra_fields.specs.Texts.{fault_text as read_text}
 use Rattle.infra_fields.specs.declared.faults.InfraFault.{InfraFault}
 use Rattle.infra_fields.specs.declared.faults.InfraFault.TheVariants as reading
-use Rattle.infra_types.specs.declared.infras.Infra.{Infra}
-use Rattle.named_network.specs.declared.Named.{Named}
+use Rattle.rail_types.specs.declared.infra_types.infras.Infra.{Infra}
+use Rattle.rail_types.specs.declared.named_network.Named.{Named}
 use Rattle.outside_io.specs.declared.sources.Source.{Ghosts}
 use Rattle.rail_types.specs.declared.bases.Base.{Base}
 use Rattle.rail_types.specs.declared.trains.Train.{Train}

@@ -1,7 +1,7 @@
 -- The kinds of files that commands read.
 use Rattle.std.specs.Prelude.{ℕ, List, codes}
-use Rattle.exit_status.specs.declared.Status.{Status}
-use Rattle.exit_status.specs.declared.Status.TheVariants as status
+use Rattle.command_reports.specs.declared.exit_status.Status.{Status}
+use Rattle.command_reports.specs.declared.exit_status.Status.TheVariants as status
 use Rattle.rail_types.specs.declared.limits.TheConstants.{MAX_NETWORK_FILE_BYTES}
 use Rattle.rail_types.specs.declared.limits.TheConstants.{MAX_TIMETABLE_FILE_BYTES}
 use Rattle.command_files.specs.declared.files.FileKind.{FileKind}

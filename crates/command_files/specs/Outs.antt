@@ -1,13 +1,13 @@
 -- The step of a command that writes a file.
 use Rattle.std.specs.Prelude.{◌≡◌, ◌⊎◌, ℕ, List, codes, Result, Ok, Err}
-use Rattle.exit_status.specs.declared.Status.{Status}
-use Rattle.exit_status.specs.declared.Status.TheVariants.{Done, Opening, Report}
+use Rattle.command_reports.specs.declared.exit_status.Status.{Status}
+use Rattle.command_reports.specs.declared.exit_status.Status.TheVariants.{Done, Opening, Report}
 use Rattle.outside_io.specs.Faults.{Rose}
 use Rattle.outside_io.specs.Openings.{sink_at}
 use Rattle.outside_io.specs.Places.{Replaces, Untouched}
 use Rattle.outside_io.specs.declared.sinks.Sink.{Ghosts}
-use Rattle.file_rounds.specs.Scenes.{ChangesOnlySink, IsReady, Opens, Scene}
-use Rattle.file_rounds.specs.Writing.{TookAll, TookPart}
+use Rattle.command_reports.specs.Scenes.{ChangesOnlySink, IsReady, Opens, Scene}
+use Rattle.command_reports.specs.Writing.{TookAll, TookPart}
 use Rattle.command_reports.specs.Refusals.{IsTold, line_with}
 use Rattle.command_reports.specs.declared.refusals.Refusal.{Refusal}
 

@@ -1,14 +1,14 @@
 -- The step of a command that reads a file.
 use Rattle.std.specs.Prelude.{◌≡◌, ◌⊎◌, ℕ, List, codes, Vec, Result, Ok, Err}
 use Rattle.std.specs.Global.{Global}
-use Rattle.exit_status.specs.declared.Status.TheVariants.{Opening}
+use Rattle.command_reports.specs.declared.exit_status.Status.TheVariants.{Opening}
 use Rattle.outside_io.specs.Amounts.{FailsWithin}
 use Rattle.outside_io.specs.Faults.{Rose}
 use Rattle.outside_io.specs.Openings.{source_at}
 use Rattle.outside_io.specs.Places.{Replaces, Untouched}
 use Rattle.outside_io.specs.declared.sources.Source.{Ghosts}
-use Rattle.file_rounds.specs.Reading.{GaveAll, GaveTooMuch}
-use Rattle.file_rounds.specs.Scenes.{ChangesOnlySource, IsReady, Opens, Scene}
+use Rattle.command_reports.specs.Reading.{GaveAll, GaveTooMuch}
+use Rattle.command_reports.specs.Scenes.{ChangesOnlySource, IsReady, Opens, Scene}
 use Rattle.command_reports.specs.Refusals.{IsTold, line_with}
 use Rattle.command_reports.specs.declared.refusals.Refusal.{Refusal}
 use Rattle.command_reports.specs.declared.refusals.Refusal.TheVariants.{Memory}

@@ -3,7 +3,7 @@
 ghost use Rattle.std.specs.Prelude.{◌≡◌, IfOk};
 ghost use Rattle.base_file.specs.Sound.{IsBaseOn};
 ghost use Rattle.command_files.specs.Files.{BaseSays, BaseStep, TellsBase};
-ghost use Rattle.file_rounds.specs.Scenes.{scene};
+ghost use Rattle.command_reports.specs.Scenes.{scene};
 
 use crate::files::{FileKind, bytes_of};
 use base_file::{BaseFault, read_base};

@@ -4,11 +4,11 @@ ghost use Rattle.std.specs.Prelude.{◌≡◌};
 ghost use Rattle.command_reports.specs.Refusals.{IsTold, line_with};
 ghost use Rattle.command_files.specs.Kinds.{excess_of, head_of, limit_of, status_of};
 ghost use Rattle.command_files.specs.Steps.{BytesSay};
-ghost use Rattle.file_rounds.specs.Scenes.{scene};
+ghost use Rattle.command_reports.specs.Scenes.{scene};
 
 use command_reports::Refusal;
-use exit_status::Status;
-use file_rounds::{FileFault, read_file};
+use command_reports::exit_status::Status;
+use command_reports::file_rounds::{FileFault, read_file};
 use outside_io::Outside;
 use rail_types::{MAX_NETWORK_FILE_BYTES, MAX_TIMETABLE_FILE_BYTES};
 use std::alloc::Global;

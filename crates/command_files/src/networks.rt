@@ -3,16 +3,16 @@
 ghost use Rattle.std.specs.Prelude.{◌≡◌, IfErr, IfOk};
 ghost use Rattle.command_files.specs.Files.{InfraSays, IsInfraOf, IsNetworkFile, NamedSays};
 ghost use Rattle.command_files.specs.Files.{NetworkStep, TellsNet, TellsRead};
-ghost use Rattle.file_rounds.specs.Scenes.{scene};
-ghost use Rattle.infra_types.specs.Infras.{IsInfra};
-ghost use Rattle.named_network.specs.Named.{IsNamed};
+ghost use Rattle.command_reports.specs.Scenes.{scene};
+ghost use Rattle.rail_types.specs.Infras.{IsInfra};
+ghost use Rattle.rail_types.specs.Named.{IsNamed};
 
 use crate::files::{FileKind, bytes_of};
 use command_reports::Refusal;
-use infra_types::Infra;
-use named_network::Named;
 use no_memory::NoMemory;
 use outside_io::Outside;
+use rail_types::infra_types::Infra;
+use rail_types::named_network::Named;
 use railjson_read::{InfraFault, read_infra};
 use sha2::{Digest, Sha256};
 use signal_blocks::{NetFault, network_of};

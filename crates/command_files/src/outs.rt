@@ -1,11 +1,11 @@
 //! The file that a command writes.
 
 ghost use Rattle.command_files.specs.Outs.{OutStep};
-ghost use Rattle.file_rounds.specs.Scenes.{scene};
+ghost use Rattle.command_reports.specs.Scenes.{scene};
 
 use command_reports::Refusal;
-use exit_status::Status;
-use file_rounds::{OutFault, write_file};
+use command_reports::exit_status::Status;
+use command_reports::file_rounds::{OutFault, write_file};
 use outside_io::Outside;
 use std::alloc::Global;
 

@@ -2,7 +2,7 @@
 
 ghost use Rattle.std.specs.Prelude.{◌≡◌, IfOk};
 ghost use Rattle.command_files.specs.Files.{TellsTrains, TrainsSay, TrainStep};
-ghost use Rattle.file_rounds.specs.Scenes.{scene};
+ghost use Rattle.command_reports.specs.Scenes.{scene};
 ghost use Rattle.train_file.specs.Trains.{AreTrains};
 
 use crate::files::{FileKind, bytes_of};

@@ -3,8 +3,8 @@ use Rattle.std.proofs.Common.{◌≡◌, ◌≢◌, ◌∙◌, ℕ, List, Result
 use Rattle.outside_io.specs.Openings.{Opening, Undisturbed, sink_at, disk_at}
 use Rattle.outside_io.specs.Places.{Untouched}
 use Rattle.outside_io.specs.declared.sinks.Sink.{Ghosts}
-use Rattle.exit_status.specs.declared.Status.{Status}
-use Rattle.file_rounds.specs.Scenes.{ChangesOnlyReport, Scene}
+use Rattle.command_reports.specs.declared.exit_status.Status.{Status}
+use Rattle.command_reports.specs.Scenes.{ChangesOnlyReport, Scene}
 use Rattle.command_reports.specs.Reports.{EndSays}
 use Rattle.command_reports.specs.Works.{Misses, Runs}
 use Rattle.command_reports.specs.declared.refusals.Refusal.{Refusal}

@@ -4,7 +4,7 @@ use Rattle.std.specs.Prelude.{⊤}
 use Rattle.std.proofs.lemmas.List.{append_assoc, append-nil}
 use Rattle.outside_io.specs.Openings.{Opening, Opens as CallsOf, source_at, sink_at, disk_at}
 use Rattle.outside_io.specs.Places.{Untouched}
-use Rattle.file_rounds.specs.Scenes.{Scene}
+use Rattle.command_reports.specs.Scenes.{Scene}
 use Rattle.command_reports.specs.Works.{Follows, Keeps, KeepsTo, Makes, Misses, OpensInTurn}
 use Rattle.command_reports.specs.declared.refusals.Refusal.{Refusal}
 

@@ -1,10 +1,10 @@
 -- What a command reports at its end.
 use Rattle.std.specs.Prelude.{◌≡◌, ℕ, List, Result, Ok, Err}
 use Rattle.outside_io.specs.declared.sinks.Sink.{Ghosts}
-use Rattle.exit_status.specs.declared.Status.{Status}
-use Rattle.file_rounds.specs.Scenes.{ChangesOnlyReport, Scene}
-use Rattle.file_rounds.specs.Writing.{ReportSays}
-use Rattle.file_rounds.specs.declared.writing.OutFault.{OutFault}
+use Rattle.command_reports.specs.declared.exit_status.Status.{Status}
+use Rattle.command_reports.specs.Scenes.{ChangesOnlyReport, Scene}
+use Rattle.command_reports.specs.Writing.{ReportSays}
+use Rattle.command_reports.specs.declared.file_rounds.writing.OutFault.{OutFault}
 use Rattle.command_reports.specs.Refusals.{line_of, status_of}
 use Rattle.command_reports.specs.declared.refusals.Refusal.{Refusal}
 

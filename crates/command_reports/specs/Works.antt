@@ -3,8 +3,8 @@ use Rattle.std.specs.Prelude.{◌≡◌, ◌≢◌, ◌⊎◌, ⊤, ℕ, List, [
 use Rattle.outside_io.specs.Openings.{Opening, Opens as CallsOf, source_at, sink_at, disk_at}
 use Rattle.outside_io.specs.Openings.{Undisturbed}
 use Rattle.outside_io.specs.declared.sinks.Sink.{Ghosts}
-use Rattle.exit_status.specs.declared.Status.{Status}
-use Rattle.file_rounds.specs.Scenes.{Scene}
+use Rattle.command_reports.specs.declared.exit_status.Status.{Status}
+use Rattle.command_reports.specs.Scenes.{Scene}
 use Rattle.command_reports.specs.Reports.{EndSays}
 use Rattle.command_reports.specs.declared.refusals.Refusal.{Refusal}
 use Rattle.command_reports.specs.declared.refusals.Refusal.TheVariants.{Memory}

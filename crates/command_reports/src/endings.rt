@@ -1,11 +1,11 @@
 //! The end of a command.
 
-ghost use Rattle.file_rounds.specs.Scenes.{scene};
+ghost use Rattle.command_reports.specs.Scenes.{scene};
 ghost use Rattle.command_reports.specs.Reports.{EndSays, TellsRefusal};
 
+use crate::exit_status::Status;
+use crate::file_rounds::write_report;
 use crate::refusals::Refusal;
-use exit_status::Status;
-use file_rounds::write_report;
 use outside_io::Outside;
 
 /// Ends a command: a refusal is reported, and gives its status, whether the report takes its

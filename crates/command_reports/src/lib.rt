@@ -2,6 +2,8 @@
 #![tactic(auto)]
 
 mod endings;
+pub mod exit_status;
+pub mod file_rounds;
 mod refusals;
 
 pub use endings::finish;

@@ -3,7 +3,7 @@
 ghost use Rattle.std.specs.Prelude.{◌≡◌, IfOk};
 ghost use Rattle.command_reports.specs.Refusals.{IsTold, line_of, line_with, status_of};
 
-use exit_status::Status;
+use crate::exit_status::Status;
 use no_memory::NoMemory;
 use rail_types::List;
 use std::alloc::Global;

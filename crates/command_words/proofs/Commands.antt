@@ -1,9 +1,9 @@
 -- Which orders a command word asks for.
 use Rattle.std.proofs.Common.{◌≡◌, ◌∙◌, ℕ, true, List, [], ◌∷◌, Option, None, Some, refl, sym, codes}
-use Rattle.option_words.specs.Spelling.{are_among, at_most_one, Setting, values_under}
-use Rattle.client_words.specs.declared.clients.ClientWord.{ClientWord}
-use Rattle.proof_words.specs.declared.proofs.ProofWord.{ProofWord}
-use Rattle.rule_words.specs.declared.reading.RuleWord.{RuleWord}
+use Rattle.command_line.specs.Spelling.{are_among, at_most_one, Setting, values_under}
+use Rattle.command_line.specs.declared.client_words.clients.ClientWord.{ClientWord}
+use Rattle.command_line.specs.declared.proof_words.proofs.ProofWord.{ProofWord}
+use Rattle.command_line.specs.declared.rule_words.reading.RuleWord.{RuleWord}
 use Rattle.command_words.specs.Orders.{Agree, Asks, IsWithinLimits, settings_of}
 use Rattle.command_words.specs.declared.orders.Order.{Order}
 use Rattle.command_words.specs.declared.orders.Order.TheVariants.{Tables, Init, Stairs, Capacity, Serve, Demo, Check, Batch}

@@ -1,13 +1,13 @@
 -- Clients, proofs and rules as options that stand several times.
 use Rattle.std.proofs.Common.{◌≡◌, false, true, List, ℕ, [], ◌∷◌, ◌++◌, map, codes, refl, ap}
 use Rattle.std.specs.Str.{bytes_eq}
-use Rattle.option_words.specs.Spelling.{are_among, Setting, values_under, Word}
-use Rattle.client_words.specs.Clients.{client_text}
-use Rattle.client_words.specs.declared.clients.ClientWord.{ClientWord}
-use Rattle.proof_words.specs.Proofs.{proof_text}
-use Rattle.proof_words.specs.declared.proofs.ProofWord.{ProofWord}
-use Rattle.rule_words.specs.Rules.{rule_text}
-use Rattle.rule_words.specs.declared.reading.RuleWord.{RuleWord}
+use Rattle.command_line.specs.Spelling.{are_among, Setting, values_under, Word}
+use Rattle.command_line.specs.Clients.{client_text}
+use Rattle.command_line.specs.declared.client_words.clients.ClientWord.{ClientWord}
+use Rattle.command_line.specs.Proofs.{proof_text}
+use Rattle.command_line.specs.declared.proof_words.proofs.ProofWord.{ProofWord}
+use Rattle.command_line.specs.Rules.{rule_text}
+use Rattle.command_line.specs.declared.rule_words.reading.RuleWord.{RuleWord}
 use Rattle.command_words.specs.Orders.{proof_setting, repeated, rule_setting}
 
 -- proofs and rules as options

@@ -3,14 +3,14 @@ use Rattle.std.specs.Prelude.{◌≡◌, ⊤, ℕ, ◌^◌, ◌<◌, ◌≤◌, 
 use Rattle.std.specs.Prelude.{Some, codes, decimal, map}
 use Rattle.rail_types.specs.Limits.{IsTick}
 use Rattle.rail_types.specs.declared.limits.TheConstants.{MAX_NUMBER}
-use Rattle.option_words.specs.Spelling.{Setting, setting, Spell, values_under, Word}
-use Rattle.client_words.specs.Clients.{AreClients, client_text}
-use Rattle.client_words.specs.declared.clients.ClientWord.{ClientWord}
-use Rattle.proof_words.specs.Proofs.{AreProofs, proof_text}
-use Rattle.proof_words.specs.declared.proofs.ProofWord.{ProofWord}
-use Rattle.rule_words.specs.Rules.{AreRulesOf, rule_text}
-use Rattle.rule_words.specs.declared.reading.RuleWord.{RuleWord}
-use Rattle.batch_words.specs.Workers.{IsBatch}
+use Rattle.command_line.specs.Spelling.{Setting, setting, Spell, values_under, Word}
+use Rattle.command_line.specs.Clients.{AreClients, client_text}
+use Rattle.command_line.specs.declared.client_words.clients.ClientWord.{ClientWord}
+use Rattle.command_line.specs.Proofs.{AreProofs, proof_text}
+use Rattle.command_line.specs.declared.proof_words.proofs.ProofWord.{ProofWord}
+use Rattle.command_line.specs.Rules.{AreRulesOf, rule_text}
+use Rattle.command_line.specs.declared.rule_words.reading.RuleWord.{RuleWord}
+use Rattle.command_line.specs.Workers.{IsBatch}
 use Rattle.command_words.specs.declared.orders.TheConstants.{MAX_DEMO_NUMBER}
 use Rattle.command_words.specs.declared.orders.Order.{Order}
 use Rattle.command_words.specs.declared.orders.Order.TheVariants.{Tables, Init, Stairs, Capacity}

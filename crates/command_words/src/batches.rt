@@ -1,16 +1,16 @@
 //! The options of `batch`, read.
 
 ghost use Rattle.std.specs.Prelude.{◌≡◌, ◌∷◌, [], ℕ, List, codes, IfOk, IsErrOf};
-ghost use Rattle.option_words.specs.Spelling.{values_under};
+ghost use Rattle.command_line.specs.Spelling.{values_under};
 ghost use Rattle.command_words.specs.Orders.{Asks};
 ghost use Rattle.command_words.specs.declared.orders.Order.{Order as order_type};
 
 use crate::file_names::file_names;
 use crate::orders::Order;
-use batch_words::read_batch_word;
 use canonical_words::parse_batch;
+use command_line::batch_words::read_batch_word;
+use command_line::{Setting, WordsFault, has_only, single_value, values_of};
 use no_memory::NoMemory;
-use option_words::{Setting, WordsFault, has_only, single_value, values_of};
 use std::alloc::Global;
 
 /// The order that options of `batch` ask for.

@@ -2,15 +2,15 @@
 
 ghost use Rattle.std.specs.Prelude.{◌≡◌, ◌∷◌, [], ℕ, List, codes, decimal, IfNone, IfOk, IfSome};
 ghost use Rattle.std.specs.Prelude.{IsErrOf};
-ghost use Rattle.option_words.specs.Spelling.{values_under};
+ghost use Rattle.command_line.specs.Spelling.{values_under};
 ghost use Rattle.command_words.specs.Orders.{AreTicks, AreZones, Asks};
 ghost use Rattle.command_words.specs.declared.orders.Order.{Order as order_type};
 
 use crate::file_names::file_names;
 use crate::orders::Order;
 use canonical_words::{StretchWords, parse_capacity};
+use command_line::{Setting, WordsFault, has_only, read_small_number, single_value};
 use no_memory::NoMemory;
-use option_words::{Setting, WordsFault, has_only, read_small_number, single_value};
 use rail_types::MAX_TICK;
 use std::alloc::Global;
 

@@ -6,8 +6,8 @@ ghost use Rattle.command_words.specs.declared.orders.Order.{Order as order_type}
 
 use crate::orders::{MAX_DEMO_NUMBER, Order};
 use canonical_words::parse_demo;
+use command_line::{Setting, WordsFault, has_only, read_small_number, single_value};
 use no_memory::NoMemory;
-use option_words::{Setting, WordsFault, has_only, read_small_number, single_value};
 use std::alloc::Global;
 
 /// The order that options of `demo` ask for.

@@ -1,10 +1,10 @@
 //! The names of files that most commands read.
 
 ghost use Rattle.std.specs.Prelude.{◌≡◌, ◌∷◌, [], ℕ, List, codes, IfOk, IsErrOf};
-ghost use Rattle.option_words.specs.Spelling.{values_under};
+ghost use Rattle.command_line.specs.Spelling.{values_under};
 
 use canonical_words::FileNames;
-use option_words::{Setting, WordsFault, single_value};
+use command_line::{Setting, WordsFault, single_value};
 use std::alloc::Global;
 
 /// The names under `network`, `base` and `journal`, each given once.

@@ -7,8 +7,8 @@ ghost use Rattle.command_words.specs.declared.orders.Order.{Order as order_type}
 use crate::file_names::file_names;
 use crate::orders::Order;
 use canonical_words::parse_stairs;
+use command_line::{Setting, WordsFault, has_only, read_number, single_value};
 use no_memory::NoMemory;
-use option_words::{Setting, WordsFault, has_only, read_number, single_value};
 use rail_types::MAX_NUMBER;
 use std::alloc::Global;
 

@@ -12,11 +12,11 @@ mod orders;
 mod reading;
 mod serves;
 
-pub use batch_words::{MAX_BATCH_NAME_BYTES, MAX_WORKERS};
-pub use client_words::ClientWord;
+pub use command_line::batch_words::{MAX_BATCH_NAME_BYTES, MAX_WORKERS};
+pub use command_line::client_words::ClientWord;
+pub use command_line::proof_words::ProofWord;
+pub use command_line::rule_words::{RuleKind, RuleWord};
+pub use command_line::{Text, WordsFault};
 pub use laws::limits_are_these;
-pub use option_words::{Text, WordsFault};
 pub use orders::{MAX_DEMO_NUMBER, Order};
-pub use proof_words::ProofWord;
 pub use reading::{read_words, rule_words};
-pub use rule_words::{RuleKind, RuleWord};

@@ -1,10 +1,10 @@
 //! What the server can be asked to do.
 
-use client_words::ClientWord;
-use option_words::Text;
-use proof_words::ProofWord;
+use command_line::Text;
+use command_line::client_words::ClientWord;
+use command_line::proof_words::ProofWord;
+use command_line::rule_words::RuleWord;
 use rail_types::List;
-use rule_words::RuleWord;
 
 /// Greatest number that a demonstration may begin with.
 pub const MAX_DEMO_NUMBER: u32 = 2_147_483_647;

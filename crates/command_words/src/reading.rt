@@ -12,10 +12,10 @@ use crate::grants::read_stairs;
 use crate::orders::Order;
 use crate::serves::read_serve;
 use canonical_words::{parse_init, parse_list, parse_move};
+use command_line::rule_words::RuleWord;
+use command_line::{Setting, WordsFault, has_only, optional_value, read_settings, single_value};
 use no_memory::NoMemory;
-use option_words::{Setting, WordsFault, has_only, optional_value, read_settings, single_value};
 use rail_types::List;
-use rule_words::RuleWord;
 use std::alloc::Global;
 
 /// Reads words as an order. Any words that spell no order are `NotUnderstood`.

@@ -7,11 +7,11 @@ ghost use Rattle.command_words.specs.declared.orders.Order.{Order as order_type}
 use crate::file_names::file_names;
 use crate::orders::Order;
 use canonical_words::parse_serve;
-use client_words::read_clients;
+use command_line::client_words::read_clients;
+use command_line::proof_words::read_proofs;
+use command_line::rule_words::read_rules;
+use command_line::{Setting, WordsFault, has_only, single_value, values_of};
 use no_memory::NoMemory;
-use option_words::{Setting, WordsFault, has_only, single_value, values_of};
-use proof_words::read_proofs;
-use rule_words::read_rules;
 use std::alloc::Global;
 
 /// The order that options of `serve` ask for.

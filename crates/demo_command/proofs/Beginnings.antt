@@ -1,9 +1,9 @@
 -- How the lines of replies begin.
 use Rattle.std.proofs.Common.{◌≡◌, refl, codes}
-use Rattle.reply_texts.specs.declared.replies.Reply.{Reply}
-use Rattle.reply_texts.specs.declared.replies.Reply.TheVariants as reply
-use Rattle.reply_texts.specs.Fields.{line_of, spaced}
-use Rattle.reply_texts.specs.Replies.{reply_fields}
+use Rattle.client_lines.specs.declared.reply_texts.replies.Reply.{Reply}
+use Rattle.client_lines.specs.declared.reply_texts.replies.Reply.TheVariants as reply
+use Rattle.client_lines.specs.Fields.{line_of, spaced}
+use Rattle.client_lines.specs.Replies.{reply_fields}
 use Rattle.demo_command.specs.Counts.{begins}
 use Rattle.demo_command.specs.Sessions.{is_granted, is_no_path}
 

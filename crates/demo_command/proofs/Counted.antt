@@ -3,9 +3,9 @@ use Rattle.std.proofs.Common.{◌≡◌, ◌∙◌, ℕ, List, [], ◌∷◌, Bo
 use Rattle.std.specs.Prelude.{filter, if◌then◌else◌, nat_eq}
 use Rattle.std.specs.List.{slice_split}
 use Rattle.std.proofs.lemmas.List.Splits.{slice_split_at}
-use Rattle.reply_texts.specs.declared.replies.Reply.{Reply}
-use Rattle.reply_texts.specs.Fields.{line_of}
-use Rattle.reply_texts.specs.Replies.{reply_fields}
+use Rattle.client_lines.specs.declared.reply_texts.replies.Reply.{Reply}
+use Rattle.client_lines.specs.Fields.{line_of}
+use Rattle.client_lines.specs.Replies.{reply_fields}
 use Rattle.line_sessions.specs.Told.{text_told, Told}
 use Rattle.demo_command.specs.Counts.{begins, count_lines}
 use Rattle.demo_command.specs.Sessions.{count_told}

@@ -9,10 +9,10 @@ use Rattle.line_sessions.specs.Told.{Told}
 use Rattle.outside_io.specs.StoredDisks.{DiskInMemory}
 use Rattle.path_commit.specs.Ledgers.{Ledger}
 use Rattle.rail_types.specs.declared.entries.Entry.{Entry}
-use Rattle.reply_texts.specs.declared.replies.Reply.{Reply}
-use Rattle.reply_texts.specs.declared.replies.Reply.TheVariants as reply
-use Rattle.client_seats.specs.Runs.{IsRun, is_owned, owned}
-use Rattle.client_seats.specs.Talks.{printed, Talk}
+use Rattle.client_lines.specs.declared.reply_texts.replies.Reply.{Reply}
+use Rattle.client_lines.specs.declared.reply_texts.replies.Reply.TheVariants as reply
+use Rattle.request_server.specs.ClientRuns.{IsRun, is_owned, owned}
+use Rattle.request_server.specs.Talks.{printed, Talk}
 use Rattle.demo_command.specs.Sessions.{count_told, demo_names, IsDecided, is_granted, is_no_path}
 use Rattle.demo_command.proofs.Decided.{counted, flag}
 

@@ -7,7 +7,7 @@ use Rattle.std.proofs.lemmas.List.{append-nil, length-map}
 use Rattle.admission_rules.specs.declared.quotas.Quota.{Quota}
 use Rattle.admission_rules.specs.declared.rules.Rule.{Ghosts as Rules}
 use Rattle.client_lines.specs.Names.{Names}
-use Rattle.client_rules.specs.Ruled.{stand}
+use Rattle.admission_rules.specs.Ruled.{stand}
 use Rattle.line_sessions.specs.Ends.{EndsAtInput, EndsBy, streams, Streams}
 use Rattle.line_sessions.specs.Lines.{ended, HasNoEnd, lines_of}
 use Rattle.line_sessions.specs.Told.{lines_told, text_told}
@@ -17,8 +17,8 @@ use Rattle.line_sessions.proofs.SessionSteps.{lines_of-ended}
 use Rattle.outside_io.specs.Memory.{InputInMemory, OutputInMemory}
 use Rattle.outside_io.specs.StoredDisks.{DiskInMemory}
 use Rattle.path_commit.specs.Ledgers.{Ledger}
-use Rattle.client_seats.specs.Runs.{AreMatched, IsRun, told_own}
-use Rattle.client_seats.specs.Talks.{Talk}
+use Rattle.request_server.specs.ClientRuns.{AreMatched, IsRun, told_own}
+use Rattle.request_server.specs.Talks.{Talk}
 use Rattle.line_sessions.specs.Proofs.{is_wanted}
 use Rattle.request_server.specs.Runs.{IsServed, WereServed}
 use Rattle.demo_command.specs.declared.summaries.Counts.{Counts}

@@ -12,13 +12,13 @@ use Rattle.rail_types.specs.declared.entries.Owner.TheVariants.{Base, Entry}
 use Rattle.rail_types.specs.declared.entries.Deed.{Deed}
 use Rattle.rail_types.specs.declared.entries.Deed.TheVariants.{Hold, Grant, Free}
 use Rattle.json_fields.specs.Escapes.{escaped, escaped_byte, hex_digit, is_plain}
-use Rattle.rule_names.specs.Names.{name_text}
-use Rattle.rule_names.specs.declared.RuleName.{RuleName}
-use Rattle.rule_names.specs.declared.RuleName.TheVariants.{Quota, Curfew, Longest, Own}
-use Rattle.reply_texts.specs.declared.replies.Reply.{Reply}
-use Rattle.reply_texts.specs.declared.replies.Reply.TheVariants as reply
-use Rattle.reply_texts.specs.Fields.{claim_fields, flag_field, line_of, run_fields, spaced}
-use Rattle.reply_texts.specs.Replies.{at_front, deed_fields, freed_fields, hold_fields, holds_fields, owner_fields, reply_fields, runs_fields, state_fields}
+use Rattle.admission_rules.specs.Names.{name_text}
+use Rattle.admission_rules.specs.declared.rule_names.RuleName.{RuleName}
+use Rattle.admission_rules.specs.declared.rule_names.RuleName.TheVariants.{Quota, Curfew, Longest, Own}
+use Rattle.client_lines.specs.declared.reply_texts.replies.Reply.{Reply}
+use Rattle.client_lines.specs.declared.reply_texts.replies.Reply.TheVariants as reply
+use Rattle.client_lines.specs.Fields.{claim_fields, flag_field, line_of, run_fields, spaced}
+use Rattle.client_lines.specs.Replies.{at_front, deed_fields, freed_fields, hold_fields, holds_fields, owner_fields, reply_fields, runs_fields, state_fields}
 
 -- a byte that ends no line
 abbrev pub IsOther : ℕ → Type 0

@@ -3,9 +3,9 @@ use Rattle.std.proofs.Common.{◌≡◌, ◌≢◌, ◌∙◌, ◌⊎◌, ℕ, L
 use Rattle.outside_io.specs.Openings.{Undisturbed, sink_at}
 use Rattle.outside_io.specs.Places.{Untouched}
 use Rattle.outside_io.specs.declared.sinks.Sink.{Ghosts as Sinks}
-use Rattle.exit_status.specs.declared.Status.{Status}
-use Rattle.exit_status.specs.declared.Status.TheVariants.{Done, Words, Opening, Report, Memory}
-use Rattle.file_rounds.specs.Scenes.{Scene}
+use Rattle.command_reports.specs.declared.exit_status.Status.{Status}
+use Rattle.command_reports.specs.declared.exit_status.Status.TheVariants.{Done, Words, Opening, Report, Memory}
+use Rattle.command_reports.specs.Scenes.{Scene}
 use Rattle.command_reports.specs.Refusals.{status_of}
 use Rattle.command_reports.specs.Reports.{EndSays}
 use Rattle.command_reports.specs.Works.{KeepsTo, Makes, Runs}

@@ -11,10 +11,10 @@ use Rattle.rail_types.specs.Flaws.{first_flaw}
 use Rattle.rail_types.specs.Limits.{IsSettingsWithinLimits, IsTrainWithinLimits}
 use Rattle.rail_types.specs.Timetables.{IsTimetable}
 use Rattle.rail_types.specs.declared.limits.TheConstants.{MAX_ID_BYTES, MAX_OBJECTS}
-use Rattle.named_network.specs.Named.{IsId, IsNamed}
-use Rattle.named_network.specs.declared.BlockName.{BlockName}
-use Rattle.named_network.specs.declared.TrackPiece.{TrackPiece}
-use Rattle.named_network.specs.declared.ZoneName.{ZoneName}
+use Rattle.rail_types.specs.Named.{IsId, IsNamed}
+use Rattle.rail_types.specs.declared.named_network.BlockName.{BlockName}
+use Rattle.rail_types.specs.declared.named_network.TrackPiece.{TrackPiece}
+use Rattle.rail_types.specs.declared.named_network.ZoneName.{ZoneName}
 use Rattle.demo_command.specs.Railways.{block_count, block_name_at, demo_network, demo_railway, demo_settings, demo_timetable, demo_train, first_block_names, first_blocks, first_zone_names, piece_at, zone_name_at}
 
 without_flaw : first_flaw demo_network ≡ None

@@ -2,10 +2,10 @@
 -- signal every 2000 m, and one route along it; a timetable without planned trains, and one train.
 use Rattle.std.specs.Prelude.{ℕ, zero, suc, false, ◌+◌, ◌*◌, ◌-◌, List, [], ◌∷◌, ◌++◌, codes}
 use Rattle.std.specs.Prelude.{nat_eq, if◌then◌else◌}
-use Rattle.named_network.specs.declared.BlockName.{BlockName}
-use Rattle.named_network.specs.declared.Named.{Named}
-use Rattle.named_network.specs.declared.TrackPiece.{TrackPiece}
-use Rattle.named_network.specs.declared.ZoneName.{ZoneName}
+use Rattle.rail_types.specs.declared.named_network.BlockName.{BlockName}
+use Rattle.rail_types.specs.declared.named_network.Named.{Named}
+use Rattle.rail_types.specs.declared.named_network.TrackPiece.{TrackPiece}
+use Rattle.rail_types.specs.declared.named_network.ZoneName.{ZoneName}
 use Rattle.rail_types.specs.Timetables.{Timetable, timetable_of}
 use Rattle.rail_types.specs.declared.bases.Base.{Base}
 use Rattle.rail_types.specs.declared.entries.Settings.{Settings}

@@ -5,10 +5,10 @@ use Rattle.client_lines.specs.Names.{Names}
 use Rattle.line_sessions.specs.Told.{lines_told, Told}
 use Rattle.outside_io.specs.StoredDisks.{DiskInMemory}
 use Rattle.path_commit.specs.Ledgers.{Ledger}
-use Rattle.reply_texts.specs.declared.replies.Reply.{Reply}
-use Rattle.reply_texts.specs.declared.replies.Reply.TheVariants as reply
-use Rattle.client_seats.specs.Runs.{IsRun}
-use Rattle.client_seats.specs.Talks.{Talk}
+use Rattle.client_lines.specs.declared.reply_texts.replies.Reply.{Reply}
+use Rattle.client_lines.specs.declared.reply_texts.replies.Reply.TheVariants as reply
+use Rattle.request_server.specs.ClientRuns.{IsRun}
+use Rattle.request_server.specs.Talks.{Talk}
 use Rattle.demo_command.specs.Lines.{demo_lines}
 use Rattle.demo_command.specs.Railways.{demo_railway, demo_timetable, demo_train}
 

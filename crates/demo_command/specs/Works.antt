@@ -2,9 +2,9 @@
 use Rattle.std.specs.Prelude.{ℕ, List, [], ◌∷◌, Result}
 use Rattle.outside_io.specs.Openings.{Opening, sink_at}
 use Rattle.outside_io.specs.declared.sinks.Sink.{Ghosts as Sinks}
-use Rattle.exit_status.specs.declared.Status.{Status}
-use Rattle.file_rounds.specs.Scenes.{Scene}
-use Rattle.file_rounds.specs.Writing.{TookAll}
+use Rattle.command_reports.specs.declared.exit_status.Status.{Status}
+use Rattle.command_reports.specs.Scenes.{Scene}
+use Rattle.command_reports.specs.Writing.{TookAll}
 use Rattle.command_reports.specs.Works.{Follows, Makes}
 use Rattle.command_reports.specs.declared.refusals.Refusal.{Refusal}
 use Rattle.command_files.specs.Outs.{OutStep, Writes}

@@ -5,10 +5,10 @@ ghost use Rattle.path_commit.specs.Ledgers.{settled_of};
 ghost use Rattle.demo_command.specs.Railways.{demo_network, demo_timetable};
 
 use crate::railways::base;
-use history_reading::one_reading;
 use no_memory::NoMemory;
 use outside_io::MemDisk;
 use path_commit::Book;
+use path_recover::history_reading::one_reading;
 use path_recover::{init, open};
 use rail_types::Network;
 use std::alloc::Global;

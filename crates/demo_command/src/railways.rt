@@ -6,8 +6,8 @@ ghost use Rattle.demo_command.specs.Railways.{demo_network, demo_railway, first_
 ghost use Rattle.demo_command.specs.Railways.{first_blocks, first_zone_names, piece_at, served_by};
 ghost use Rattle.demo_command.specs.Railways.{zone_name_at};
 
-use named_network::{BlockName, Named, TrackPiece, ZoneName};
 use no_memory::NoMemory;
+use rail_types::named_network::{BlockName, Named, TrackPiece, ZoneName};
 use rail_types::{Base, Block, Cell, List, Name, Network, Settings};
 use std::alloc::Global;
 

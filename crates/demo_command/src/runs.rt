@@ -3,13 +3,13 @@
 ghost use Rattle.std.specs.Prelude.{◌≡◌, ◌≢◌};
 ghost use Rattle.outside_io.specs.Openings.{Undisturbed};
 ghost use Rattle.outside_io.specs.Places.{Untouched};
-ghost use Rattle.file_rounds.specs.Scenes.{scene};
+ghost use Rattle.command_reports.specs.Scenes.{scene};
 ghost use Rattle.command_reports.specs.Works.{Runs};
 ghost use Rattle.demo_command.specs.Works.{demo_calls, DemoWorks, IsShown};
 
 use crate::works::work;
+use command_reports::exit_status::Status;
 use command_reports::finish;
-use exit_status::Status;
 use outside_io::Outside;
 use std::alloc::AllocGlobal;
 use std::sync::Wait;

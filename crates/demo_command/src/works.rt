@@ -1,12 +1,12 @@
 //! The work of `demo`: holds the session in memory, and writes its line.
 
-ghost use Rattle.file_rounds.specs.Scenes.{scene};
+ghost use Rattle.command_reports.specs.Scenes.{scene};
 ghost use Rattle.demo_command.specs.Works.{DemoWorks};
 
 use crate::sessions::line_of;
 use command_files::write_out;
 use command_reports::Refusal;
-use exit_status::Status;
+use command_reports::exit_status::Status;
 use outside_io::Outside;
 use std::alloc::AllocGlobal;
 use std::sync::Wait;

@@ -13,3 +13,8 @@ pub mod Indexed
 pub mod Marks
 pub mod Repeats
 pub mod HeldAlike
+pub mod Elements
+pub mod Counted
+pub mod Pairs
+pub mod Gaining
+pub mod Bringing

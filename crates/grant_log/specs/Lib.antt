@@ -5,3 +5,5 @@ pub mod Meanings
 pub mod Legal
 pub mod Following
 pub mod Inside
+pub mod Rooms
+pub mod Since

@@ -3,6 +3,7 @@
 
 mod clashes;
 mod contents;
+pub mod copy_since;
 mod histories;
 mod keys;
 mod laws;

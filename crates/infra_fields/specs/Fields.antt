@@ -6,7 +6,7 @@ use Rattle.serde_json.specs.Data.{Data, Items, no_items, item}
 use Rattle.serde_json.specs.Find.{get, as_array, as_object, as_str}
 use Rattle.decimal_quote.specs.declared.values.NotWhole.{NotWhole}
 use Rattle.decimal_quote.specs.declared.values.NotWhole.TheVariants as not_whole
-use Rattle.id_lists.specs.Ids.{number_of, is_known}
+use Rattle.rail_types.specs.IdLists.{number_of, is_known}
 use Rattle.rail_types.specs.declared.limits.TheConstants.{MAX_ID_BYTES, MAX_OBJECTS}
 use Rattle.json_fields.specs.declared.spots.Spot.{Spot}
 use Rattle.json_fields.specs.Numbers.{whole_value, scaled_value, count_value}

@@ -6,18 +6,20 @@ use Rattle.std.specs.Str.{bytes_eq}
 use Rattle.serde_json.specs.Data.{Data}
 use Rattle.json_fields.specs.Places.{FilePlace, spot_of}
 use Rattle.json_fields.specs.Reading.{◌>>=◌, or_fault}
-use Rattle.infra_types.specs.declared.ends.Direction.{Direction}
-use Rattle.infra_types.specs.declared.ends.Direction.TheVariants as directions
-use Rattle.infra_types.specs.declared.ends.End.{End}
-use Rattle.infra_types.specs.declared.ends.End.TheVariants as ends
-use Rattle.infra_types.specs.declared.ends.Applies.{Applies}
-use Rattle.infra_types.specs.declared.ends.Applies.TheVariants as applying
-use Rattle.infra_types.specs.declared.switches.SwitchKind.{SwitchKind}
-use Rattle.infra_types.specs.declared.switches.SwitchKind.TheVariants.{Point, Link, Crossing}
-use Rattle.infra_types.specs.declared.switches.SwitchKind.TheVariants.{DoubleSlip}
-use Rattle.infra_types.specs.declared.switches.Group.{Group}
-use Rattle.infra_types.specs.declared.switches.Group.TheVariants.{AB1, AB2, A1B1, A1B2, A2B1, A2B2}
-use Rattle.infra_types.specs.declared.switches.Group.TheVariants.{Other}
+use Rattle.rail_types.specs.declared.infra_types.ends.Direction.{Direction}
+use Rattle.rail_types.specs.declared.infra_types.ends.Direction.TheVariants as directions
+use Rattle.rail_types.specs.declared.infra_types.ends.End.{End}
+use Rattle.rail_types.specs.declared.infra_types.ends.End.TheVariants as ends
+use Rattle.rail_types.specs.declared.infra_types.ends.Applies.{Applies}
+use Rattle.rail_types.specs.declared.infra_types.ends.Applies.TheVariants as applying
+use Rattle.rail_types.specs.declared.infra_types.switches.SwitchKind.{SwitchKind}
+use Rattle.rail_types.specs.declared.infra_types.switches.SwitchKind.TheVariants.{Point, Link}
+use Rattle.rail_types.specs.declared.infra_types.switches.SwitchKind.TheVariants.{Crossing}
+use Rattle.rail_types.specs.declared.infra_types.switches.SwitchKind.TheVariants.{DoubleSlip}
+use Rattle.rail_types.specs.declared.infra_types.switches.Group.{Group}
+use Rattle.rail_types.specs.declared.infra_types.switches.Group.TheVariants.{AB1, AB2, A1B1, A1B2}
+use Rattle.rail_types.specs.declared.infra_types.switches.Group.TheVariants.{A2B1, A2B2}
+use Rattle.rail_types.specs.declared.infra_types.switches.Group.TheVariants.{Other}
 use Rattle.infra_fields.specs.declared.words.Port.{Port}
 use Rattle.infra_fields.specs.declared.words.Port.TheVariants as port
 use Rattle.infra_fields.specs.declared.faults.InfraFault.{InfraFault}

@@ -4,9 +4,9 @@ ghost use Rattle.std.specs.Prelude.{◌≡◌, ◌<◌, ◌≤◌, ◌^◌, ℤ,
 ghost use Rattle.std.specs.Prelude.{option_map};
 ghost use Rattle.serde_json.specs.View.{view};
 ghost use Rattle.decimal_quote.specs.declared.values.NotWhole.{NotWhole};
-ghost use Rattle.id_lists.specs.Ids.{is_known};
+ghost use Rattle.rail_types.specs.IdLists.{is_known};
 ghost use Rattle.json_fields.specs.Places.{spot_of};
-ghost use Rattle.named_network.specs.Named.{IsId};
+ghost use Rattle.rail_types.specs.Named.{IsId};
 ghost use Rattle.rail_types.specs.declared.limits.TheConstants.{MAX_OBJECTS};
 ghost use Rattle.infra_fields.specs.Fields.{Gives, object_at, found_at, text_of, text_at};
 ghost use Rattle.infra_fields.specs.Fields.{limited_id, id_at, new_id_at, known_number, number_at};
@@ -15,8 +15,8 @@ ghost use Rattle.infra_fields.specs.Fields.{list_found, list_at, few, elements_i
 
 use crate::faults::{InfraFault, What};
 use decimal_quote::NotWhole;
-use id_lists::{HasId, Listed};
 use json_fields::{Place, count_in, scaled_in, whole_in};
+use rail_types::id_lists::{HasId, Listed};
 use rail_types::{MAX_ID_BYTES, MAX_OBJECTS, Name};
 use serde_json::Value;
 use std::alloc::Global;

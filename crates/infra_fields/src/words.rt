@@ -9,8 +9,8 @@ ghost use Rattle.infra_fields.specs.Words.{ports_of, port_name, port_within};
 
 use crate::faults::InfraFault;
 use crate::fields::text;
-use infra_types::{Applies, Direction, End, Group, SwitchKind};
 use json_fields::Place;
+use rail_types::infra_types::{Applies, Direction, End, Group, SwitchKind};
 use serde_json::Value;
 use std::alloc::Global;
 

@@ -4,15 +4,15 @@ use Rattle.outside_io.specs.Openings.{Opening, source_at, disk_at}
 use Rattle.outside_io.specs.declared.disks.Disk.{Ghosts as Disks}
 use Rattle.outside_io.specs.declared.sinks.Sink.{Ghosts as Sinks}
 use Rattle.outside_io.specs.declared.sources.Source.{Ghosts as Sources}
-use Rattle.exit_status.specs.declared.Status.{Status}
-use Rattle.exit_status.specs.declared.Status.TheVariants.{Done, Words, Network, Base, Journal, Opening as not_opened, DiskFault, Memory}
-use Rattle.file_rounds.specs.Scenes.{Scene}
-use Rattle.journal_reading.specs.declared.beginning.InitFault.{InitFault}
-use Rattle.journal_reading.specs.declared.beginning.InitFault.TheVariants.{NotEmpty, Fault}
-use Rattle.journal_reading.specs.declared.faults.OpenFault.{OpenFault}
-use Rattle.journal_reading.specs.declared.faults.OpenFault.TheVariants.{ReadFault, Empty, OldVersion, NotAJournal, OtherNetwork, OtherBase, Damaged, Illegal, Memory as of_open}
-use Rattle.history_reading.specs.declared.moves.MoveFault.{MoveFault}
-use Rattle.history_reading.specs.declared.moves.MoveFault.TheVariants.{NotEmpty as has_bytes, From, Fault as disk_fault, Memory as of_move}
+use Rattle.command_reports.specs.declared.exit_status.Status.{Status}
+use Rattle.command_reports.specs.declared.exit_status.Status.TheVariants.{Done, Words, Network, Base, Journal, Opening as not_opened, DiskFault, Memory}
+use Rattle.command_reports.specs.Scenes.{Scene}
+use Rattle.path_recover.specs.declared.journal_reading.beginning.InitFault.{InitFault}
+use Rattle.path_recover.specs.declared.journal_reading.beginning.InitFault.TheVariants.{NotEmpty, Fault}
+use Rattle.path_recover.specs.declared.journal_reading.faults.OpenFault.{OpenFault}
+use Rattle.path_recover.specs.declared.journal_reading.faults.OpenFault.TheVariants.{ReadFault, Empty, OldVersion, NotAJournal, OtherNetwork, OtherBase, Damaged, Illegal, Memory as of_open}
+use Rattle.path_recover.specs.declared.history_reading.moves.MoveFault.{MoveFault}
+use Rattle.path_recover.specs.declared.history_reading.moves.MoveFault.TheVariants.{NotEmpty as has_bytes, From, Fault as disk_fault, Memory as of_move}
 use Rattle.command_reports.specs.Refusals.{status_of}
 use Rattle.command_reports.specs.Reports.{EndSays}
 use Rattle.command_reports.specs.Works.{KeepsTo, Runs}

@@ -5,7 +5,7 @@ use Rattle.outside_io.specs.Openings.{Opening, source_at, sink_at, the_report, d
 use Rattle.outside_io.specs.Places.{Place, hidden, kept, lent, empty, HandsOut, IsKeptAt, place_once_opened, place_once_returned, Replaces, TakesBack}
 use Rattle.outside_io.proofs.Names.{name_cases}
 use Rattle.outside_io.proofs.Places.{Replaces-returned}
-use Rattle.file_rounds.specs.Scenes.{IsReady, IsShut, Scene}
+use Rattle.command_reports.specs.Scenes.{IsReady, IsShut, Scene}
 use Rattle.command_reports.specs.Works.{Keeps, KeepsTo}
 use Rattle.command_reports.specs.declared.refusals.Refusal.{Refusal}
 use Rattle.init_command.specs.Disks.{ChangesOnlyDisk}

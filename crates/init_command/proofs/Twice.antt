@@ -7,9 +7,9 @@ use Rattle.outside_io.specs.Openings.{Opening, Opens as CallsOf, disk_at, Answer
 use Rattle.outside_io.specs.Places.{HandsOut, TakesBack, Untouched}
 use Rattle.outside_io.specs.declared.disks.Disk.{Ghosts as Disks}
 use Rattle.outside_io.proofs.Places.{Untouched-round}
-use Rattle.exit_status.specs.declared.Status.TheVariants.{Opening as not_opened}
-use Rattle.file_rounds.specs.Scenes.{Opens, Scene}
-use Rattle.history_reading.specs.declared.moves.MoveFault.{MoveFault}
+use Rattle.command_reports.specs.declared.exit_status.Status.TheVariants.{Opening as not_opened}
+use Rattle.command_reports.specs.Scenes.{Opens, Scene}
+use Rattle.path_recover.specs.declared.history_reading.moves.MoveFault.{MoveFault}
 use Rattle.command_files.specs.declared.bases.BaseFile.{BaseFile}
 use Rattle.command_files.specs.declared.networks.NetworkFile.{NetworkFile}
 use Rattle.command_reports.specs.Refusals.{IsTold, line_with}

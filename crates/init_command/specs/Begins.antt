@@ -5,14 +5,15 @@ use Rattle.outside_io.specs.Faults.{Rose}
 use Rattle.outside_io.specs.Openings.{disk_at}
 use Rattle.outside_io.specs.Places.{Replaces, Untouched}
 use Rattle.outside_io.specs.declared.disks.Disk.{Ghosts}
-use Rattle.exit_status.specs.declared.Status.{Status}
-use Rattle.exit_status.specs.declared.Status.TheVariants.{Done, Journal, DiskFault}
-use Rattle.file_rounds.specs.Scenes.{IsReady, Opens, Scene}
-use Rattle.journal_text.specs.Headers.{header_of}
-use Rattle.journal_text.specs.Histories.{ReadsAs}
-use Rattle.journal_reading.specs.Beginning.{HasInitCause, IsNotEmpty, IsUntouched, WasEmpty}
-use Rattle.journal_reading.specs.declared.beginning.InitFault.{InitFault}
-use Rattle.journal_reading.specs.declared.beginning.InitFault.TheVariants.{NotEmpty, Fault}
+use Rattle.command_reports.specs.declared.exit_status.Status.{Status}
+use Rattle.command_reports.specs.declared.exit_status.Status.TheVariants.{Done, Journal, DiskFault}
+use Rattle.command_reports.specs.Scenes.{IsReady, Opens, Scene}
+use Rattle.grant_journal.specs.Headers.{header_of}
+use Rattle.grant_journal.specs.Histories.{ReadsAs}
+use Rattle.path_recover.specs.Beginning.{HasInitCause, IsNotEmpty, IsUntouched, WasEmpty}
+use Rattle.path_recover.specs.declared.journal_reading.beginning.InitFault.{InitFault}
+use Rattle.path_recover.specs.declared.journal_reading.beginning.InitFault.TheVariants.{NotEmpty}
+use Rattle.path_recover.specs.declared.journal_reading.beginning.InitFault.TheVariants.{Fault}
 use Rattle.path_recover.specs.Texts.{not_empty_text}
 use Rattle.command_reports.specs.Refusals.{IsTold, line_with}
 use Rattle.command_reports.specs.declared.refusals.Refusal.{Refusal}

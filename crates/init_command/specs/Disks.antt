@@ -4,8 +4,8 @@ use Rattle.outside_io.specs.Faults.{Rose}
 use Rattle.outside_io.specs.Openings.{disk_at, Undisturbed}
 use Rattle.outside_io.specs.Openings.{Opens as CallsOf}
 use Rattle.outside_io.specs.Places.{Replaces, Untouched}
-use Rattle.exit_status.specs.declared.Status.TheVariants.{Opening}
-use Rattle.file_rounds.specs.Scenes.{IsReady, Scene}
+use Rattle.command_reports.specs.declared.exit_status.Status.TheVariants.{Opening}
+use Rattle.command_reports.specs.Scenes.{IsReady, Scene}
 use Rattle.command_reports.specs.Refusals.{IsTold, line_with}
 use Rattle.command_reports.specs.declared.refusals.Refusal.{Refusal}
 

@@ -5,19 +5,21 @@ use Rattle.outside_io.specs.Faults.{Rose}
 use Rattle.outside_io.specs.Openings.{disk_at, Opening, Opens as CallsOf}
 use Rattle.outside_io.specs.Places.{Replaces, Untouched}
 use Rattle.outside_io.specs.declared.disks.Disk.{Ghosts}
-use Rattle.exit_status.specs.declared.Status.{Status}
-use Rattle.exit_status.specs.declared.Status.TheVariants.{Done, Journal, Opening as not_opened}
-use Rattle.exit_status.specs.declared.Status.TheVariants.{DiskFault}
-use Rattle.file_rounds.specs.Scenes.{IsReady, IsShut, Opens, Scene}
+use Rattle.command_reports.specs.declared.exit_status.Status.{Status}
+use Rattle.command_reports.specs.declared.exit_status.Status.TheVariants.{Done, Journal}
+use Rattle.command_reports.specs.declared.exit_status.Status.TheVariants.{Opening as not_opened}
+use Rattle.command_reports.specs.declared.exit_status.Status.TheVariants.{DiskFault}
+use Rattle.command_reports.specs.Scenes.{IsReady, IsShut, Opens, Scene}
 use Rattle.rail_types.specs.Timetables.{Timetable, timetable_of}
-use Rattle.journal_reading.specs.Beginning.{WasEmpty}
-use Rattle.journal_reading.specs.declared.faults.OpenFault.{OpenFault}
-use Rattle.journal_reading.specs.declared.faults.OpenFault.TheVariants.{ReadFault}
-use Rattle.history_reading.specs.Failing.{IsOnlyRead}
-use Rattle.history_reading.specs.Moving.{HasMoveCause, IsMoved, IsMoveRefused, IsUnwritten}
-use Rattle.history_reading.specs.declared.moves.MoveFault.{MoveFault}
-use Rattle.history_reading.specs.declared.moves.MoveFault.TheVariants.{NotEmpty, From, Fault}
-use Rattle.history_reading.specs.declared.moves.MoveFault.TheVariants.{Memory}
+use Rattle.path_recover.specs.Beginning.{WasEmpty}
+use Rattle.path_recover.specs.declared.journal_reading.faults.OpenFault.{OpenFault}
+use Rattle.path_recover.specs.declared.journal_reading.faults.OpenFault.TheVariants.{ReadFault}
+use Rattle.path_recover.specs.Failing.{IsOnlyRead}
+use Rattle.path_recover.specs.Moving.{HasMoveCause, IsMoved, IsMoveRefused, IsUnwritten}
+use Rattle.path_recover.specs.declared.history_reading.moves.MoveFault.{MoveFault}
+use Rattle.path_recover.specs.declared.history_reading.moves.MoveFault.TheVariants.{NotEmpty, From}
+use Rattle.path_recover.specs.declared.history_reading.moves.MoveFault.TheVariants.{Fault}
+use Rattle.path_recover.specs.declared.history_reading.moves.MoveFault.TheVariants.{Memory}
 use Rattle.path_recover.specs.Texts.{fault_text, not_empty_text}
 use Rattle.command_files.specs.declared.bases.BaseFile.{BaseFile}
 use Rattle.command_files.specs.declared.networks.NetworkFile.{NetworkFile}

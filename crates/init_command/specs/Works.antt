@@ -4,9 +4,9 @@ use Rattle.std.specs.Prelude.{ℕ, List, [], ◌∷◌, Result, Ok}
 use Rattle.outside_io.specs.Openings.{Opening, source_at, disk_at}
 use Rattle.outside_io.specs.declared.disks.Disk.{Ghosts as Disks}
 use Rattle.outside_io.specs.declared.sources.Source.{Ghosts as Sources}
-use Rattle.exit_status.specs.declared.Status.{Status}
-use Rattle.exit_status.specs.declared.Status.TheVariants.{Done}
-use Rattle.file_rounds.specs.Scenes.{Scene}
+use Rattle.command_reports.specs.declared.exit_status.Status.{Status}
+use Rattle.command_reports.specs.declared.exit_status.Status.TheVariants.{Done}
+use Rattle.command_reports.specs.Scenes.{Scene}
 use Rattle.command_reports.specs.Works.{Follows}
 use Rattle.command_reports.specs.declared.refusals.Refusal.{Refusal}
 use Rattle.command_files.specs.Files.{BaseStep, NetworkStep}

@@ -1,13 +1,13 @@
 //! A journal begun on a disk.
 
 ghost use Rattle.std.specs.Prelude.{◌≡◌};
-ghost use Rattle.file_rounds.specs.Scenes.{scene};
+ghost use Rattle.command_reports.specs.Scenes.{scene};
 ghost use Rattle.init_command.specs.Begins.{BeginStep, DiskSays, TellsInit};
 ghost use Rattle.init_command.specs.Disks.{ChangesOnlyDisk};
 
 use crate::refusals::{disk_failed, not_empty, not_opened};
 use command_reports::Refusal;
-use exit_status::Status;
+use command_reports::exit_status::Status;
 use outside_io::Outside;
 use path_recover::{InitFault, init};
 use std::alloc::Global;

@@ -1,7 +1,7 @@
 //! A journal of version 1 moved to a disk.
 
 ghost use Rattle.std.specs.Prelude.{◌≡◌};
-ghost use Rattle.file_rounds.specs.Scenes.{scene};
+ghost use Rattle.command_reports.specs.Scenes.{scene};
 ghost use Rattle.rail_types.specs.Timetables.{IsTimetable};
 ghost use Rattle.init_command.specs.Disks.{ChangesOnlyDisk};
 ghost use Rattle.init_command.specs.Moves.{DisksKeep, DisksSay, FromSays, MoveEnds, MoveStep};
@@ -10,7 +10,7 @@ ghost use Rattle.init_command.specs.Moves.{TellsFrom, TellsMove, timetable_on};
 use crate::refusals::{disk_failed, not_empty, not_opened};
 use command_files::{BaseFile, NetworkFile};
 use command_reports::Refusal;
-use exit_status::Status;
+use command_reports::exit_status::Status;
 use no_memory::NoMemory;
 use outside_io::{Disk, Outside};
 use path_recover::{MoveFault, OpenFault, fault_text, init_from};

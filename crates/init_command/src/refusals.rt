@@ -1,12 +1,13 @@
 //! Refusals of disks.
 
 ghost use Rattle.std.specs.Prelude.{codes};
-ghost use Rattle.exit_status.specs.declared.Status.TheVariants.{DiskFault, Journal, Opening};
+ghost use Rattle.command_reports.specs.declared.exit_status.Status.TheVariants.{DiskFault, Journal};
+ghost use Rattle.command_reports.specs.declared.exit_status.Status.TheVariants.{Opening};
 ghost use Rattle.command_reports.specs.Refusals.{IsTold, line_with};
 ghost use Rattle.path_recover.specs.Texts.{not_empty_text as text_of_len};
 
 use command_reports::Refusal;
-use exit_status::Status;
+use command_reports::exit_status::Status;
 use no_memory::NoMemory;
 use path_recover::not_empty_text;
 use std::alloc::Global;

@@ -3,14 +3,14 @@
 ghost use Rattle.std.specs.Prelude.{◌≡◌, ◌≢◌, ℕ, List};
 ghost use Rattle.outside_io.specs.Openings.{Undisturbed};
 ghost use Rattle.outside_io.specs.Places.{Untouched};
-ghost use Rattle.file_rounds.specs.Scenes.{scene};
+ghost use Rattle.command_reports.specs.Scenes.{scene};
 ghost use Rattle.command_reports.specs.Works.{Runs};
 ghost use Rattle.init_command.specs.Works.{BeginOver, init_calls, IsDone, move_calls, MoveOver};
 ghost use Rattle.init_command.specs.Works.{ReadsBoth};
 
 use crate::works::{begin, move_over};
+use command_reports::exit_status::Status;
 use command_reports::finish;
-use exit_status::Status;
 use outside_io::Outside;
 use std::alloc::Global;
 

@@ -1,8 +1,8 @@
 //! The work of `init`: reads the network and the base timetable, and then
 //! begins a journal, or moves one.
 
-ghost use Rattle.file_rounds.specs.Scenes.{scene};
-ghost use Rattle.named_network.specs.Named.{IsNamed};
+ghost use Rattle.command_reports.specs.Scenes.{scene};
+ghost use Rattle.rail_types.specs.Named.{IsNamed};
 ghost use Rattle.init_command.specs.Works.{BeginOver, MoveOver, ReadsBase, ReadsBoth};
 
 use crate::beginnings::begin_journal;
@@ -10,7 +10,7 @@ use crate::moving::move_journal;
 use base_file::bases_make_timetables;
 use command_files::{NetworkFile, read_base_file, read_network_file};
 use command_reports::Refusal;
-use exit_status::Status;
+use command_reports::exit_status::Status;
 use outside_io::Outside;
 use std::alloc::Global;
 

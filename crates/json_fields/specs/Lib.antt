@@ -4,3 +4,5 @@ pub mod Texts
 pub mod Places
 pub mod Spots
 pub mod Numbers
+pub mod NameReading
+pub mod Spellings

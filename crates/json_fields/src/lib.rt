@@ -3,6 +3,7 @@
 #![tactic(auto)]
 
 mod escapes;
+pub mod name_text;
 mod numbers;
 mod places;
 mod spots;

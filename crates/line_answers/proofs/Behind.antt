@@ -10,11 +10,11 @@ use Rattle.client_lines.specs.Forms.{Spells}
 use Rattle.client_lines.specs.Lines.{a_line}
 use Rattle.client_lines.specs.declared.asks.Ask.TheVariants as asks
 use Rattle.client_lines.specs.declared.asks.Line.{Line}
-use Rattle.client_rules.specs.Ruled.{stand}
+use Rattle.admission_rules.specs.Ruled.{stand}
 use Rattle.rail_types.specs.declared.entries.Entry.{Entry}
-use Rattle.reply_texts.specs.declared.replies.Reply.{Reply}
-use Rattle.reply_texts.specs.declared.replies.Reply.TheVariants as reply
-use Rattle.client_turns.specs.Turns.{Looks, Sight}
+use Rattle.client_lines.specs.declared.reply_texts.replies.Reply.{Reply}
+use Rattle.client_lines.specs.declared.reply_texts.replies.Reply.TheVariants as reply
+use Rattle.ask_turns.specs.Turns.{Looks, Sight}
 use Rattle.line_answers.specs.Answers.{Caller, Gives, GivesLine, IsReached}
 use Rattle.line_answers.specs.Callers.{AnswersLine, are_some}
 use Rattle.line_answers.specs.Calls.{AnswersBetween, AreSearches, EndInFault, EndPending, HasTurns, IsSettled, IsToldIn, IsTurnOf, LastFound, Settle, TakesOneTurn}

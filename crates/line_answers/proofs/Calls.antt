@@ -13,9 +13,9 @@ use Rattle.outside_io.specs.Faults.{Rose}
 use Rattle.plan_core.specs.declared.events.Event.TheVariants as event
 use Rattle.plan_core.specs.Pairs.{Pair}
 use Rattle.rail_types.specs.declared.entries.Entry.{Entry}
-use Rattle.reply_texts.specs.declared.replies.Reply.{Reply}
-use Rattle.reply_texts.specs.declared.replies.Reply.TheVariants as reply
-use Rattle.client_turns.specs.Turns.{CannotBegin, CannotSettle, IsAdded, Looks, Sight, TakesTurn}
+use Rattle.client_lines.specs.declared.reply_texts.replies.Reply.{Reply}
+use Rattle.client_lines.specs.declared.reply_texts.replies.Reply.TheVariants as reply
+use Rattle.ask_turns.specs.Turns.{CannotBegin, CannotSettle, IsAdded, Looks, Sight, TakesTurn}
 use Rattle.line_answers.specs.Answers.{Caller, GivesLine}
 use Rattle.line_answers.specs.Calls.{AnswersBetween, AreSearches, EndInFault, HasTurns, IsOf, IsSettled, IsToldIn, IsTurnOf, Settle, TakesEvent, TakesEvents, pair}
 use Rattle.line_answers.specs.Points.{added, unsettled_by}

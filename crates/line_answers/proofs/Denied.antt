@@ -9,12 +9,12 @@ use Rattle.grant_log.specs.Verdict.{place_of, verdict_by_place, verdict_on_free}
 use Rattle.rail_types.specs.declared.entries.Deed.{Deed}
 use Rattle.rail_types.specs.declared.entries.Deed.TheVariants.{Free}
 use Rattle.rail_types.specs.declared.entries.Entry.{Entry}
-use Rattle.reply_texts.specs.declared.replies.Reply.{Reply}
-use Rattle.reply_texts.specs.declared.replies.Reply.TheVariants as reply
-use Rattle.rule_names.specs.declared.RuleName.{RuleName}
-use Rattle.client_turns.specs.declared.told.Refusal.{Refusal}
-use Rattle.client_turns.specs.Told.{IsFoundAgain, IsRefusal}
-use Rattle.client_turns.specs.Turns.{Looks, Sight}
+use Rattle.client_lines.specs.declared.reply_texts.replies.Reply.{Reply}
+use Rattle.client_lines.specs.declared.reply_texts.replies.Reply.TheVariants as reply
+use Rattle.admission_rules.specs.declared.rule_names.RuleName.{RuleName}
+use Rattle.ask_turns.specs.declared.client_turns.told.Refusal.{Refusal}
+use Rattle.ask_turns.specs.Told.{IsFoundAgain, IsRefusal}
+use Rattle.ask_turns.specs.Turns.{Looks, Sight}
 use Rattle.line_answers.specs.Answers.{Caller, IsDeedOf, IsNewNumber, IsReached, MayBeDenied, entry_of, number_of}
 use Rattle.line_answers.specs.Callers.{AnswersLine}
 use Rattle.line_answers.specs.Tells.{TellsAgain}

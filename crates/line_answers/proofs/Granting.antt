@@ -10,7 +10,7 @@ use Rattle.client_lines.specs.declared.asks.Ask.TheVariants as asks
 use Rattle.client_lines.specs.declared.asks.Line.{Line}
 use Rattle.client_lines.specs.declared.faults.LineFault.{LineFault}
 use Rattle.client_lines.specs.declared.faults.LineFault.TheVariants as fault
-use Rattle.client_turns.specs.Turns.{Sight}
+use Rattle.ask_turns.specs.Turns.{Sight}
 use Rattle.grant_log.proofs.Places.{is_new}
 use Rattle.grant_log.specs.declared.verdicts.Verdict.{Verdict}
 use Rattle.grant_log.specs.declared.verdicts.Verdict.TheVariants as verdict
@@ -22,8 +22,8 @@ use Rattle.rail_types.specs.declared.entries.Wanted.TheVariants.{Asked}
 use Rattle.rail_types.specs.declared.limits.TheConstants.{MAX_PLACES}
 use Rattle.rail_types.specs.declared.trains.Request.{Request}
 use Rattle.rail_types.specs.Occupation.{HeldClaim}
-use Rattle.reply_texts.specs.declared.replies.Reply.{Reply}
-use Rattle.reply_texts.specs.declared.replies.Reply.TheVariants as reply
+use Rattle.client_lines.specs.declared.reply_texts.replies.Reply.{Reply}
+use Rattle.client_lines.specs.declared.reply_texts.replies.Reply.TheVariants as reply
 use Rattle.tail_states.specs.Listed.{HasMoreThan}
 use Rattle.line_answers.specs.Answers.{Caller, Gives, IsAllowed, IsFull, IsNarrow, IsNewNumber, IsReached, IsTold, entry_of}
 use Rattle.line_answers.specs.Asked.{asking}

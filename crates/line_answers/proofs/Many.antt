@@ -13,9 +13,9 @@ use Rattle.client_lines.specs.declared.asks.Line.{Line}
 use Rattle.outside_io.specs.Faults.{Rose}
 use Rattle.rail_types.specs.declared.entries.Entry.{Entry}
 use Rattle.rail_types.specs.Timetables.{Timetable}
-use Rattle.reply_texts.specs.declared.replies.Reply.{Reply}
-use Rattle.reply_texts.specs.declared.replies.Reply.TheVariants as reply
-use Rattle.client_turns.specs.Turns.{CannotBegin, CannotSettle, IsAdded, Looks, Sight, TakesTurn}
+use Rattle.client_lines.specs.declared.reply_texts.replies.Reply.{Reply}
+use Rattle.client_lines.specs.declared.reply_texts.replies.Reply.TheVariants as reply
+use Rattle.ask_turns.specs.Turns.{CannotBegin, CannotSettle, IsAdded, Looks, Sight, TakesTurn}
 use Rattle.ask_turns.specs.declared.asks.Ask.{Ask}
 use Rattle.ask_turns.specs.Tries.{HaveMissed}
 use Rattle.line_answers.specs.Answers.{Caller, GivesLine}

@@ -10,7 +10,7 @@ use Rattle.client_lines.specs.declared.asks.Ask.TheVariants as asks
 use Rattle.client_lines.specs.declared.asks.Line.{Line}
 use Rattle.client_lines.specs.declared.faults.LineFault.{LineFault}
 use Rattle.client_lines.specs.declared.faults.LineFault.TheVariants as fault
-use Rattle.client_rules.specs.Ruled.{Ruled}
+use Rattle.admission_rules.specs.Ruled.{Ruled}
 use Rattle.grant_log.specs.declared.verdicts.Verdict.TheVariants as verdict
 use Rattle.proof_texts.specs.Read.{AsksCanBeTold}
 use Rattle.rail_types.specs.declared.entries.Entry.{Entry}
@@ -18,16 +18,16 @@ use Rattle.rail_types.specs.declared.paths.Path.{Path}
 use Rattle.rail_types.specs.declared.paths.Run.{Run}
 use Rattle.rail_types.specs.declared.trains.Request.{Request}
 use Rattle.rail_types.specs.Timetables.{Timetable}
-use Rattle.reply_texts.specs.declared.replies.Reply.{Reply}
-use Rattle.reply_texts.specs.declared.replies.Reply.TheVariants as reply
-use Rattle.rule_names.specs.declared.RuleName.{RuleName}
-use Rattle.client_turns.specs.declared.halts.Halt.{Halt}
-use Rattle.client_turns.specs.declared.halts.Halt.TheVariants as halt
-use Rattle.client_turns.specs.declared.told.Entered.{Entered as Became}
-use Rattle.client_turns.specs.declared.told.Entered.TheVariants as became
-use Rattle.client_turns.specs.declared.told.Refusal.{Refusal}
-use Rattle.client_turns.specs.declared.told.Refusal.TheVariants as refusal
-use Rattle.client_turns.specs.Turns.{Looks, Sight, TakesTurn}
+use Rattle.client_lines.specs.declared.reply_texts.replies.Reply.{Reply}
+use Rattle.client_lines.specs.declared.reply_texts.replies.Reply.TheVariants as reply
+use Rattle.admission_rules.specs.declared.rule_names.RuleName.{RuleName}
+use Rattle.ask_turns.specs.declared.client_turns.halts.Halt.{Halt}
+use Rattle.ask_turns.specs.declared.client_turns.halts.Halt.TheVariants as halt
+use Rattle.ask_turns.specs.declared.client_turns.told.Entered.{Entered as Became}
+use Rattle.ask_turns.specs.declared.client_turns.told.Entered.TheVariants as became
+use Rattle.ask_turns.specs.declared.client_turns.told.Refusal.{Refusal}
+use Rattle.ask_turns.specs.declared.client_turns.told.Refusal.TheVariants as refusal
+use Rattle.ask_turns.specs.Turns.{Looks, Sight, TakesTurn}
 use Rattle.ask_turns.specs.declared.asks.Ask.{Ask}
 use Rattle.ask_turns.specs.declared.asks.Outcome.{Outcome}
 use Rattle.ask_turns.specs.declared.asks.Outcome.TheVariants as outcome

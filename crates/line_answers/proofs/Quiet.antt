@@ -2,9 +2,9 @@
 use Rattle.std.proofs.Common.{◌≡◌, ℕ, true, false, All, IfErr, IsOk, is_err, List, [], Result, Ok, Err, ◌∙◌, subst, refl}
 use Rattle.book_gate.specs.declared.views.Turn.{Turn}
 use Rattle.rail_types.specs.declared.entries.Entry.{Entry}
-use Rattle.reply_texts.specs.declared.replies.Reply.{Reply}
-use Rattle.reply_texts.specs.declared.replies.Reply.TheVariants as reply
-use Rattle.client_turns.specs.Turns.{Sight}
+use Rattle.client_lines.specs.declared.reply_texts.replies.Reply.{Reply}
+use Rattle.client_lines.specs.declared.reply_texts.replies.Reply.TheVariants as reply
+use Rattle.ask_turns.specs.Turns.{Sight}
 use Rattle.line_answers.specs.Answers.{Caller, GivesLine}
 use Rattle.line_answers.specs.Calls.{AnswersBetween, IsSettled, IsToldIn, Settle}
 use Rattle.line_answers.specs.Points.{added, unsettled_by}

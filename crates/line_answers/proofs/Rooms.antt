@@ -2,9 +2,9 @@
 use Rattle.std.proofs.Common.{◌⊎◌, ◌≤◌}
 use mathlib.Core.Logic.{inl, inr, ⊎_elim}
 use Rattle.byte_fields.specs.Buffered.{Buffered}
-use Rattle.reply_texts.specs.Rooms.{IsBehindEntry, room_for}
-use Rattle.reply_texts.specs.declared.replies.Reply.{Reply}
-use Rattle.client_turns.specs.declared.halts.Halt.{Halt}
+use Rattle.client_lines.specs.Rooms.{IsBehindEntry, room_for}
+use Rattle.client_lines.specs.declared.reply_texts.replies.Reply.{Reply}
+use Rattle.ask_turns.specs.declared.client_turns.halts.Halt.{Halt}
 use Rattle.line_answers.specs.Asked.{HasRoomIn}
 use Rattle.line_answers.specs.Tells.{AddsNothing, halt_reply}
 use Rattle.line_answers.proofs.Rows.{halt_short}

@@ -16,16 +16,16 @@ use Rattle.grant_log.specs.Live.{freed_by}
 use Rattle.grant_log.specs.Verdict.{verdict_on}
 use Rattle.rail_types.specs.declared.entries.Deed.{Deed}
 use Rattle.rail_types.specs.declared.entries.Entry.{Entry}
-use Rattle.reply_texts.specs.Rooms.{IsBehindEntry}
-use Rattle.reply_texts.specs.declared.replies.Reply.{Reply}
-use Rattle.reply_texts.specs.declared.replies.Reply.TheVariants as reply
-use Rattle.client_turns.specs.declared.halts.Halt.{Halt}
-use Rattle.client_turns.specs.declared.halts.Halt.TheVariants as halt
-use Rattle.client_turns.specs.declared.told.Entered.TheVariants.{Settled, Unsettled}
-use Rattle.client_turns.specs.declared.told.Refusal.{Refusal}
-use Rattle.client_turns.specs.declared.told.Refusal.TheVariants as refusal
-use Rattle.client_turns.specs.Told.{IsRefusal}
-use Rattle.client_turns.specs.Turns.{HasEntered, IsAdded, IsFullIn, IsHalted, IsRefusedIn, IsStopped, Looks, Sight}
+use Rattle.client_lines.specs.Rooms.{IsBehindEntry}
+use Rattle.client_lines.specs.declared.reply_texts.replies.Reply.{Reply}
+use Rattle.client_lines.specs.declared.reply_texts.replies.Reply.TheVariants as reply
+use Rattle.ask_turns.specs.declared.client_turns.halts.Halt.{Halt}
+use Rattle.ask_turns.specs.declared.client_turns.halts.Halt.TheVariants as halt
+use Rattle.ask_turns.specs.declared.client_turns.told.Entered.TheVariants.{Settled, Unsettled}
+use Rattle.ask_turns.specs.declared.client_turns.told.Refusal.{Refusal}
+use Rattle.ask_turns.specs.declared.client_turns.told.Refusal.TheVariants as refusal
+use Rattle.ask_turns.specs.Told.{IsRefusal}
+use Rattle.ask_turns.specs.Turns.{HasEntered, IsAdded, IsFullIn, IsHalted, IsRefusedIn, IsStopped, Looks, Sight}
 use Rattle.line_answers.specs.Answers.{Adds, Caller, GivesLine, IsAllowed, IsDeedOf, IsEntryOf, IsHold, IsNarrowLine, IsPin, IsReached, Leaves, entry_of, number_of}
 use Rattle.line_answers.specs.Callers.{AnswersLine}
 use Rattle.line_answers.specs.Calls.{AnswersBetween, HasTurns, IsOf, IsSettled, Settle}

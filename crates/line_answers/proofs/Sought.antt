@@ -16,17 +16,17 @@ use Rattle.rail_types.specs.declared.limits.TheConstants.{MAX_PLACES}
 use Rattle.rail_types.specs.declared.paths.Path.{Path}
 use Rattle.rail_types.specs.declared.paths.Run.{Run}
 use Rattle.rail_types.specs.declared.trains.Request.{Request}
-use Rattle.reply_texts.specs.declared.replies.Reply.{Reply}
-use Rattle.reply_texts.specs.declared.replies.Reply.TheVariants as reply
+use Rattle.client_lines.specs.declared.reply_texts.replies.Reply.{Reply}
+use Rattle.client_lines.specs.declared.reply_texts.replies.Reply.TheVariants as reply
 use Rattle.tail_states.specs.Listed.{HasMoreThan, Listed}
-use Rattle.client_turns.specs.declared.halts.Halt.{Halt}
-use Rattle.client_turns.specs.declared.halts.Halt.TheVariants as halt
-use Rattle.client_turns.specs.declared.told.Entered.{Entered as Became}
-use Rattle.client_turns.specs.declared.told.Entered.TheVariants as became
-use Rattle.client_turns.specs.declared.told.Refusal.{Refusal}
-use Rattle.client_turns.specs.declared.told.Refusal.TheVariants as refusal
-use Rattle.client_turns.specs.Told.{IsFoundAgain, IsRefusal}
-use Rattle.client_turns.specs.Turns.{IsAdded, IsReached as IsReachedBy, Looks, Sight}
+use Rattle.ask_turns.specs.declared.client_turns.halts.Halt.{Halt}
+use Rattle.ask_turns.specs.declared.client_turns.halts.Halt.TheVariants as halt
+use Rattle.ask_turns.specs.declared.client_turns.told.Entered.{Entered as Became}
+use Rattle.ask_turns.specs.declared.client_turns.told.Entered.TheVariants as became
+use Rattle.ask_turns.specs.declared.client_turns.told.Refusal.{Refusal}
+use Rattle.ask_turns.specs.declared.client_turns.told.Refusal.TheVariants as refusal
+use Rattle.ask_turns.specs.Told.{IsFoundAgain, IsRefusal}
+use Rattle.ask_turns.specs.Turns.{IsAdded, IsReached as IsReachedBy, Looks, Sight}
 use Rattle.ask_turns.specs.declared.asks.Ask.{Ask}
 use Rattle.ask_turns.specs.declared.asks.Outcome.{Outcome}
 use Rattle.ask_turns.specs.declared.asks.Outcome.TheVariants as outcome

@@ -12,20 +12,20 @@ use Rattle.client_lines.specs.declared.faults.LineFault.TheVariants as fault
 use Rattle.client_lines.specs.declared.asks.Ask.{Ask}
 use Rattle.client_lines.specs.declared.asks.Ask.TheVariants as asks
 use Rattle.client_lines.specs.declared.asks.Line.{Line}
-use Rattle.client_rules.specs.Ruled.{Ruled, denied_by, freed, granted}
-use Rattle.client_rules.specs.Told.{told_at, told_deed, told_of, wish_at}
-use Rattle.client_rules.specs.Wishes.{asked_wish, given_wish, wish_of}
+use Rattle.admission_rules.specs.Ruled.{Ruled, denied_by, freed, granted}
+use Rattle.admission_rules.specs.Told.{told_at, told_deed, told_of, wish_at}
+use Rattle.admission_rules.specs.Wishes.{asked_wish, given_wish, wish_of}
 use Rattle.grant_log.proofs.Slices.{slice_get_last}
 use Rattle.rail_types.specs.declared.entries.Deed.{Deed}
 use Rattle.rail_types.specs.declared.entries.Deed.TheVariants.{Hold, Grant, Free}
 use Rattle.rail_types.specs.declared.entries.Entry.{Entry}
 use Rattle.rail_types.specs.declared.entries.Wanted.TheVariants.{Asked}
-use Rattle.reply_texts.specs.declared.replies.Reply.{Reply}
-use Rattle.reply_texts.specs.declared.replies.Reply.TheVariants as reply
-use Rattle.rule_names.specs.declared.RuleName.{RuleName}
-use Rattle.client_turns.specs.declared.halts.Halt.{Halt}
-use Rattle.client_turns.specs.declared.halts.Halt.TheVariants as halt
-use Rattle.client_turns.specs.Turns.{Sight}
+use Rattle.client_lines.specs.declared.reply_texts.replies.Reply.{Reply}
+use Rattle.client_lines.specs.declared.reply_texts.replies.Reply.TheVariants as reply
+use Rattle.admission_rules.specs.declared.rule_names.RuleName.{RuleName}
+use Rattle.ask_turns.specs.declared.client_turns.halts.Halt.{Halt}
+use Rattle.ask_turns.specs.declared.client_turns.halts.Halt.TheVariants as halt
+use Rattle.ask_turns.specs.Turns.{Sight}
 use Rattle.line_answers.specs.Answers.{Adds, Caller, Gives, GivesLine, IsDeedOf, MayBeDenied, entry_of}
 use Rattle.line_answers.specs.Calls.{AnswersBetween}
 use Rattle.line_answers.specs.Points.{added}

@@ -24,9 +24,9 @@ use Rattle.rail_types.specs.declared.paths.Claim.{Claim}
 use Rattle.rail_types.specs.declared.paths.Path.{Path}
 use Rattle.rail_types.specs.declared.trains.Request.{Request}
 use Rattle.rail_types.specs.Timetables.{Timetable}
-use Rattle.reply_texts.specs.declared.replies.Reply.{Reply}
-use Rattle.reply_texts.specs.declared.replies.Reply.TheVariants as reply
-use Rattle.rule_names.specs.declared.RuleName.{RuleName}
+use Rattle.client_lines.specs.declared.reply_texts.replies.Reply.{Reply}
+use Rattle.client_lines.specs.declared.reply_texts.replies.Reply.TheVariants as reply
+use Rattle.admission_rules.specs.declared.rule_names.RuleName.{RuleName}
 use Rattle.tail_states.specs.Listed.{HasMoreThan}
 use Rattle.ask_turns.specs.Searched.{AreMissed, FitsAt, IsEarliestAt, IsPossibleAt}
 use Rattle.book_gate.specs.Views.{StartsWith}

@@ -5,12 +5,13 @@ use Rattle.client_lines.specs.declared.asks.Ask.TheVariants as asks
 use Rattle.client_lines.specs.declared.asks.Line.{Line}
 use Rattle.rail_types.specs.declared.paths.Run.{Run}
 use Rattle.rail_types.specs.declared.trains.Request.{Request}
-use Rattle.reply_texts.specs.declared.replies.Reply.{Reply}
-use Rattle.reply_texts.specs.declared.replies.Reply.TheVariants as reply
-use Rattle.reply_texts.specs.Rooms.{IsBehindEntry, room_for}
-use Rattle.client_turns.specs.declared.told.Entered.{Entered as Became}
-use Rattle.client_turns.specs.declared.told.Entered.TheVariants.{Settled, Unsettled, Refused, Full}
-use Rattle.client_turns.specs.Turns.{IsReached, Looks, Sight}
+use Rattle.client_lines.specs.declared.reply_texts.replies.Reply.{Reply}
+use Rattle.client_lines.specs.declared.reply_texts.replies.Reply.TheVariants as reply
+use Rattle.client_lines.specs.Rooms.{IsBehindEntry, room_for}
+use Rattle.ask_turns.specs.declared.client_turns.told.Entered.{Entered as Became}
+use Rattle.ask_turns.specs.declared.client_turns.told.Entered.TheVariants.{Settled, Unsettled}
+use Rattle.ask_turns.specs.declared.client_turns.told.Entered.TheVariants.{Refused, Full}
+use Rattle.ask_turns.specs.Turns.{IsReached, Looks, Sight}
 use Rattle.ask_turns.specs.declared.asks.Outcome.{Outcome}
 use Rattle.ask_turns.specs.declared.asks.Outcome.TheVariants.{Entered, NoPath, Again}
 use Rattle.ask_turns.specs.Finds.{IsNewNumber}

@@ -1,10 +1,10 @@
 -- Who calls.
 use Rattle.std.specs.Prelude.{◌≡◌, ℕ, Bool, true, false, List, [], ◌∷◌, Some, None}
 use Rattle.client_lines.specs.declared.asks.Line.{Line}
-use Rattle.client_rules.specs.Ruled.{Ruled}
-use Rattle.reply_texts.specs.declared.replies.Reply.{Reply}
-use Rattle.rule_names.specs.declared.RuleName.{RuleName}
-use Rattle.client_turns.specs.Turns.{Sight, timetable_at}
+use Rattle.admission_rules.specs.Ruled.{Ruled}
+use Rattle.client_lines.specs.declared.reply_texts.replies.Reply.{Reply}
+use Rattle.admission_rules.specs.declared.rule_names.RuleName.{RuleName}
+use Rattle.ask_turns.specs.Turns.{Sight, timetable_at}
 use Rattle.line_answers.specs.Answers.{Caller}
 use Rattle.line_answers.specs.Calls.{AnswersBetween}
 use Rattle.line_answers.specs.Rules.{IsReadAs, denial}

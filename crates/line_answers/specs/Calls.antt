@@ -15,9 +15,9 @@ use Rattle.plan_core.specs.declared.events.Event.TheVariants as event
 use Rattle.plan_core.specs.Pairs.{IsEventOfPair, Pair}
 use Rattle.rail_types.specs.declared.entries.Entry.{Entry}
 use Rattle.rail_types.specs.declared.trains.Request.{Request}
-use Rattle.reply_texts.specs.declared.replies.Reply.{Reply}
-use Rattle.reply_texts.specs.declared.replies.Reply.TheVariants as reply
-use Rattle.client_turns.specs.Turns.{Sight}
+use Rattle.client_lines.specs.declared.reply_texts.replies.Reply.{Reply}
+use Rattle.client_lines.specs.declared.reply_texts.replies.Reply.TheVariants as reply
+use Rattle.ask_turns.specs.Turns.{Sight}
 use Rattle.ask_turns.specs.Searched.{AreMissed}
 use Rattle.line_answers.specs.Answers.{Caller, GivesLine, IsEntryOf, IsSought}
 use Rattle.line_answers.specs.Points.{added, unsettled_by}

@@ -7,12 +7,12 @@ use Rattle.client_lines.specs.Forms.{Spells}
 use Rattle.client_lines.specs.Lines.{a_line}
 use Rattle.client_lines.specs.declared.asks.Ask.TheVariants as asks
 use Rattle.client_lines.specs.declared.asks.Line.{Line}
-use Rattle.client_turns.specs.Turns.{Sight}
+use Rattle.ask_turns.specs.Turns.{Sight}
 use Rattle.outside_io.specs.Faults.{Rose}
 use Rattle.rail_types.specs.declared.entries.Entry.{Entry}
 use Rattle.rail_types.specs.declared.trains.Request.{Request}
-use Rattle.reply_texts.specs.declared.replies.Reply.{Reply}
-use Rattle.reply_texts.specs.declared.replies.Reply.TheVariants as reply
+use Rattle.client_lines.specs.declared.reply_texts.replies.Reply.{Reply}
+use Rattle.client_lines.specs.declared.reply_texts.replies.Reply.TheVariants as reply
 use Rattle.line_answers.specs.Answers.{Caller, IsAllowed, IsFull, IsNarrow, IsNewNumber, IsReached}
 use Rattle.line_answers.specs.Calls.{AnswersBetween}
 

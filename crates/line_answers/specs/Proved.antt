@@ -3,7 +3,7 @@ use Rattle.std.specs.Prelude.{◌≡◌, ℕ, ◌≤◌, Bool, true, false, List
 use Rattle.std.specs.Prelude.{Some, None}
 use Rattle.book_gate.specs.declared.views.Turn.{Turn}
 use Rattle.book_gate.specs.Views.{StartsWith}
-use Rattle.certificates.specs.Certified.{Passes, excluded}
+use Rattle.path_labels.specs.Certified.{Passes, excluded}
 use Rattle.client_lines.specs.Cuts.{fields_of}
 use Rattle.client_lines.specs.Forms.{Spells}
 use Rattle.client_lines.specs.Lines.{a_line}
@@ -17,10 +17,10 @@ use Rattle.rail_types.specs.declared.entries.Entry.{Entry}
 use Rattle.rail_types.specs.declared.paths.Path.{Path}
 use Rattle.rail_types.specs.declared.trains.Request.{Request}
 use Rattle.rail_types.specs.Timetables.{Timetable}
-use Rattle.reply_texts.specs.declared.replies.Reply.{Reply}
-use Rattle.reply_texts.specs.declared.replies.Reply.TheVariants as reply
+use Rattle.client_lines.specs.declared.reply_texts.replies.Reply.{Reply}
+use Rattle.client_lines.specs.declared.reply_texts.replies.Reply.TheVariants as reply
 use Rattle.tail_states.specs.Listed.{Listed}
-use Rattle.client_turns.specs.Turns.{IsReached as IsReachedBy, Looks, Sight, timetable_at}
+use Rattle.ask_turns.specs.Turns.{IsReached as IsReachedBy, Looks, Sight, timetable_at}
 use Rattle.ask_turns.specs.Searched.{FitsAt, live_in}
 use Rattle.line_answers.specs.Answers.{IsReached}
 use Rattle.line_answers.specs.Asked.{asking}

@@ -8,13 +8,13 @@ use Rattle.client_lines.specs.Names.{Names}
 use Rattle.client_lines.specs.declared.asks.Ask.{Ask}
 use Rattle.client_lines.specs.declared.asks.Ask.TheVariants as asks
 use Rattle.client_lines.specs.declared.asks.Line.{Line}
-use Rattle.client_rules.specs.Ruled.{Ruled, denied_by, freed, granted}
-use Rattle.client_rules.specs.Told.{told_at}
-use Rattle.client_rules.specs.Wishes.{asked_wish, given_wish}
+use Rattle.admission_rules.specs.Ruled.{Ruled, denied_by, freed, granted}
+use Rattle.admission_rules.specs.Told.{told_at}
+use Rattle.admission_rules.specs.Wishes.{asked_wish, given_wish}
 use Rattle.rail_types.specs.declared.entries.Deed.{Deed}
 use Rattle.rail_types.specs.declared.entries.Entry.{Entry}
-use Rattle.reply_texts.specs.declared.replies.Reply.{Reply}
-use Rattle.rule_names.specs.declared.RuleName.{RuleName}
+use Rattle.client_lines.specs.declared.reply_texts.replies.Reply.{Reply}
+use Rattle.admission_rules.specs.declared.rule_names.RuleName.{RuleName}
 use Rattle.line_answers.specs.Answers.{IsDeedOf, MayBeDenied, number_of}
 use Rattle.line_answers.specs.Points.{added}
 

@@ -1,7 +1,7 @@
 //! The entries that lines ask for.
 ghost use Rattle.std.specs.Prelude.{◌≡◌, IfOk};
 
-use client_turns::Client;
+use ask_turns::client_turns::Client;
 use no_memory::NoMemory;
 use rail_types::{Deed, Entry};
 use std::alloc::Global;

@@ -3,7 +3,7 @@ ghost use Rattle.std.specs.Prelude.{◌≡◌, ◌≤◌, ◌⊎◌};
 ghost use Rattle.ask_turns.specs.Finds.{HasRoomFor, HasRoomOf};
 ghost use Rattle.ask_turns.specs.Tries.{IsOfNumber, IsRefusedByNumber};
 ghost use Rattle.byte_fields.specs.Buffered.{Buffered};
-ghost use Rattle.reply_texts.specs.Rooms.{room_for};
+ghost use Rattle.client_lines.specs.Rooms.{room_for};
 ghost use Rattle.line_answers.specs.Asked.{HasRoomIn, IsOutcomeTold, TellsAsk, TellsPath};
 ghost use Rattle.line_answers.specs.Proved.{kept_text};
 ghost use Rattle.line_answers.specs.Tells.{AddsNothing, IsFreeTold, IsHoldTold, IsPinTold};
@@ -11,12 +11,12 @@ ghost use Rattle.line_answers.specs.Tells.{TellsAgain, TellsFree, TellsHold, Tel
 ghost use Rattle.line_answers.specs.Tells.{halt_reply};
 
 use ask_turns::Outcome;
+use ask_turns::client_turns::{Entered, Halt, Refusal};
 use byte_fields::Buffer;
 use client_lines::LineFault;
-use client_turns::{Entered, Halt, Refusal};
+use client_lines::reply_texts::Reply;
 use grant_log::Verdict;
 use rail_types::{List, Run};
-use reply_texts::Reply;
 
 // What a line is told that was not read.
 pub(crate) fn unread(fault: LineFault) -> Reply

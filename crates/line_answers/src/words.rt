@@ -7,21 +7,21 @@ ghost use Rattle.client_lines.specs.declared.asks.Ask.TheVariants.{Free as free_
 ghost use Rattle.client_lines.specs.declared.asks.Ask.TheVariants.{Show as show_of};
 ghost use Rattle.client_lines.specs.declared.asks.Ask.TheVariants.{Front as front_of};
 ghost use Rattle.rail_types.specs.Limits.{IsClientName};
-ghost use Rattle.reply_texts.specs.Rooms.{IsBehindEntry};
-ghost use Rattle.client_turns.specs.Clients.{Knows};
-ghost use Rattle.client_turns.specs.Turns.{IsReady, timetable_at};
+ghost use Rattle.client_lines.specs.Rooms.{IsBehindEntry};
+ghost use Rattle.ask_turns.specs.Clients.{Knows};
+ghost use Rattle.ask_turns.specs.Turns.{IsReady, timetable_at};
 ghost use Rattle.line_answers.specs.Callers.{AnswersAllowed};
 ghost use Rattle.line_answers.specs.Tells.{AddsNothing};
 
 use crate::entries::entry_of;
 use crate::replies::{free_refused, halted, hold_refused, pin_refused};
 use crate::shared::Shared;
+use ask_turns::client_turns::{Client, Entered, enter_entry, look, show};
 use book_gate::Pass;
-use client_turns::{Client, Entered, enter_entry, look, show};
+use client_lines::reply_texts::Reply;
 use outside_io::Disk;
 use path_commit::Book;
 use rail_types::{Claim, Deed, List, Name, Path, Wanted};
-use reply_texts::Reply;
 use std::alloc::Global;
 use std::sync::Wait;
 

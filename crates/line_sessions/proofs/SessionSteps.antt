@@ -7,9 +7,9 @@ use Rattle.std.specs.List.{slice_split}
 use Rattle.std.specs.Io.KnownBytes.{Appends, Consumes, IsAtEnd, Keeps}
 use Rattle.std.proofs.KnownBytes.{Appends-kept, Appends-nil, Appends-trans, Consumes-kept, Consumes-nil, Consumes-trans}
 use Rattle.outside_io.specs.Faults.{Rose}
-use Rattle.reply_texts.specs.Fields.{line_of}
-use Rattle.reply_texts.specs.Replies.{reply_fields, reply_text}
-use Rattle.reply_texts.specs.declared.replies.Reply.{Reply}
+use Rattle.client_lines.specs.Fields.{line_of}
+use Rattle.client_lines.specs.Replies.{reply_fields, reply_text}
+use Rattle.client_lines.specs.declared.reply_texts.replies.Reply.{Reply}
 use Rattle.line_sessions.specs.declared.sessions.Answered.{Answered}
 use Rattle.line_sessions.specs.declared.sessions.Answered.TheVariants.{Whole, WriteFault as part_written, Memory as no_memory}
 use Rattle.line_sessions.specs.declared.sessions.TheConstants.{MAX_LINES}

@@ -4,9 +4,9 @@ use Rattle.std.specs.Prelude.{Option}
 use Rattle.std.specs.Io.KnownBytes.{Appends, Consumes, IsAtEnd}
 use Rattle.outside_io.specs.Stops.{ReadStopsAt, StopsAt}
 use Rattle.client_lines.specs.declared.lines.TheConstants.{MAX_LINE_BYTES}
-use Rattle.reply_texts.specs.Replies.{reply_text}
-use Rattle.reply_texts.specs.declared.replies.Reply.{Reply}
-use Rattle.reply_texts.specs.declared.replies.Reply.TheVariants as reply
+use Rattle.client_lines.specs.Replies.{reply_text}
+use Rattle.client_lines.specs.declared.reply_texts.replies.Reply.{Reply}
+use Rattle.client_lines.specs.declared.reply_texts.replies.Reply.TheVariants as reply
 use Rattle.line_sessions.specs.declared.sessions.TheConstants.{MAX_LINES}
 use Rattle.line_sessions.specs.declared.sessions.Ended.{Ended}
 use Rattle.line_sessions.specs.declared.sessions.Why.{Why}

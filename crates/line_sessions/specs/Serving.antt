@@ -2,9 +2,9 @@
 use Rattle.std.specs.Prelude.{◌≡◌, ◌⊎◌, ℕ, ◌+◌, ◌<◌, List, [], length, take, Option}
 use Rattle.std.specs.Io.KnownBytes.{Appends, Keeps}
 use Rattle.outside_io.specs.Stops.{StopsAt}
-use Rattle.reply_texts.specs.Replies.{reply_text}
-use Rattle.reply_texts.specs.declared.replies.Reply.{Reply}
-use Rattle.reply_texts.specs.declared.replies.Reply.TheVariants as reply
+use Rattle.client_lines.specs.Replies.{reply_text}
+use Rattle.client_lines.specs.declared.reply_texts.replies.Reply.{Reply}
+use Rattle.client_lines.specs.declared.reply_texts.replies.Reply.TheVariants as reply
 use Rattle.line_sessions.specs.Proofs.{faults_by, held_by}
 use Rattle.line_sessions.specs.declared.proofs.Proofs.{Proofs}
 use Rattle.line_sessions.specs.declared.sessions.Answered.{Answered}

@@ -1,7 +1,7 @@
 -- Lines that a desk answered.
 use Rattle.std.specs.Prelude.{◌≡◌, ℕ, ◌+◌, List, [], ◌∷◌, flat_map, map}
-use Rattle.reply_texts.specs.Replies.{reply_text}
-use Rattle.reply_texts.specs.declared.replies.Reply.{Reply}
+use Rattle.client_lines.specs.Replies.{reply_text}
+use Rattle.client_lines.specs.declared.reply_texts.replies.Reply.{Reply}
 
 -- a line, the reply that it was told, and the text of the reply's proof,
 -- which is empty where it has none

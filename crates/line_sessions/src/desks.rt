@@ -2,13 +2,13 @@
 
 ghost use Rattle.std.specs.Prelude.{◌≡◌, ◌+◌, ◌++◌, ◌≤◌, [], ℕ, List, length, IfOk, OnErr};
 ghost use Rattle.client_lines.specs.declared.lines.TheConstants.{MAX_LINE_BYTES};
-ghost use Rattle.reply_texts.specs.Replies.{reply_text};
-ghost use Rattle.reply_texts.specs.declared.replies.Reply.{Reply as reply_type};
-ghost use Rattle.reply_texts.specs.declared.replies.Reply.TheVariants as reply;
+ghost use Rattle.client_lines.specs.Replies.{reply_text};
+ghost use Rattle.client_lines.specs.declared.reply_texts.replies.Reply.{Reply as reply_type};
+ghost use Rattle.client_lines.specs.declared.reply_texts.replies.Reply.TheVariants as reply;
 
 use byte_fields::Buffer;
+use client_lines::reply_texts::Reply;
 use no_memory::NoMemory;
-use reply_texts::Reply;
 use std::alloc::Global;
 use std::sync::Wait;
 

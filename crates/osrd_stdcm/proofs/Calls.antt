@@ -3,13 +3,13 @@ use Rattle.std.proofs.Common.{◌≡◌, ◌≢◌, ℕ, List, [], ◌∷◌, �
 use Rattle.std.proofs.lemmas.List.Elements.{All-cons, All-head, All-nil, All-tail, All-weaker}
 use Rattle.std.proofs.lemmas.List.Kept.{AllPairs-cons}
 use Rattle.outside_io.specs.Openings.{Opening, sink_at, source_at}
-use Rattle.client_streams.specs.Clients.{AreDistinct, stream_calls}
-use Rattle.client_streams.proofs.Lists.{pairs_head, pairs_tail}
-use Rattle.client_words.specs.Clients.{AreApart as are_apart}
-use Rattle.client_words.specs.declared.clients.ClientWord.{ClientWord}
-use Rattle.proof_words.specs.Proofs.{AreApart, IsNoStreamOf, proof_of}
-use Rattle.proof_words.specs.declared.proofs.ProofWord.{ProofWord}
-use Rattle.client_plans.specs.Clients.{client_calls}
+use Rattle.request_server.specs.StreamClients.{AreDistinct, stream_calls}
+use Rattle.request_server.proofs.StreamLists.{pairs_head, pairs_tail}
+use Rattle.command_line.specs.Clients.{AreApart as are_apart}
+use Rattle.command_line.specs.declared.client_words.clients.ClientWord.{ClientWord}
+use Rattle.command_line.specs.Proofs.{AreApart, IsNoStreamOf, proof_of}
+use Rattle.command_line.specs.declared.proof_words.proofs.ProofWord.{ProofWord}
+use Rattle.request_server.specs.PlannedClients.{client_calls}
 use Rattle.osrd_stdcm.proofs.Files.{files_differ, holds_of_file}
 
 -- two calls differ

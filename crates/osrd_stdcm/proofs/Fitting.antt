@@ -1,11 +1,11 @@
 -- Clients of the words, and the files of their proofs, may be served.
 use Rattle.std.proofs.Common.{List}
 use Rattle.std.proofs.lemmas.List.Elements.{All-weaker}
-use Rattle.client_words.specs.Clients.{AreClients as AreClientWords}
-use Rattle.client_words.specs.declared.clients.ClientWord.{ClientWord}
-use Rattle.proof_words.specs.Proofs.{AreProofs, IsNoStreamOf, IsProofOf}
-use Rattle.proof_words.specs.declared.proofs.ProofWord.{ProofWord}
-use Rattle.client_plans.specs.Clients.{AreClients}
+use Rattle.command_line.specs.Clients.{AreClients as AreClientWords}
+use Rattle.command_line.specs.declared.client_words.clients.ClientWord.{ClientWord}
+use Rattle.command_line.specs.Proofs.{AreProofs, IsNoStreamOf, IsProofOf}
+use Rattle.command_line.specs.declared.proof_words.proofs.ProofWord.{ProofWord}
+use Rattle.request_server.specs.PlannedClients.{AreClients}
 use Rattle.osrd_stdcm.proofs.Calls.{calls_differ}
 
 pub clients_fit : (clients : List ClientWord) (proofs : List ProofWord) → AreClientWords clients → AreProofs clients proofs → AreClients clients proofs

@@ -4,8 +4,8 @@ use Rattle.std.proofs.lemmas.List.{append-nil}
 use Rattle.std.proofs.lemmas.List.Elements.{All-head, All-tail, All-weaker}
 use Rattle.std.specs.Io.KnownBytes.{Consumes, IsAtEnd}
 use mathlib.Core.Logic.{⊎_elim}
-use Rattle.client_streams.proofs.Lists.{pairs_head, pairs_tail}
-use Rattle.client_streams.specs.Clients.{AreDistinct}
+use Rattle.request_server.proofs.StreamLists.{pairs_head, pairs_tail}
+use Rattle.request_server.specs.StreamClients.{AreDistinct}
 use Rattle.command_files.specs.Outs.{OutSays, OutStep}
 use Rattle.command_files.specs.Steps.{FileSays, FileStep}
 use Rattle.command_files.specs.declared.bases.BaseFile.{BaseFile}
@@ -16,21 +16,21 @@ use Rattle.command_reports.specs.Reports.{EndSays}
 use Rattle.command_reports.specs.Works.{Follows, Makes, Runs}
 use Rattle.command_reports.specs.declared.refusals.Refusal.{Refusal}
 use Rattle.command_reports.specs.declared.refusals.Refusal.TheVariants.{Memory}
-use Rattle.exit_status.specs.declared.Status.{Status}
-use Rattle.exit_status.specs.declared.Status.TheVariants.{Done, No}
-use Rattle.file_rounds.specs.Scenes.{ChangesOnlyReport, ChangesOnlySource, IsReady, Scene}
-use Rattle.file_rounds.specs.Writing.{SaysAt}
-use Rattle.file_rounds.specs.declared.writing.OutFault.{OutFault}
-use Rattle.file_rounds.specs.declared.writing.OutFault.TheVariants.{NotOpened, Failed}
-use Rattle.history_reading.specs.Failing.{HasFaultCause, IsUnread}
+use Rattle.command_reports.specs.declared.exit_status.Status.{Status}
+use Rattle.command_reports.specs.declared.exit_status.Status.TheVariants.{Done, No}
+use Rattle.command_reports.specs.Scenes.{ChangesOnlyReport, ChangesOnlySource, IsReady, Scene}
+use Rattle.command_reports.specs.Writing.{SaysAt}
+use Rattle.command_reports.specs.declared.file_rounds.writing.OutFault.{OutFault}
+use Rattle.command_reports.specs.declared.file_rounds.writing.OutFault.TheVariants.{NotOpened, Failed}
+use Rattle.path_recover.specs.Failing.{HasFaultCause, IsUnread}
 use Rattle.init_command.specs.Begins.{BeginSays, BeginStep}
 use Rattle.init_command.specs.Disks.{ChangesOnlyDisk}
-use Rattle.journal_files.specs.Journals.{JournalSays, JournalStep, TellsEntries, TellsOpen}
-use Rattle.journal_reading.specs.Beginning.{HasInitCause, IsNotEmpty}
-use Rattle.journal_reading.specs.declared.beginning.InitFault.{InitFault}
-use Rattle.journal_reading.specs.declared.beginning.InitFault.TheVariants as init
-use Rattle.journal_reading.specs.declared.faults.OpenFault.{OpenFault}
-use Rattle.journal_reading.specs.declared.faults.OpenFault.TheVariants as opening
+use Rattle.print_commands.specs.Journals.{JournalSays, JournalStep, TellsEntries, TellsOpen}
+use Rattle.path_recover.specs.Beginning.{HasInitCause, IsNotEmpty}
+use Rattle.path_recover.specs.declared.journal_reading.beginning.InitFault.{InitFault}
+use Rattle.path_recover.specs.declared.journal_reading.beginning.InitFault.TheVariants as init
+use Rattle.path_recover.specs.declared.journal_reading.faults.OpenFault.{OpenFault}
+use Rattle.path_recover.specs.declared.journal_reading.faults.OpenFault.TheVariants as opening
 use Rattle.outside_io.specs.Faults.{Rose}
 use Rattle.outside_io.specs.Openings.{Opening, source_at, sink_at, the_report, disk_at}
 use Rattle.outside_io.specs.Places.{Place, Replaces, Untouched, kept}

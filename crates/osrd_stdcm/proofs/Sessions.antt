@@ -3,27 +3,27 @@ use Rattle.std.proofs.Common.{◌≡◌, ◌≢◌, ◌⊎◌, inl, inr, ℕ, �
 use Rattle.std.proofs.lemmas.List.{length-map}
 use Rattle.std.proofs.lemmas.List.Elements.{All-head, All-tail}
 use Rattle.std.specs.Io.KnownBytes.{Consumes, IsAtEnd}
-use Rattle.client_plans.specs.Clients.{client_calls, returned_of, sink_in, streams_of}
-use Rattle.client_seats.specs.Runs.{AreMatched}
-use Rattle.client_seats.specs.Talks.{Talk}
-use Rattle.client_streams.specs.Clients.{file_calls, HadProof, HadStreams, IsExchanged}
-use Rattle.client_words.specs.declared.clients.ClientWord.{ClientWord}
+use Rattle.request_server.specs.PlannedClients.{client_calls, returned_of, sink_in, streams_of}
+use Rattle.request_server.specs.ClientRuns.{AreMatched}
+use Rattle.request_server.specs.Talks.{Talk}
+use Rattle.request_server.specs.StreamClients.{file_calls, HadProof, HadStreams, IsExchanged}
+use Rattle.command_line.specs.declared.client_words.clients.ClientWord.{ClientWord}
 use Rattle.admission_rules.specs.declared.rules.Rule.{Ghosts as Rules}
 use Rattle.batch_command.specs.Asked.{HasFlaw}
 use Rattle.batch_command.specs.Books.{Declines}
 use Rattle.batch_command.specs.Lists.{IsFlawed, IsUnread, WritesTexts}
-use Rattle.batch_reports.specs.Flaws.{TellsStop}
+use Rattle.batch_command.specs.Flaws.{TellsStop}
 use Rattle.client_lines.specs.Names.{Names}
 use Rattle.client_lines.specs.declared.lines.TheConstants.{MAX_LINE_BYTES}
 use Rattle.command_reports.specs.Refusals.{status_of}
 use Rattle.command_reports.specs.declared.refusals.Refusal.{Refusal}
 use Rattle.command_reports.specs.declared.refusals.Refusal.TheVariants.{Memory as wants_memory}
-use Rattle.list_lines.specs.Lists.{Refuses}
-use Rattle.list_lines.specs.declared.lists.ListFault.{ListFault}
-use Rattle.list_lines.specs.declared.lists.ListFault.TheVariants as list
+use Rattle.batch_command.specs.LineLists.{Refuses}
+use Rattle.batch_command.specs.declared.list_lines.lists.ListFault.{ListFault}
+use Rattle.batch_command.specs.declared.list_lines.lists.ListFault.TheVariants as list
 use Rattle.path_commit.specs.Ledgers.{Ledger}
-use Rattle.exit_status.specs.declared.Status.TheVariants.{Done, Memory}
-use Rattle.file_rounds.specs.Scenes.{Scene}
+use Rattle.command_reports.specs.declared.exit_status.Status.TheVariants.{Done, Memory}
+use Rattle.command_reports.specs.Scenes.{Scene}
 use Rattle.line_sessions.specs.Ends.{EndsBy, StopsInProof, StopsInReply}
 use Rattle.line_sessions.specs.Lines.{HasNoEnd, ended}
 use Rattle.line_sessions.specs.Proofs.{faults_by}
@@ -41,15 +41,15 @@ use Rattle.outside_io.specs.declared.betweens.NoBetween.{NoBetween}
 use Rattle.outside_io.specs.declared.disks.Disk.{Ghosts as Disks}
 use Rattle.outside_io.specs.declared.sinks.Sink.{Ghosts as Sinks}
 use Rattle.outside_io.specs.declared.sources.Source.{Ghosts as Sources}
-use Rattle.proof_words.specs.Proofs.{proof_of}
-use Rattle.proof_words.specs.declared.proofs.ProofWord.{ProofWord}
+use Rattle.command_line.specs.Proofs.{proof_of}
+use Rattle.command_line.specs.declared.proof_words.proofs.ProofWord.{ProofWord}
 use Rattle.rail_types.specs.declared.entries.Entry.{Entry}
 use Rattle.request_server.specs.Runs.{IsServed}
 use Rattle.request_server.specs.declared.plans.Plan.{Plan}
 use Rattle.request_server.specs.declared.plans.Session.{Session}
-use Rattle.serve_command.specs.Serving.{streams_by}
-use Rattle.serve_reports.specs.Ends.{ComeTo, end_status, has_faulty, is_faulty}
-use Rattle.serve_reports.specs.declared.ends.Ends.{Ends}
+use Rattle.request_server.specs.Serving.{streams_by}
+use Rattle.request_server.specs.Ends.{ComeTo, end_status, has_faulty, is_faulty}
+use Rattle.request_server.specs.declared.serve_reports.ends.Ends.{Ends}
 use Rattle.osrd_stdcm.specs.Ready.{HasLines, IsQuietAt, IsThere, IsWithinLines}
 use Rattle.osrd_stdcm.specs.Complete.{IsAnswered}
 use Rattle.osrd_stdcm.proofs.Ready.{IsSame, Stays, own_no, wanted}

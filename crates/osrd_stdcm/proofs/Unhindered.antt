@@ -5,20 +5,20 @@ use Rattle.std.specs.Global.{Global}
 use Rattle.admission_rules.specs.declared.rules.Rule.{Ghosts as Rules}
 use Rattle.batch_command.specs.Journals.{BatchSays, BatchStep}
 use Rattle.batch_command.specs.Works.{ReadsBase as BatchBase, ReadsNetwork as BatchNetwork, ReadsTrains as BatchTrains, batch_calls}
-use Rattle.batch_reports.specs.Ends.{report_text as batch_text}
+use Rattle.batch_command.specs.Ends.{report_text as batch_text}
 use Rattle.capacity_406.specs.declared.trains.Stretch.{Stretch}
-use Rattle.capacity_command.specs.Capacities.{TellsCapacity, stretch_of}
+use Rattle.print_commands.specs.Capacities.{TellsCapacity, stretch_of}
 use Rattle.check_command.specs.Checks.{TellsProofs}
 use Rattle.check_command.specs.Files.{ProofFileSays, ProofFileStep, too_long_line}
 use Rattle.check_command.specs.Runs.{EndsReport, EndsRun as CheckEnds}
 use Rattle.check_command.specs.Works.{ReadsBase as CheckBase, ReadsJournal as CheckJournal, ReadsNetwork as CheckNetwork, ReadsProofs as CheckProofs, ReadsTrains as CheckTrains, check_calls, names_of, plain_of}
 use Rattle.client_lines.specs.Names.{Names}
-use Rattle.client_plans.specs.Clients.{client_calls}
-use Rattle.client_rules.specs.declared.clients.ClientRules.{ClientRules}
-use Rattle.client_streams.proofs.Lists.{all_left, all_right, pairs_head}
-use Rattle.client_streams.specs.Clients.{pair_calls}
-use Rattle.client_streams.specs.Refusing.{AreMade, WhyStopped}
-use Rattle.client_words.specs.declared.clients.ClientWord.{ClientWord}
+use Rattle.request_server.specs.PlannedClients.{client_calls}
+use Rattle.admission_rules.specs.declared.client_rules.clients.ClientRules.{ClientRules}
+use Rattle.request_server.proofs.StreamLists.{all_left, all_right, pairs_head}
+use Rattle.request_server.specs.StreamClients.{pair_calls}
+use Rattle.request_server.specs.Refusing.{AreMade, WhyStopped}
+use Rattle.command_line.specs.declared.client_words.clients.ClientWord.{ClientWord}
 use Rattle.command_files.specs.Files.{BaseStep, HasBaseFault, HasNetworkFault, HasTrainFault, IsBaseFile, IsNetworkFile, IsTrainFile, NetworkStep, TrainStep}
 use Rattle.command_files.specs.Outs.{OutStep}
 use Rattle.command_files.specs.declared.bases.BaseFile.{BaseFile}
@@ -32,42 +32,42 @@ use Rattle.command_words.specs.declared.orders.Order.{Order}
 use Rattle.command_words.specs.declared.orders.Order.TheVariants.{Tables, Init, Stairs, Capacity, Serve, Demo, Check, Batch}
 use Rattle.demo_command.specs.Sessions.{IsDemo}
 use Rattle.demo_command.specs.Works.{DemoWorks, demo_calls}
-use Rattle.exit_status.specs.declared.Status.{Status}
-use Rattle.exit_status.specs.declared.Status.TheVariants.{Done, Memory as wants_memory}
-use Rattle.file_rounds.specs.Scenes.{IsReady, Scene}
-use Rattle.file_rounds.specs.Writing.{ReportSays, SaysAt}
-use Rattle.file_rounds.specs.declared.writing.OutFault.{OutFault}
+use Rattle.command_reports.specs.declared.exit_status.Status.{Status}
+use Rattle.command_reports.specs.declared.exit_status.Status.TheVariants.{Done, Memory as wants_memory}
+use Rattle.command_reports.specs.Scenes.{IsReady, Scene}
+use Rattle.command_reports.specs.Writing.{ReportSays, SaysAt}
+use Rattle.command_reports.specs.declared.file_rounds.writing.OutFault.{OutFault}
 use Rattle.grant_log.specs.Legal.{Register}
-use Rattle.history_reading.specs.Failing.{HasFaultCause, IsUnread}
-use Rattle.history_reading.specs.Files.{IsRefused as OldRefused}
-use Rattle.history_reading.specs.Moving.{IsMoveRefused}
-use Rattle.history_reading.specs.declared.moves.MoveFault.{MoveFault}
-use Rattle.history_reading.specs.declared.moves.MoveFault.TheVariants as moving
+use Rattle.path_recover.specs.Failing.{HasFaultCause, IsUnread}
+use Rattle.path_recover.specs.Files.{IsRefused as OldRefused}
+use Rattle.path_recover.specs.Moving.{IsMoveRefused}
+use Rattle.path_recover.specs.declared.history_reading.moves.MoveFault.{MoveFault}
+use Rattle.path_recover.specs.declared.history_reading.moves.MoveFault.TheVariants as moving
 use Rattle.init_command.specs.Moves.{IsNotMoved, MoveSays, TellsMove, timetable_on}
 use Rattle.init_command.specs.Works.{BeginOver, MoveOver, ReadsBoth, init_calls, move_calls}
-use Rattle.journal_files.specs.Journals.{JournalStep, TellsEntries}
-use Rattle.journal_reading.specs.declared.faults.OpenFault.{OpenFault}
-use Rattle.journal_reading.specs.declared.faults.OpenFault.TheVariants as opening
-use Rattle.journal_files.specs.Steps.{print_calls, Prints, ReadsHistory, Tells, Telling, WritesTold}
-use Rattle.list_command.specs.Works.{list_calls, ListWorks, WritesTable}
+use Rattle.print_commands.specs.Journals.{JournalStep, TellsEntries}
+use Rattle.path_recover.specs.declared.journal_reading.faults.OpenFault.{OpenFault}
+use Rattle.path_recover.specs.declared.journal_reading.faults.OpenFault.TheVariants as opening
+use Rattle.print_commands.specs.Steps.{print_calls, Prints, ReadsHistory, Tells, Telling, WritesTold}
+use Rattle.print_commands.specs.Works.{list_calls, ListWorks, WritesTable}
 use Rattle.outside_io.specs.Faults.{Rose}
 use Rattle.outside_io.specs.Openings.{Opening, sink_at, source_at, the_report, disk_at}
 use Rattle.outside_io.specs.declared.disks.Disk.{Ghosts as Disks}
 use Rattle.outside_io.specs.declared.sinks.Sink.{Ghosts as Sinks}
 use Rattle.outside_io.specs.declared.sources.Source.{Ghosts as Sources}
-use Rattle.proof_words.specs.declared.proofs.ProofWord.{ProofWord}
+use Rattle.command_line.specs.declared.proof_words.proofs.ProofWord.{ProofWord}
 use Rattle.rail_types.specs.declared.entries.Entry.{Entry}
 use Rattle.rail_types.specs.declared.trains.Train.{Train}
 use Rattle.rail_types.specs.Timetables.{Timetable}
-use Rattle.serve_command.specs.Journals.{ServeSays, ServeStep}
-use Rattle.serve_command.specs.Runs.{EndsRun}
-use Rattle.serve_command.specs.Works.{ReadsNetwork, ReadsTrains, serve_calls}
-use Rattle.serve_reports.specs.Ends.{has_faulty, has_wanting, is_faulty, is_wanting, line_of, report_text, status_behind}
-use Rattle.serve_reports.specs.declared.ends.Ends.{Ends}
-use Rattle.served_journals.specs.Files.{files_of, known_by}
-use Rattle.served_journals.specs.Journals.{TellsOpen}
-use Rattle.served_journals.specs.Rounds.{IsHalted, IsJournalRefused, IsNotOpened}
-use Rattle.stairs_command.specs.Tables.{TellsStairs, no_grant_line}
+use Rattle.request_server.specs.ServeJournals.{ServeSays, ServeStep}
+use Rattle.request_server.specs.ServeRuns.{EndsRun}
+use Rattle.request_server.specs.Works.{ReadsNetwork, ReadsTrains, serve_calls}
+use Rattle.request_server.specs.Ends.{has_faulty, has_wanting, is_faulty, is_wanting, line_of, report_text, status_behind}
+use Rattle.request_server.specs.declared.serve_reports.ends.Ends.{Ends}
+use Rattle.request_server.specs.Files.{files_of, known_by}
+use Rattle.request_server.specs.ServedJournals.{TellsOpen}
+use Rattle.request_server.specs.Rounds.{IsHalted, IsJournalRefused, IsNotOpened}
+use Rattle.print_commands.specs.Tables.{TellsStairs, no_grant_line}
 use Rattle.stairway_print.specs.Networks.{network_text}
 use Rattle.osrd_stdcm.specs.Complete.{AreRightWithJournal, IsAnswered, IsUnhindered}
 use Rattle.osrd_stdcm.specs.Orders.{OrderSays}

@@ -1,11 +1,11 @@
 -- The rules that words ask for.
 use Rattle.std.specs.Prelude.{◌≡◌, ◌⊎◌, List, [], map}
-use Rattle.option_words.specs.Spelling.{Word}
-use Rattle.rule_words.specs.declared.reading.RuleWord.{RuleWord}
+use Rattle.command_line.specs.Spelling.{Word}
+use Rattle.command_line.specs.declared.rule_words.reading.RuleWord.{RuleWord}
 use Rattle.command_words.specs.Orders.{AskRules}
-use Rattle.client_rules.specs.declared.clients.ClientRules.{ClientRules}
-use Rattle.built_rules.specs.Built.{rules_asked, rules_in}
-use Rattle.built_rules.specs.declared.rules.BuiltRule.{BuiltRule}
+use Rattle.admission_rules.specs.declared.client_rules.clients.ClientRules.{ClientRules}
+use Rattle.osrd_stdcm.specs.Built.{rules_asked, rules_in}
+use Rattle.osrd_stdcm.specs.declared.built_rules.rules.BuiltRule.{BuiltRule}
 use Rattle.osrd_stdcm.specs.Runs.{AskNothing}
 
 -- rules, one for each that the words ask for, in their order, none of which was told of a path

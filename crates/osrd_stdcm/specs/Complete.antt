@@ -9,18 +9,18 @@ use Rattle.command_words.specs.declared.orders.Order.TheVariants.{Serve, Demo, C
 use Rattle.command_files.specs.Files.{HasNetworkFault}
 use Rattle.command_files.specs.declared.files.FileKind.TheVariants as file
 use Rattle.demo_command.specs.Works.{demo_calls}
-use Rattle.exit_status.specs.declared.Status.{Status}
-use Rattle.exit_status.specs.declared.Status.TheVariants.{Done, No, Memory}
-use Rattle.file_rounds.specs.Scenes.{Scene}
+use Rattle.command_reports.specs.declared.exit_status.Status.{Status}
+use Rattle.command_reports.specs.declared.exit_status.Status.TheVariants.{Done, No, Memory}
+use Rattle.command_reports.specs.Scenes.{Scene}
 use Rattle.init_command.specs.Works.{init_calls, move_calls}
-use Rattle.journal_files.specs.Steps.{print_calls}
-use Rattle.list_command.specs.Works.{list_calls}
-use Rattle.option_words.specs.Spelling.{Word}
+use Rattle.print_commands.specs.Steps.{print_calls}
+use Rattle.print_commands.specs.Works.{list_calls}
+use Rattle.command_line.specs.Spelling.{Word}
 use Rattle.outside_io.specs.Openings.{the_report}
 use Rattle.outside_io.specs.declared.disks.Disk.{Ghosts as Disks}
 use Rattle.outside_io.specs.declared.sinks.Sink.{Ghosts as Sinks}
 use Rattle.outside_io.specs.declared.sources.Source.{Ghosts as Sources}
-use Rattle.serve_command.specs.Works.{serve_calls}
+use Rattle.request_server.specs.Works.{serve_calls}
 use Rattle.osrd_stdcm.specs.Ready.{AreReady, AreRight, HasJournalOf, HasLines, HasOldJournalOf}
 use Rattle.osrd_stdcm.specs.Ready.{HasTrains, IsEmptyDisk, IsRight}
 

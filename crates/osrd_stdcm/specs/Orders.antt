@@ -1,25 +1,25 @@
 -- What is done at an order.
 use Rattle.std.specs.Prelude.{◌≢◌, ⊤, ℕ, List, None, Some}
 use Rattle.admission_rules.specs.declared.rules.Rule.{Ghosts as Rules}
-use Rattle.client_rules.specs.declared.clients.ClientRules.{ClientRules}
-use Rattle.exit_status.specs.declared.Status.{Status}
+use Rattle.admission_rules.specs.declared.client_rules.clients.ClientRules.{ClientRules}
+use Rattle.command_reports.specs.declared.exit_status.Status.{Status}
 use Rattle.outside_io.specs.declared.disks.Disk.{Ghosts as Disks}
 use Rattle.outside_io.specs.declared.sinks.Sink.{Ghosts as Sinks}
 use Rattle.outside_io.specs.declared.sources.Source.{Ghosts as Sources}
-use Rattle.file_rounds.specs.Scenes.{Scene}
+use Rattle.command_reports.specs.Scenes.{Scene}
 use Rattle.command_words.specs.declared.orders.Order.{Order}
 use Rattle.command_words.specs.declared.orders.Order.TheVariants.{Tables, Init, Stairs, Capacity}
 use Rattle.command_words.specs.declared.orders.Order.TheVariants.{Serve, Demo, Check, Batch}
 use Rattle.command_reports.specs.Works.{Runs}
 use Rattle.batch_command.specs.Runs.{IsBatchDone, IsRefusedList, RunsBatch}
-use Rattle.capacity_command.specs.Capacities.{HasNoCapacity, stretch_of, TellsCapacity}
+use Rattle.print_commands.specs.Capacities.{HasNoCapacity, stretch_of, TellsCapacity}
 use Rattle.check_command.specs.Runs.{IsChecked, IsRefused, RunsCheck}
 use Rattle.demo_command.specs.Works.{demo_calls, DemoWorks, IsShown}
 use Rattle.init_command.specs.Works.{BeginOver, init_calls, IsDone, move_calls, MoveOver, ReadsBoth}
-use Rattle.journal_files.specs.Steps.{IsPrinted, print_calls, Prints}
-use Rattle.list_command.specs.Works.{IsListed, list_calls, ListWorks}
-use Rattle.serve_command.specs.Runs.{IsServed, RunsServe}
-use Rattle.stairs_command.specs.Tables.{HasNoGrant, TellsStairs}
+use Rattle.print_commands.specs.Steps.{IsPrinted, print_calls, Prints}
+use Rattle.print_commands.specs.Works.{IsListed, list_calls, ListWorks}
+use Rattle.request_server.specs.ServeRuns.{IsServed, RunsServe}
+use Rattle.print_commands.specs.Tables.{HasNoGrant, TellsStairs}
 
 -- an order was carried out, step by step, with these rules of clients
 abbrev pub OrderSays : {Src Snk Dsk L : Type 0} → Sources Src → Sinks Snk → Disks Dsk → Rules L

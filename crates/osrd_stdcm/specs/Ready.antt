@@ -1,8 +1,8 @@
 -- What stands in the way of nothing: names that are ready, files without a fault, a
 -- journal that stands, and no fault.
 use Rattle.std.specs.Prelude.{◌≡◌, ◌≤◌, ℕ, List, [], ◌++◌, All, Some, length}
-use Rattle.client_streams.specs.Clients.{AreDistinct}
-use Rattle.client_words.specs.declared.clients.ClientWord.{ClientWord}
+use Rattle.request_server.specs.StreamClients.{AreDistinct}
+use Rattle.command_line.specs.declared.client_words.clients.ClientWord.{ClientWord}
 use Rattle.command_files.specs.Files.{HasBaseFault, HasNetworkFault, HasTrainFault, IsBaseFile}
 use Rattle.command_files.specs.Files.{IsNetworkFile}
 use Rattle.command_files.specs.Kinds.{limit_of}
@@ -10,12 +10,12 @@ use Rattle.command_files.specs.declared.bases.BaseFile.{BaseFile}
 use Rattle.command_files.specs.declared.files.FileKind.{FileKind}
 use Rattle.command_files.specs.declared.files.FileKind.TheVariants as file
 use Rattle.command_files.specs.declared.networks.NetworkFile.{NetworkFile}
-use Rattle.file_rounds.specs.Scenes.{IsReady, Scene}
-use Rattle.history_reading.specs.Failing.{IsUnread}
-use Rattle.history_reading.specs.Files.{IsRefused}
+use Rattle.command_reports.specs.Scenes.{IsReady, Scene}
+use Rattle.path_recover.specs.Failing.{IsUnread}
+use Rattle.path_recover.specs.Files.{IsRefused}
 use Rattle.init_command.specs.Moves.{timetable_on}
-use Rattle.journal_files.specs.Journals.{TellsEntries}
-use Rattle.journal_reading.specs.declared.faults.OpenFault.{OpenFault}
+use Rattle.print_commands.specs.Journals.{TellsEntries}
+use Rattle.path_recover.specs.declared.journal_reading.faults.OpenFault.{OpenFault}
 use Rattle.client_lines.specs.declared.lines.TheConstants.{MAX_LINE_BYTES}
 use Rattle.line_sessions.specs.Lines.{ended, HasNoEnd}
 use Rattle.line_sessions.specs.declared.sessions.TheConstants.{MAX_LINES}

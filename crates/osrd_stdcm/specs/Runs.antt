@@ -1,16 +1,16 @@
 -- What a run does, by its words.
 use Rattle.std.specs.Prelude.{◌⊎◌, ℕ, List, [], codes}
 use Rattle.admission_rules.specs.declared.rules.Rule.{Ghosts as Rules}
-use Rattle.client_rules.specs.declared.clients.ClientRules.{ClientRules}
-use Rattle.exit_status.specs.declared.Status.{Status}
-use Rattle.exit_status.specs.declared.Status.TheVariants.{Words}
+use Rattle.admission_rules.specs.declared.client_rules.clients.ClientRules.{ClientRules}
+use Rattle.command_reports.specs.declared.exit_status.Status.{Status}
+use Rattle.command_reports.specs.declared.exit_status.Status.TheVariants.{Words}
 use Rattle.outside_io.specs.declared.disks.Disk.{Ghosts as Disks}
 use Rattle.outside_io.specs.declared.sinks.Sink.{Ghosts as Sinks}
 use Rattle.outside_io.specs.declared.sources.Source.{Ghosts as Sources}
-use Rattle.option_words.specs.Spelling.{Word}
+use Rattle.command_line.specs.Spelling.{Word}
 use Rattle.command_words.specs.Orders.{AreWords}
 use Rattle.command_words.specs.declared.orders.Order.{Order}
-use Rattle.file_rounds.specs.Scenes.{Scene}
+use Rattle.command_reports.specs.Scenes.{Scene}
 use Rattle.command_reports.specs.Refusals.{IsTold, line_with}
 use Rattle.command_reports.specs.Reports.{TellsRefusal}
 use Rattle.command_reports.specs.declared.refusals.Refusal.{Refusal}

@@ -1,13 +1,14 @@
 //! The server's commands, from words to a status.
 #![tactic(auto)]
 
+pub mod built_rules;
 mod orders;
 mod rules;
 mod runs;
 
+pub use command_reports::exit_status::Status;
 pub use command_words::{
     ClientWord, Order, ProofWord, RuleKind, RuleWord, Text, WordsFault, read_words, rule_words,
 };
-pub use exit_status::Status;
 pub use rules::rules_of_words;
 pub use runs::run;

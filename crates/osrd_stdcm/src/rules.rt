@@ -3,8 +3,8 @@
 ghost use Rattle.std.specs.Prelude.{IfOk, map, string_bytes};
 ghost use Rattle.osrd_stdcm.specs.Asked.{AreAsked};
 
-use built_rules::{BuiltRule, build_rules};
-use client_rules::ClientRules;
+use crate::built_rules::{BuiltRule, build_rules};
+use admission_rules::client_rules::ClientRules;
 use command_words::{WordsFault, rule_words};
 use no_memory::NoMemory;
 use std::alloc::Global;

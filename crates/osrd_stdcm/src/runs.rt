@@ -3,17 +3,17 @@
 ghost use Rattle.std.specs.Prelude.{◌≡◌, ◌≢◌, ◌⊎◌, ℕ, List, map, string_bytes};
 ghost use Rattle.outside_io.specs.Openings.{Undisturbed};
 ghost use Rattle.outside_io.specs.Places.{Untouched};
-ghost use Rattle.file_rounds.specs.Scenes.{scene};
+ghost use Rattle.command_reports.specs.Scenes.{scene};
 ghost use Rattle.osrd_stdcm.specs.Complete.{AreUnhindered, IsAnswered};
 ghost use Rattle.osrd_stdcm.specs.Runs.{AskNoClients, AskNoDisk, AskNothing, IsDone, IsRefused};
 ghost use Rattle.osrd_stdcm.specs.Runs.{RunSays, TellsWords};
 
 use crate::orders::obey;
 use admission_rules::Rule;
-use client_rules::ClientRules;
+use admission_rules::client_rules::ClientRules;
+use command_reports::exit_status::Status;
 use command_reports::{Refusal, finish};
 use command_words::{WordsFault, read_words};
-use exit_status::Status;
 use outside_io::Outside;
 use std::alloc::{AllocGlobal, Global};
 use std::sync::Wait;

@@ -18,10 +18,10 @@ use Rattle.grant_log.specs.Legal.{IsInRange, IsLegal}
 use Rattle.grant_log.specs.Live.{claims_of, live_claims, owned_by}
 use Rattle.grant_log.specs.Meanings.{MayJoin, Says}
 use Rattle.grant_log.specs.Verdict.{breaks, takes}
-use Rattle.copy_since.specs.Rooms.{MayBeHeld}
-use Rattle.copy_since.specs.Since.{claims_at, claims_of_some}
-use Rattle.copy_since.proofs.Elements.{all_by, of_others}
-use Rattle.copy_since.proofs.Pairs.{all_pairs_map}
+use Rattle.grant_log.specs.Rooms.{MayBeHeld}
+use Rattle.grant_log.specs.Since.{claims_at, claims_of_some}
+use Rattle.grant_log.proofs.Elements.{all_by, of_others}
+use Rattle.grant_log.proofs.Pairs.{all_pairs_map}
 use Rattle.path_commit.proofs.Standing.{Unfreed}
 
 -- an entry that may join breaks no rule

@@ -21,13 +21,13 @@ use Rattle.grant_log.specs.Following.{AreLive}
 use Rattle.grant_log.specs.Legal.{IsLegal, Register}
 use Rattle.entry_codec.specs.Body.{body_of}
 use Rattle.entry_codec.specs.Within.{HasBody}
-use Rattle.journal_text.specs.Headers.{header_of}
-use Rattle.journal_text.specs.Histories.{bodies_of, bytes_of, counted, front_of, record_of, ReadsAs, ReadsAsEither}
-use Rattle.journal_text.proofs.Prefixes.{reads-least}
-use Rattle.journal_moments.specs.Answers.{Enters, Leaves, Settles as Settling}
-use Rattle.journal_moments.specs.Keeping.{Keeps, Left}
-use Rattle.journal_moments.specs.Timed.{Timed, settled_of}
-use Rattle.journal_moments.proofs.Keepings.{next-at, rest-at, stands-for}
+use Rattle.grant_journal.specs.Headers.{header_of}
+use Rattle.grant_journal.specs.Histories.{bodies_of, bytes_of, counted, front_of, record_of, ReadsAs, ReadsAsEither}
+use Rattle.grant_journal.proofs.Prefixes.{reads-least}
+use Rattle.grant_journal.specs.Answers.{Enters, Leaves, Settles as Settling}
+use Rattle.grant_journal.specs.Keeping.{Keeps, Left}
+use Rattle.grant_journal.specs.Timed.{Timed, settled_of}
+use Rattle.grant_journal.proofs.Keepings.{next-at, rest-at, stands-for}
 use Rattle.path_commit.specs.Answers.{Commits, HasCommitCause, IsBeforeOrAfter, IsRefusal, Settles}
 use Rattle.path_commit.specs.Inside.{AreOne, IsToldBy, ledger_of}
 use Rattle.path_commit.specs.Ledgers.{IsKept, IsPrefixOf, Ledger}

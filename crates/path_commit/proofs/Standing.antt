@@ -8,7 +8,7 @@ use Rattle.rail_types.specs.declared.entries.Owner.TheVariants.{Entry as of_entr
 use Rattle.rail_types.specs.Occupation.{Clash, HeldClaim}
 use Rattle.rail_types.specs.Timetables.{Timetable}
 use Rattle.grant_log.specs.Live.{claims_of, freed_by, live_claims}
-use Rattle.copy_since.specs.Since.{claims_at, claims_of_some}
+use Rattle.grant_log.specs.Since.{claims_at, claims_of_some}
 use Rattle.grant_log.specs.declared.verdicts.Verdict.{Verdict}
 use Rattle.grant_log.specs.declared.verdicts.Verdict.TheVariants.{Kept, Gone, Other, BreaksRequest, Taken, Unknown, NotYours, AlreadyFreed, Fresh}
 use Rattle.grant_log.specs.Meanings.{Says}

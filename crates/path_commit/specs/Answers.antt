@@ -13,8 +13,8 @@ use Rattle.grant_log.specs.declared.verdicts.Verdict.TheVariants.{Fresh, Taken}
 use Rattle.grant_log.specs.Live.{claims_of, live_claims}
 use Rattle.grant_log.specs.Verdict.{verdict_on}
 use Rattle.entry_codec.specs.Body.{body_of}
-use Rattle.journal_text.specs.Headers.{header_of}
-use Rattle.journal_text.specs.Histories.{bodies_of, bytes_of, ReadsAsEither}
+use Rattle.grant_journal.specs.Headers.{header_of}
+use Rattle.grant_journal.specs.Histories.{bodies_of, bytes_of, ReadsAsEither}
 use Rattle.path_commit.specs.Clashes.{IsLastClash, NoneClashesFrom}
 use Rattle.path_commit.specs.Ledgers.{Ledger, settled_of}
 use Rattle.path_commit.specs.declared.answers.Committed.{Committed}

@@ -15,12 +15,12 @@ use Rattle.grant_log.specs.Legal.{Joins, Register}
 use Rattle.grant_log.specs.Live.{claims_of, owned_by}
 use Rattle.grant_log.specs.Verdict.{takes}
 use Rattle.entry_codec.specs.Within.{HasBody}
-use Rattle.journal_text.specs.Headers.{header_of}
-use Rattle.journal_text.specs.Histories.{bodies_of, record_of}
-use Rattle.journal_moments.specs.Keeping.{Keeps}
-use Rattle.journal_moments.specs.Timed.{Timed, settled_of}
-use Rattle.copy_since.specs.Rooms.{HasRoomFor}
-use Rattle.copy_since.specs.Since.{claims_at}
+use Rattle.grant_journal.specs.Headers.{header_of}
+use Rattle.grant_journal.specs.Histories.{bodies_of, record_of}
+use Rattle.grant_journal.specs.Keeping.{Keeps}
+use Rattle.grant_journal.specs.Timed.{Timed, settled_of}
+use Rattle.grant_log.specs.Rooms.{HasRoomFor}
+use Rattle.grant_log.specs.Since.{claims_at}
 use Rattle.path_commit.specs.Answers.{bytes_with}
 use Rattle.path_commit.specs.declared.answers.Committed.{Committed}
 use Rattle.path_commit.specs.declared.answers.Committed.TheVariants.{Done as told_done}

@@ -6,8 +6,8 @@ use Rattle.rail_types.specs.Timetables.{IsTimetable, Timetable}
 use Rattle.entry_codec.specs.Within.{HasBody}
 use Rattle.outside_io.specs.declared.disks.Disk.{Ghosts}
 use Rattle.grant_log.specs.Legal.{IsLegal}
-use Rattle.journal_text.specs.Headers.{header_of}
-use Rattle.journal_text.specs.Histories.{bodies_of, ReadsAsPrefix}
+use Rattle.grant_journal.specs.Headers.{header_of}
+use Rattle.grant_journal.specs.Histories.{bodies_of, ReadsAsPrefix}
 
 -- the disk, the digests of the network's file and of the base timetable's, the timetable, the
 -- history, the moment of the book's making, the number of entries then, and the moment at which

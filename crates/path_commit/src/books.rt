@@ -5,17 +5,17 @@ ghost use Rattle.occupation_book.specs.Held.{claims_by_zone, held};
 ghost use Rattle.grant_log.specs.Following.{AreLive};
 ghost use Rattle.grant_log.specs.Legal.{IsInRange};
 ghost use Rattle.entry_codec.specs.Within.{HasBody};
-ghost use Rattle.journal_text.specs.Headers.{header_of};
-ghost use Rattle.journal_text.specs.Histories.{bodies_of, bytes_of, ReadsAs};
+ghost use Rattle.grant_journal.specs.Headers.{header_of};
+ghost use Rattle.grant_journal.specs.Histories.{bodies_of, bytes_of, ReadsAs};
 ghost use Rattle.path_commit.specs.Footings.{footing_of};
 
 use crate::answers::Committed;
 use crate::parts::Parts;
-use copy_since::{bring_up, copy_of};
+use grant_journal::journal_moments::TimedJournal;
+use grant_journal::journal_text::bytes_are_counted;
 use grant_journal::{Journal, Settled};
 use grant_log::History;
-use journal_moments::TimedJournal;
-use journal_text::bytes_are_counted;
+use grant_log::copy_since::{bring_up, copy_of};
 use no_memory::NoMemory;
 use occupation_book::Occupations;
 use outside_io::Disk;
@@ -45,7 +45,7 @@ impl<D: Disk> Model for Book<D> {
 
 impl<D: Disk> Book<D> {
     ghost use Rattle.grant_journal.specs.Causes.{HasSettleCause};
-    ghost use Rattle.journal_moments.specs.Keeping.{Left};
+    ghost use Rattle.grant_journal.specs.Keeping.{Left};
     ghost use Rattle.path_commit.specs.Answers.{Commits, FreesSome, HasCommitCause};
     ghost use Rattle.path_commit.specs.Answers.{IsBeforeOrAfter, IsTold, Settles};
     ghost use Rattle.path_commit.specs.Ledgers.{IsKept, IsPrefixOf, moment_of, settled_of};

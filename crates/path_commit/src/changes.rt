@@ -8,7 +8,7 @@ ghost use Rattle.grant_log.specs.Legal.{IsLegal, Joins};
 ghost use Rattle.grant_log.specs.Live.{claims_of, owned_by};
 ghost use Rattle.path_commit.specs.Inside.{HasRoomToChange, IsChangeOf};
 
-use copy_since::{claims_at, hold_all, reserve_for};
+use grant_log::copy_since::{claims_at, hold_all, reserve_for};
 use grant_log::{
     History, claims_are_on_the_network, fresh_claims_are_free, live_claims_are_unfreed,
     verdicts_say_what_they_mean,

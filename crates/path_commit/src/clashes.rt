@@ -5,7 +5,7 @@ ghost use Rattle.rail_types.specs.Occupation.{Clash};
 ghost use Rattle.grant_log.specs.Live.{live_claims};
 ghost use Rattle.path_commit.specs.Clashes.{EntryClashes, EntryClashesFrom, IsGreatest};
 
-use copy_since::claims_at;
+use grant_log::copy_since::claims_at;
 use grant_log::{History, live_claims_are_unfreed};
 use no_memory::NoMemory;
 use rail_types::Claim;

@@ -31,7 +31,7 @@ use Rattle.label_search.specs.declared.plans.Member.{Member as PlannedMember}
 use Rattle.label_search.specs.Free.{Book}
 use Rattle.label_search.specs.Paths.{Enters, MoveFits, WaitFits, leave_of, move_at, place_at, target_of}
 use Rattle.label_search.specs.Closed.{Admits, before as trip_before, IsClosed as IsClosedPlan, IsFreeMove as IsFreePlannedMove, IsHeld as IsHeldThere}
-use Rattle.request_plans.specs.Plans.{dwell_at, dwell_of, kept_behind, target_of as target_in, ticks_of_step}
+use Rattle.path_labels.specs.Plans.{dwell_at, dwell_of, kept_behind, target_of as target_in, ticks_of_step}
 use Rattle.path_labels.specs.Answers.{before, claims_held}
 use Rattle.path_labels.specs.Joining.{AreClosedAlike, IsPlannedFrom, IsBehindTheStart, member_in, members_in, move_of, moves_of, trip_of}
 use Rattle.path_labels.proofs.Fitting.{AreFreeOver, later_fits, moved_of_over, over_at, over_of_kept}

@@ -31,7 +31,7 @@ use Rattle.label_search.specs.declared.plans.Place.{Place as PlannedPlace}
 use Rattle.label_search.specs.declared.plans.Step.{Step as PlannedStep}
 use Rattle.label_search.specs.Free.{Book}
 use Rattle.label_search.specs.Paths.{Enters, IsMove as IsPlannedMove, IsRest, MoveFits, RestFits, WaitFits, arrival, last_leave as last_of, leave_of, place_at, target_of}
-use Rattle.request_plans.specs.Plans.{dwell_at, dwell_of, kept_behind, move_in, place_in, ticks_of_step}
+use Rattle.path_labels.specs.Plans.{dwell_at, dwell_of, kept_behind, move_in, place_in, ticks_of_step}
 use Rattle.path_labels.specs.Answers.{claims_held}
 use Rattle.path_labels.specs.Joining.{HoldsTicks, IsPlannedFrom, PlannedPathsAreGranted, move_of, moves_of, path_in, run_of, runs_from, trip_of}
 use Rattle.path_labels.proofs.Fitting.{AreFreeOver, fits_later, kept_of_over, over_all, over_of_moved}

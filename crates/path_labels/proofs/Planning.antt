@@ -25,7 +25,7 @@ use Rattle.label_search.specs.declared.plans.Move.{Move as PlannedMove}
 use Rattle.label_search.specs.declared.plans.Step.{Step as PlannedStep}
 use Rattle.label_search.specs.Free.{Book}
 use Rattle.label_search.specs.Paths.{Enters, IsMove as IsPlannedMove, IsPath, IsRest, MoveFits, PathFits, RestFits, WaitFits, arrival, last_leave as last_of, leave_of, move_at, place_at, target_of}
-use Rattle.request_plans.specs.Plans.{kept_behind, target_of as target_in}
+use Rattle.path_labels.specs.Plans.{kept_behind, target_of as target_in}
 use Rattle.path_labels.specs.Answers.{claims_held}
 use Rattle.path_labels.specs.Joining.{GrantedPathsArePlanned, IsPlannedFrom, move_of, trip_of}
 use Rattle.path_labels.proofs.Fitting.{later_fits}

@@ -25,7 +25,7 @@ use Rattle.label_search.specs.declared.plans.Target.TheVariants.{Place as To, En
 use Rattle.label_search.specs.declared.plans.Plan.{Plan}
 use Rattle.label_search.specs.declared.plans.Step.{Step as PlannedStep}
 use Rattle.label_search.specs.Paths.{place_at, move_at, leave_of, IsMove as IsPlannedMove}
-use Rattle.request_plans.specs.Plans.{move_in, place_in, ticks_of_step, target_of as target_in}
+use Rattle.path_labels.specs.Plans.{move_in, place_in, ticks_of_step, target_of as target_in}
 use Rattle.path_labels.specs.Joining.{IsPlannedFrom, move_of, moves_of}
 
 -- a train that stands at a place of the request has made a stop

@@ -30,7 +30,7 @@ use Rattle.label_search.specs.Closed.{IsLedTo, IsMemberOf as IsPlannedMember}
 use Rattle.label_search.specs.Found.{IsLeast}
 use Rattle.label_search.specs.Paths.{IsPath, IsRest, Possible, arrival, leave_of, place_at, target_of}
 use Rattle.label_search.specs.Sought.{IsFound, IsNone}
-use Rattle.request_plans.specs.Searched.{IsPlannedWithinLimits}
+use Rattle.path_labels.specs.Searched.{IsPlannedWithinLimits}
 use Rattle.path_labels.specs.Answers.{IsAnswer, IsEarliest, IsFinding, IsMemberOf, before, claims_held, last_leave}
 use Rattle.path_labels.specs.declared.answers.Sought.TheVariants.{Found, NoPath}
 use Rattle.path_labels.specs.Joining.{ArePlannedMoves, AreSteps, ClosedPlansAreClosed, GrantedPathsArePlanned, HoldsTicks, IsBehindTheStart, IsPlannedFrom, PlannedPathsAreGranted, member_in, members_in, moves_of, path_in, trip_of}

@@ -27,8 +27,8 @@ use Rattle.label_search.specs.Free.{Book}
 use Rattle.label_search.specs.Paths.{IsMove as IsPlannedMove, IsPath, PathFits, arrival, leave_of}
 use Rattle.label_search.specs.Paths.{place_at, target_of}
 use Rattle.label_search.specs.Closed.{IsClosed as IsClosedPlan, before as trip_before}
-use Rattle.request_plans.specs.Plans.{IsPlanOf}
-use Rattle.request_plans.specs.Searched.{IsPlannedWithinLimits}
+use Rattle.path_labels.specs.Plans.{IsPlanOf}
+use Rattle.path_labels.specs.Searched.{IsPlannedWithinLimits}
 use Rattle.path_labels.specs.Answers.{before, claims_held, last_leave}
 
 -- what is listed for the request is what is planned

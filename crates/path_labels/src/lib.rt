@@ -2,9 +2,11 @@
 #![tactic(auto)]
 
 mod answers;
+pub mod certificates;
 mod laws;
 mod members;
 mod paths;
+pub mod request_plans;
 mod seeks;
 
 pub use answers::Sought;

@@ -8,20 +8,20 @@ ghost use Rattle.tail_states.specs.Listed.{AreTheMoves, AreThePlaces};
 ghost use Rattle.path_labels.specs.Answers.{IsAnswer, IsCount, IsFinding, claims_held};
 ghost use Rattle.path_labels.specs.Answers.{count_of as count_in};
 ghost use Rattle.label_search.specs.Plans.{IsPlan};
-ghost use Rattle.request_plans.specs.Searched.{IsPlannedWithinLimits};
+ghost use Rattle.path_labels.specs.Searched.{IsPlannedWithinLimits};
 ghost use Rattle.path_labels.specs.Joining.{ArePlannedMoves, HoldsTicks, trip_of};
 
 use crate::Sought;
 use crate::laws::{closed_plans_are_closed, granted_paths_are_planned, planned_paths_are_granted};
 use crate::members::told_members;
 use crate::paths::told_path;
+use crate::request_plans::{plan_of, plans_may_be_searched};
 use label_search::{
     Finding, Plan, Sought as Planned, Trip, bounds, find as find_planned, seek as seek_planned,
 };
 use no_memory::NoMemory;
 use occupation_book::Occupations;
 use rail_types::{Network, Path, Request, Settings};
-use request_plans::{plan_of, plans_may_be_searched};
 use std::alloc::Global;
 use tail_states::{Places, sound_networks_are_asked, windows_change_no_places};
 

@@ -1,2 +1,6 @@
 pub mod Reopened
 pub mod Copies
+pub mod Walked
+pub mod Renewed
+pub mod Unrefused
+pub mod Once

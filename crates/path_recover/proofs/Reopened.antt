@@ -13,12 +13,12 @@ use Rattle.entry_codec.specs.Within.{HasBody}
 use Rattle.grant_log.proofs.Legals.{legal_take}
 use Rattle.grant_log.proofs.Slices.{take_slice_get}
 use Rattle.grant_log.specs.Legal.{IsLegal}
-use Rattle.journal_text.specs.Headers.{header_of}
-use Rattle.journal_text.specs.Histories.{bodies_of, ReadsAs, ReadsAsPrefix}
-use Rattle.journal_reading.specs.Walks.{IsSpelledIn}
-use Rattle.journal_reading.specs.declared.faults.OpenFault.{OpenFault}
-use Rattle.history_reading.specs.Failing.{IsUnread}
-use Rattle.history_reading.specs.Files.{TellsHistory}
+use Rattle.grant_journal.specs.Headers.{header_of}
+use Rattle.grant_journal.specs.Histories.{bodies_of, ReadsAs, ReadsAsPrefix}
+use Rattle.path_recover.specs.Walks.{IsSpelledIn}
+use Rattle.path_recover.specs.declared.journal_reading.faults.OpenFault.{OpenFault}
+use Rattle.path_recover.specs.Failing.{IsUnread}
+use Rattle.path_recover.specs.Files.{TellsHistory}
 use Rattle.path_commit.specs.Ledgers.{IsKept, IsPrefixOf, Ledger, moment_of, settled_of}
 use Rattle.path_commit.specs.Runs.{AreAnswered}
 use Rattle.path_commit.specs.declared.answers.Committed.{Committed}

@@ -1,3 +1,9 @@
 pub mod Opening
 pub mod Crashes
 pub mod Texts
+pub mod Files
+pub mod Failing
+pub mod Moving
+pub mod Beginning
+pub mod Starts
+pub mod Walks

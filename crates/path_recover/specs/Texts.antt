@@ -1,11 +1,16 @@
 -- Refusals of a journal as reports write them.
 use Rattle.std.specs.Prelude.{ℕ, List, ◌++◌, Option, None, Some, codes, decimal}
 use Rattle.hex.specs.Hex.{encode_lower}
-use Rattle.journal_reading.specs.declared.faults.OpenFault.{OpenFault}
-use Rattle.journal_reading.specs.declared.faults.OpenFault.TheVariants.{ReadFault, Empty}
-use Rattle.journal_reading.specs.declared.faults.OpenFault.TheVariants.{OldVersion, NotAJournal}
-use Rattle.journal_reading.specs.declared.faults.OpenFault.TheVariants.{OtherNetwork, OtherBase}
-use Rattle.journal_reading.specs.declared.faults.OpenFault.TheVariants.{Damaged, Illegal, Memory}
+use Rattle.path_recover.specs.declared.journal_reading.faults.OpenFault.{OpenFault}
+use Rattle.path_recover.specs.declared.journal_reading.faults.OpenFault.TheVariants.{ReadFault}
+use Rattle.path_recover.specs.declared.journal_reading.faults.OpenFault.TheVariants.{Empty}
+use Rattle.path_recover.specs.declared.journal_reading.faults.OpenFault.TheVariants.{OldVersion}
+use Rattle.path_recover.specs.declared.journal_reading.faults.OpenFault.TheVariants.{NotAJournal}
+use Rattle.path_recover.specs.declared.journal_reading.faults.OpenFault.TheVariants.{OtherNetwork}
+use Rattle.path_recover.specs.declared.journal_reading.faults.OpenFault.TheVariants.{OtherBase}
+use Rattle.path_recover.specs.declared.journal_reading.faults.OpenFault.TheVariants.{Damaged}
+use Rattle.path_recover.specs.declared.journal_reading.faults.OpenFault.TheVariants.{Illegal}
+use Rattle.path_recover.specs.declared.journal_reading.faults.OpenFault.TheVariants.{Memory}
 
 -- the digest that the journal has, and the one that was found, in hexadecimal digits
 abbrev pub digests_text : List ℕ → List ℕ → List ℕ

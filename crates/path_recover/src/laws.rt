@@ -2,14 +2,14 @@
 
 ghost use Rattle.std.specs.Prelude.{◌≡◌, IfErr, IfOk};
 ghost use Rattle.rail_types.specs.Timetables.{IsTimetable, timetable_of};
-ghost use Rattle.history_reading.specs.Failing.{HasFaultCause, IsUnread};
+ghost use Rattle.path_recover.specs.Failing.{HasFaultCause, IsUnread};
 ghost use Rattle.path_commit.specs.Runs.{AreInRange, AreTurns, Grows};
 ghost use Rattle.path_recover.specs.Crashes.{IsOfFiles, IsReopened, KeepsDone, WasLeft};
 ghost use Rattle.path_recover.specs.Opening.{IsJustMade};
 
+use crate::history_reading::one_reading;
+use crate::journal_reading::OpenFault;
 use crate::open;
-use history_reading::one_reading;
-use journal_reading::OpenFault;
 use no_memory::NoMemory;
 use outside_io::Disk;
 use path_commit::{Book, Committed, Sent, run_all};

@@ -1,12 +1,14 @@
 //! The book that a journal stands for, opened again after a crash.
 #![tactic(auto)]
 
+pub mod history_reading;
+pub mod journal_reading;
 mod laws;
 mod opening;
 mod texts;
 
-pub use history_reading::{MoveFault, init_from};
-pub use journal_reading::{InitFault, OpenFault, init};
+pub use crate::history_reading::{MoveFault, init_from};
+pub use crate::journal_reading::{InitFault, OpenFault, init};
 pub use laws::{reopen, run_and_reopen};
 pub use opening::open;
 pub use texts::{fault_text, not_empty_text};

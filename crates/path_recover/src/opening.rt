@@ -1,14 +1,14 @@
 ghost use Rattle.std.specs.Prelude.{◌≡◌, ◌+◌, ◌≤◌, ℕ, List, IfErr, IfOk, IfSome};
 ghost use Rattle.rail_types.specs.declared.entries.Entry.{Entry as entry_type};
 ghost use Rattle.rail_types.specs.Timetables.{IsTimetable, timetable_of};
-ghost use Rattle.history_reading.specs.Failing.{HasFaultCause, IsOnlyRead, IsUnread};
-ghost use Rattle.history_reading.specs.Files.{IsRefused, TellsHistory};
+ghost use Rattle.path_recover.specs.Failing.{HasFaultCause, IsOnlyRead, IsUnread};
+ghost use Rattle.path_recover.specs.Files.{IsRefused, TellsHistory};
 ghost use Rattle.path_recover.specs.Opening.{IsJustMade, IsSynced};
 
+use crate::history_reading::{Found, one_reading, read_journal};
+use crate::journal_reading::OpenFault;
 use grant_journal::Journal;
 use grant_log::History;
-use history_reading::{Found, one_reading, read_journal};
-use journal_reading::OpenFault;
 use no_memory::NoMemory;
 use outside_io::Disk;
 use path_commit::Book;

@@ -4,8 +4,8 @@ ghost use Rattle.std.specs.Prelude.{◌≡◌, ◌++◌, codes, decimal, option_
 ghost use Rattle.hex.specs.Hex.{encode_lower};
 ghost use Rattle.path_recover.specs.Texts.{digests_text, fault_text, not_empty_text};
 
+use crate::journal_reading::OpenFault;
 use itoa::Buffer;
-use journal_reading::OpenFault;
 use no_memory::NoMemory;
 use std::alloc::Global;
 

@@ -10,11 +10,11 @@ ghost use Rattle.grant_log.specs.Verdict.{breaks, takes as deed_takes};
 ghost use Rattle.plan_core.specs.Worlds.{IsAsked};
 
 use crate::limits::is_within_limits;
-use copy_since::bring_up;
+use grant_log::copy_since::bring_up;
 use grant_log::{History, Verdict, claims_are_on_the_network};
-use journal_reading::is_on;
 use no_memory::NoMemory;
 use occupation_book::Occupations;
+use path_recover::journal_reading::is_on;
 use rail_types::{Claim, Deed, Entry, Wanted};
 use std::alloc::Global;
 

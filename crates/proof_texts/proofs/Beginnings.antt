@@ -6,7 +6,7 @@ use Rattle.std.proofs.lemmas.List.Elements.{All-cons, All-head, All-nil, All-tai
 use Rattle.rail_types.specs.declared.limits.TheConstants.{MAX_NUMBER}
 use Rattle.rail_types.specs.declared.trains.Stop.{Stop}
 use Rattle.tail_states.specs.declared.certificates.Member.{Member}
-use Rattle.reply_texts.specs.Fields.{line_of, spaced}
+use Rattle.client_lines.specs.Fields.{line_of, spaced}
 use Rattle.client_lines.specs.Cuts.{fields_of}
 use Rattle.client_lines.specs.Forms.{Form, Spells}
 use Rattle.client_lines.specs.Names.{Names}

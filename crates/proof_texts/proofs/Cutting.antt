@@ -6,7 +6,7 @@ use Rattle.std.proofs.lemmas.List.{append-nil}
 use Rattle.std.proofs.lemmas.List.Elements.{All-append, All-cons, All-head, All-nil, All-tail}
 use Rattle.std.proofs.lemmas.List.Splits.{join_with_byte-slice_split, slice_split_at, slice_split_none}
 use Rattle.client_lines.specs.Cuts.{fields_of, IsCutAt, Lacks}
-use Rattle.reply_texts.specs.Fields.{line_of, spaced}
+use Rattle.client_lines.specs.Fields.{line_of, spaced}
 use Rattle.proof_texts.specs.Lines.{Beginning, line_at, with_byte}
 use Rattle.proof_texts.proofs.Visible.{AllVisible, AreVisible, visible_lacks}
 

@@ -11,7 +11,7 @@ use Rattle.std.proofs.lemmas.List.Elements.{All-cons, All-head, All-nil, All-tai
 use Rattle.rail_types.specs.declared.limits.TheConstants.{MAX_NUMBER}
 use Rattle.rail_types.specs.declared.paths.Window.{Window}
 use Rattle.rail_types.specs.Limits.{IsWindowWithinLimits}
-use Rattle.reply_texts.specs.Fields.{flag_field}
+use Rattle.client_lines.specs.Fields.{flag_field}
 use Rattle.running_time.specs.declared.edges.Enter.{Enter}
 use Rattle.running_time.specs.declared.edges.Enter.TheVariants.{Still, From}
 use Rattle.tail_states.specs.declared.certificates.Member.{Member}

@@ -5,8 +5,8 @@ use Rattle.std.specs.List.{flat_map}
 use Rattle.std.specs.Prelude.{OnOk}
 use Rattle.std.proofs.Transfers.{starts_with_trans}
 use Rattle.byte_fields.specs.Buffered.{Buffered}
-use Rattle.reply_texts.specs.Fields.{spaced}
-use Rattle.reply_texts.proofs.Printing.{spaced-append, spaced-flat_map}
+use Rattle.client_lines.specs.Fields.{spaced}
+use Rattle.client_lines.proofs.Printing.{spaced-append, spaced-flat_map}
 use Rattle.proof_texts.specs.Prints.{Prints, block_text}
 
 pub spaced-numbers : (blocks : List ℕ) → spaced (map decimal blocks) ≡ flat_map block_text blocks

@@ -5,7 +5,7 @@ use Rattle.std.specs.Fmt.{signed_decimal}
 use Rattle.std.proofs.lemmas.List.{append-nil}
 use Rattle.std.proofs.lemmas.List.Elements.{All-cons, All-head, All-nil, All-tail}
 use Rattle.json_fields.specs.Escapes.{escaped}
-use Rattle.id_lists.specs.Ids.{number_of}
+use Rattle.rail_types.specs.IdLists.{number_of}
 use Rattle.train_file.specs.Trains.{train_named}
 use Rattle.rail_types.specs.declared.limits.TheConstants.{MAX_DWELL, MAX_STOPS}
 use Rattle.rail_types.specs.declared.paths.Window.{Window}

@@ -7,7 +7,7 @@ use Rattle.std.proofs.lemmas.List.Elements.{All-append, All-cons, All-nil}
 use Rattle.std.proofs.lemmas.Bool.Decides.{nat_tests}
 use Rattle.client_lines.specs.Cuts.{Lacks}
 use Rattle.json_fields.specs.Escapes.{escaped, escaped_byte, hex_digit, is_plain}
-use Rattle.reply_texts.specs.Fields.{flag_field}
+use Rattle.client_lines.specs.Fields.{flag_field}
 
 -- a byte behind the space and the line ends
 abbrev pub IsVisible : ℕ → Type 0

@@ -4,7 +4,7 @@ use Rattle.std.specs.Str.{bytes_eq}
 use Rattle.std.proofs.lemmas.Slice.Eq.{bytes_eq-Decides}
 use Rattle.std.proofs.lemmas.List.Quantifiers.{position-Some}
 use Rattle.json_fields.specs.Escapes.{escaped}
-use Rattle.id_lists.specs.Ids.{number_of}
+use Rattle.rail_types.specs.IdLists.{number_of}
 use Rattle.rail_types.specs.declared.trains.Train.{Train}
 use Rattle.train_file.specs.Trains.{train_named}
 use Rattle.client_lines.specs.Forms.{Form, IsName, Kind, Says, Spells, a_name, a_number, chain, one}

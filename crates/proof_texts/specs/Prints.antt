@@ -4,7 +4,7 @@ use Rattle.std.specs.Io.{StartsWith}
 use Rattle.byte_fields.specs.Buffered.{Buffered}
 use Rattle.rail_types.specs.declared.trains.Request.{Request}
 use Rattle.rail_types.specs.declared.trains.Stop.{Stop}
-use Rattle.reply_texts.specs.Fields.{spaced}
+use Rattle.client_lines.specs.Fields.{spaced}
 use Rattle.proof_texts.specs.Texts.{stop_fields}
 
 -- the operational points of a request are some of so many

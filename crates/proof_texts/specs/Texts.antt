@@ -6,7 +6,7 @@ use Rattle.std.specs.Fmt.{signed_decimal}
 use Rattle.json_fields.specs.Escapes.{escaped}
 use Rattle.rail_types.specs.declared.trains.Stop.{Stop}
 use Rattle.rail_types.specs.declared.trains.Request.{Request}
-use Rattle.reply_texts.specs.Fields.{flag_field, line_of, said}
+use Rattle.client_lines.specs.Fields.{flag_field, line_of, said}
 use Rattle.running_time.specs.declared.edges.Enter.{Enter}
 use Rattle.running_time.specs.declared.edges.Enter.TheVariants.{Still, From}
 use Rattle.tail_states.specs.declared.certificates.Member.{Member}

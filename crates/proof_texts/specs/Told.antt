@@ -2,7 +2,7 @@
 use Rattle.std.specs.Prelude.{◌≡◌, ℕ, ◌^◌, ◌<◌, ◌≤◌, ◌≤ℤ◌, length, All, Some}
 use Rattle.client_lines.specs.Forms.{IsName}
 use Rattle.client_lines.specs.Names.{Names}
-use Rattle.id_lists.specs.Ids.{number_of}
+use Rattle.rail_types.specs.IdLists.{number_of}
 use Rattle.rail_types.specs.declared.limits.TheConstants.{MAX_DWELL, MAX_NUMBER, MAX_STOPS}
 use Rattle.rail_types.specs.declared.tracks.Network.{Network}
 use Rattle.rail_types.specs.declared.trains.Request.{Request}

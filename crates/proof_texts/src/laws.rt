@@ -5,7 +5,7 @@ ghost use Rattle.proof_texts.specs.Read.{AsksCanBeTold, ProofsAreReadOnce};
 
 use crate::reading::MAX_PROOF_FILE_BYTES;
 use client_lines::asks_spell_requests;
-use name_text::names_are_spelled_once;
+use json_fields::name_text::names_are_spelled_once;
 
 /// No text begins with the texts of two proofs.
 pub fn proofs_are_read_once()

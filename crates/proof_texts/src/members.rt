@@ -14,7 +14,7 @@ use crate::cuts::Lines;
 use crate::faults::ProofFault;
 use crate::heads::{take_position, take_word};
 use client_lines::{Fields, Known, LineFault};
-use name_text::names_are_spelled_once;
+use json_fields::name_text::names_are_spelled_once;
 use rail_types::{List, Tick, Window};
 use running_time::Enter;
 use stair_pieces::Place;

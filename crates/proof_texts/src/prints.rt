@@ -3,7 +3,7 @@
 ghost use Rattle.std.specs.Prelude.{◌≡◌, ◌<◌, ◌∷◌, ◌++◌, [], length, map, decimal, flat_map, All};
 ghost use Rattle.std.specs.Prelude.{OnErr, OnOk};
 ghost use Rattle.json_fields.specs.Escapes.{escaped};
-ghost use Rattle.reply_texts.specs.Fields.{spaced};
+ghost use Rattle.client_lines.specs.Fields.{spaced};
 ghost use Rattle.proof_texts.specs.Prints.{HasPointsOf, Prints, block_text, stop_text};
 ghost use Rattle.proof_texts.specs.Texts.{asked_fields, count_fields, counted_fields, ended};
 ghost use Rattle.proof_texts.specs.Texts.{entered_number, head_fields, member_text, name_at};
@@ -12,10 +12,10 @@ ghost use Rattle.proof_texts.specs.Texts.{stop_fields, time_fields};
 
 use crate::refusals::Proof;
 use byte_fields::Buffer;
-use named_network::Named;
+use client_lines::reply_texts::{print_flag, print_name, print_number, print_tick, print_word};
 use no_memory::NoMemory;
+use rail_types::named_network::Named;
 use rail_types::{Name, Request, Stop};
-use reply_texts::{print_flag, print_name, print_number, print_tick, print_word};
 use running_time::Enter;
 use tail_states::Member;
 
@@ -34,7 +34,7 @@ fn print_point(stops: &[Name], point: u32, to: &mut Buffer) -> Result<(), NoMemo
     print_name(name_at(stops, point).as_bytes(), to)
 }
 
-#[tactic(auto, unfolding(reply_texts::specs::Fields::spaced))]
+#[tactic(auto, unfolding(client_lines::specs::Fields::spaced))]
 fn print_stop(stops: &[Name], stop: &Stop, to: &mut Buffer) -> Result<(), NoMemory>
     requires { stop.now.stop < length stops.now }
     ensures { Prints (spaced (stop_fields stops.now stop.now)) to.old to.new result }
@@ -63,7 +63,7 @@ fn print_stops(stops: &[Name], items: &[Stop], to: &mut Buffer) -> Result<(), No
     print_each_stop(stops, items, to)
 }
 
-#[tactic(auto, unfolding(reply_texts::specs::Fields::spaced))]
+#[tactic(auto, unfolding(client_lines::specs::Fields::spaced))]
 fn print_counted(stops: &[Name], items: &[Stop], to: &mut Buffer) -> Result<(), NoMemory>
     requires { All (λ stop. stop.stop < length stops.now) items.now }
     ensures { Prints (spaced (counted_fields stops.now items.now)) to.old to.new result }
@@ -72,7 +72,7 @@ fn print_counted(stops: &[Name], items: &[Stop], to: &mut Buffer) -> Result<(), 
     print_stops(stops, items, to)
 }
 
-#[tactic(auto, unfolding(reply_texts::specs::Fields::spaced))]
+#[tactic(auto, unfolding(client_lines::specs::Fields::spaced))]
 fn print_times(stops: &[Name], request: &Request, to: &mut Buffer) -> Result<(), NoMemory>
     requires { All (λ stop. stop.stop < length stops.now) request.now.stops }
     ensures { Prints (spaced (time_fields stops.now request.now)) to.old to.new result }
@@ -84,7 +84,7 @@ fn print_times(stops: &[Name], request: &Request, to: &mut Buffer) -> Result<(),
     print_counted(stops, request.stops.as_slice(), to)
 }
 
-#[tactic(auto, unfolding(reply_texts::specs::Fields::spaced))]
+#[tactic(auto, unfolding(client_lines::specs::Fields::spaced))]
 fn print_request(stops: &[Name], request: &Request, to: &mut Buffer) -> Result<(), NoMemory>
     requires { HasPointsOf (length stops.now) request.now }
     ensures { Prints (spaced (request_fields stops.now request.now)) to.old to.new result }
@@ -95,7 +95,7 @@ fn print_request(stops: &[Name], request: &Request, to: &mut Buffer) -> Result<(
     print_times(stops, request, to)
 }
 
-#[tactic(auto, unfolding(reply_texts::specs::Fields::spaced))]
+#[tactic(auto, unfolding(client_lines::specs::Fields::spaced))]
 fn print_asked(stops: &[Name], proof: &Proof, to: &mut Buffer) -> Result<(), NoMemory>
     requires { HasPointsOf (length stops.now) proof.now.request }
     ensures { Prints (spaced (asked_fields stops.now proof.now)) to.old to.new result }
@@ -105,7 +105,7 @@ fn print_asked(stops: &[Name], proof: &Proof, to: &mut Buffer) -> Result<(), NoM
     print_request(stops, &proof.request, to)
 }
 
-#[tactic(auto, unfolding(reply_texts::specs::Fields::spaced))]
+#[tactic(auto, unfolding(client_lines::specs::Fields::spaced))]
 fn print_head(stops: &[Name], proof: &Proof, to: &mut Buffer) -> Result<(), NoMemory>
     requires { HasPointsOf (length stops.now) proof.now.request }
     ensures { Prints (ended (head_fields stops.now proof.now)) to.old to.new result }
@@ -117,7 +117,7 @@ fn print_head(stops: &[Name], proof: &Proof, to: &mut Buffer) -> Result<(), NoMe
     to.extend(b"\n")
 }
 
-#[tactic(auto, unfolding(reply_texts::specs::Fields::spaced))]
+#[tactic(auto, unfolding(client_lines::specs::Fields::spaced))]
 fn print_count(count: usize, to: &mut Buffer) -> Result<(), NoMemory>
     ensures { Prints (ended (count_fields count)) to.old to.new result }
 {
@@ -153,7 +153,7 @@ fn entered_number(entered: Enter) -> u32
     }
 }
 
-#[tactic(auto, unfolding(reply_texts::specs::Fields::spaced))]
+#[tactic(auto, unfolding(client_lines::specs::Fields::spaced))]
 fn print_state(member: &Member, to: &mut Buffer) -> Result<(), NoMemory>
     ensures { Prints (spaced (state_fields member.now)) to.old to.new result }
 {
@@ -171,7 +171,7 @@ fn print_place(member: &Member, to: &mut Buffer) -> Result<(), NoMemory>
     print_state(member, to)
 }
 
-#[tactic(auto, unfolding(reply_texts::specs::Fields::spaced))]
+#[tactic(auto, unfolding(client_lines::specs::Fields::spaced))]
 fn print_member(member: &Member, to: &mut Buffer) -> Result<(), NoMemory>
     ensures { Prints (member_text member.now) to.old to.new result }
 {

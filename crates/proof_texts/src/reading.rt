@@ -10,7 +10,7 @@ use crate::heads::{read_count, read_head};
 use crate::members::read_members;
 use crate::refusals::Proof;
 use client_lines::Known;
-use name_text::names_are_spelled_once;
+use json_fields::name_text::names_are_spelled_once;
 use rail_types::List;
 use std::alloc::Global;
 use tail_states::{Closed, Member};

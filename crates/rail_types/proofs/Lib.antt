@@ -5,3 +5,4 @@ mod SoundNets
 mod ClaimTests
 mod Firsts
 mod Clashings
+pub mod Keys

@@ -5,3 +5,7 @@ pub mod Networks
 pub mod Limits
 pub mod Timetables
 pub mod Examples
+pub mod IdLists
+pub mod Infras
+pub mod InfraIds
+pub mod Named

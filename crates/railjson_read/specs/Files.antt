@@ -7,15 +7,15 @@ use Rattle.rail_types.specs.declared.limits.TheConstants.{MAX_NETWORK_FILE_BYTES
 use Rattle.json_fields.specs.Places.{whole_file, spot_of}
 use Rattle.json_fields.specs.Reading.{◌>>=◌, or_fault}
 use Rattle.json_fields.specs.Texts.{data_of}
-use Rattle.infra_types.specs.declared.infras.Infra.{Infra}
+use Rattle.rail_types.specs.declared.infra_types.infras.Infra.{Infra}
 use Rattle.infra_fields.specs.declared.faults.InfraFault.{InfraFault}
 use Rattle.infra_fields.specs.declared.faults.InfraFault.TheVariants.{NotJson, Kind, Limit}
 use Rattle.infra_fields.specs.declared.faults.What.TheVariants as what
-use Rattle.infra_lists.specs.Objects.{tracks_in, switches_in, all_placed_in}
-use Rattle.infra_lists.specs.Signals.{signals_in}
-use Rattle.infra_routes.specs.Points.{points_in}
-use Rattle.infra_routes.specs.Routes.{routes_in}
-use Rattle.infra_routes.specs.Speeds.{speeds_in}
+use Rattle.railjson_read.specs.Objects.{tracks_in, switches_in, all_placed_in}
+use Rattle.railjson_read.specs.Signals.{signals_in}
+use Rattle.railjson_read.specs.Points.{points_in}
+use Rattle.railjson_read.specs.Routes.{routes_in}
+use Rattle.railjson_read.specs.Speeds.{speeds_in}
 use Rattle.railjson_read.specs.declared.wholes.Landmarks.{Landmarks}
 use Rattle.railjson_read.specs.declared.wholes.Others.{Others}
 

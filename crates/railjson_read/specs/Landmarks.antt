@@ -1,9 +1,9 @@
 -- The lists whose objects others name, and those behind them.
 use Rattle.std.specs.Prelude.{◌≤◌, length, All}
 use Rattle.rail_types.specs.declared.limits.TheConstants.{MAX_OBJECTS}
-use Rattle.named_network.specs.Named.{IsId}
-use Rattle.infra_types.specs.Infras.{IsTrack, IsSwitch, IsPlaced, IsSignal, IsRoute, IsPoint}
-use Rattle.infra_types.specs.Infras.{IsSpeed, lengths_of}
+use Rattle.rail_types.specs.Named.{IsId}
+use Rattle.rail_types.specs.Infras.{IsTrack, IsSwitch, IsPlaced, IsSignal, IsRoute, IsPoint}
+use Rattle.rail_types.specs.Infras.{IsSpeed, lengths_of}
 use Rattle.railjson_read.specs.declared.wholes.Landmarks.{Landmarks}
 use Rattle.railjson_read.specs.declared.wholes.Others.{Others}
 

@@ -7,14 +7,14 @@ ghost use Rattle.json_fields.specs.Reading.{or_fault};
 ghost use Rattle.json_fields.specs.Texts.{data_of};
 ghost use Rattle.infra_fields.specs.Fields.{Gives};
 ghost use Rattle.infra_fields.specs.declared.faults.InfraFault.TheVariants.{NotJson};
-ghost use Rattle.infra_types.specs.Infras.{IsInfra};
+ghost use Rattle.rail_types.specs.Infras.{IsInfra};
 ghost use Rattle.railjson_read.specs.Files.{infra_at, object_of};
 
 use crate::wholes::read_lists;
 use infra_fields::{InfraFault, What};
-use infra_types::Infra;
 use json_fields::{Place, Unread, value_of};
 use rail_types::MAX_NETWORK_FILE_BYTES;
+use rail_types::infra_types::Infra;
 use serde_json::Value;
 use std::alloc::Global;
 

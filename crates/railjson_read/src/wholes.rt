@@ -3,16 +3,18 @@
 ghost use Rattle.std.specs.Prelude.{◌≡◌, IfOk};
 ghost use Rattle.serde_json.specs.View.{view};
 ghost use Rattle.infra_fields.specs.Fields.{Gives};
-ghost use Rattle.infra_types.specs.Infras.{IsInfra};
+ghost use Rattle.rail_types.specs.Infras.{IsInfra};
 ghost use Rattle.railjson_read.specs.Files.{lists_in, landmarks_in, others_in, joined};
 ghost use Rattle.railjson_read.specs.Landmarks.{AreLandmarks, AreOthers};
 
-use id_lists::{HasId, Listed};
+use crate::infra_lists::{placed_of, signals_of, switches_of, tracks_of};
+use crate::infra_routes::{points_of, routes_of, speeds_of};
 use infra_fields::InfraFault;
-use infra_lists::{placed_of, signals_of, switches_of, tracks_of};
-use infra_routes::{points_of, routes_of, speeds_of};
-use infra_types::{Infra, OperationalPoint, Placed, Route, Signal, SpeedSection, Switch, Track};
 use rail_types::List;
+use rail_types::id_lists::{HasId, Listed};
+use rail_types::infra_types::{
+    Infra, OperationalPoint, Placed, Route, Signal, SpeedSection, Switch, Track,
+};
 use serde_json::Value;
 use std::alloc::Global;
 

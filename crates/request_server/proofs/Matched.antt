@@ -6,17 +6,17 @@ use Rattle.std.proofs.lemmas.List.Elements.{All-cons, All-head, All-nil, All-tai
 use Rattle.admission_rules.specs.declared.rules.Rule.{Ghosts as Rules}
 use Rattle.book_gate.specs.Passes.{view}
 use Rattle.book_gate.specs.Views.{StartsWith}
-use Rattle.client_rules.specs.Ruled.{stand}
-use Rattle.client_rules.specs.Told.{told_at}
-use Rattle.client_seats.specs.Joins.{AreJoined}
-use Rattle.client_seats.specs.Runs.{AreMatched, owned}
-use Rattle.client_seats.specs.Seats.{callers_at, found_at, IsDone}
-use Rattle.client_seats.specs.Talks.{printed, Talk}
-use Rattle.client_seats.proofs.Done.{seat_done}
-use Rattle.client_seats.proofs.Histories.{given_within}
-use Rattle.client_seats.proofs.Joins.{joined_none}
-use Rattle.client_seats.proofs.Owned.{told_at-longer, told_whole}
-use Rattle.client_turns.specs.Turns.{Sight}
+use Rattle.admission_rules.specs.Ruled.{stand}
+use Rattle.admission_rules.specs.Told.{told_at}
+use Rattle.request_server.specs.Joins.{AreJoined}
+use Rattle.request_server.specs.ClientRuns.{AreMatched, owned}
+use Rattle.request_server.specs.Seats.{callers_at, found_at, IsDone}
+use Rattle.request_server.specs.Talks.{printed, Talk}
+use Rattle.request_server.proofs.Done.{seat_done}
+use Rattle.request_server.proofs.Histories.{given_within}
+use Rattle.request_server.proofs.Joins.{joined_none}
+use Rattle.request_server.proofs.Owned.{told_at-longer, told_whole}
+use Rattle.ask_turns.specs.Turns.{Sight}
 use Rattle.line_answers.specs.declared.shared.Shared.{Shared}
 use Rattle.line_sessions.specs.Ends.{Streams}
 use Rattle.line_sessions.specs.Told.{Told}

@@ -2,11 +2,11 @@
 use Rattle.std.specs.Prelude.{◌≡◌, ℕ, List}
 use Rattle.admission_rules.specs.declared.rules.Rule.{Ghosts as Rules}
 use Rattle.book_gate.specs.Passes.{view}
-use Rattle.client_rules.specs.Ruled.{Ruled, stand}
-use Rattle.client_rules.specs.Told.{told_at}
-use Rattle.client_seats.specs.Runs.{told_own}
-use Rattle.client_seats.specs.Seats.{AnswersAt, IsDone, IsSeated, IsTaken}
-use Rattle.client_seats.specs.Talks.{printed, Talk}
+use Rattle.admission_rules.specs.Ruled.{Ruled, stand}
+use Rattle.admission_rules.specs.Told.{told_at}
+use Rattle.request_server.specs.ClientRuns.{told_own}
+use Rattle.request_server.specs.Seats.{AnswersAt, IsDone, IsSeated, IsTaken}
+use Rattle.request_server.specs.Talks.{printed, Talk}
 use Rattle.line_answers.specs.declared.shared.Shared.{Shared}
 use Rattle.line_sessions.specs.Ends.{Ends, Passes, scene, Streams}
 use Rattle.line_sessions.specs.Proofs.{is_wanted}

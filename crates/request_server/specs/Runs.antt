@@ -2,11 +2,11 @@
 use Rattle.std.specs.Prelude.{◌≡◌, ℕ, List}
 use Rattle.admission_rules.specs.declared.rules.Rule.{Ghosts as Rules}
 use Rattle.client_lines.specs.Names.{Names}
-use Rattle.client_rules.specs.Ruled.{stand}
-use Rattle.client_seats.specs.Runs.{AreMatched, IsRun, told_own}
-use Rattle.client_seats.specs.Seats.{IsDone}
-use Rattle.client_seats.specs.Talks.{Talk}
-use Rattle.client_seats.specs.declared.seats.Seat.{Seat}
+use Rattle.admission_rules.specs.Ruled.{stand}
+use Rattle.request_server.specs.ClientRuns.{AreMatched, IsRun, told_own}
+use Rattle.request_server.specs.Seats.{IsDone}
+use Rattle.request_server.specs.Talks.{Talk}
+use Rattle.request_server.specs.declared.client_seats.seats.Seat.{Seat}
 use Rattle.line_answers.specs.declared.shared.Shared.{Shared}
 use Rattle.line_sessions.specs.Ends.{Passes, Streams}
 use Rattle.line_sessions.specs.Proofs.{is_wanted}

@@ -2,9 +2,15 @@
 //! after another by its rules, and what all of them are told is one history.
 #![tactic(auto)]
 
+pub mod client_plans;
+pub mod client_seats;
+pub mod client_streams;
 mod clients;
 mod plans;
 mod runs;
+pub mod serve_command;
+pub mod serve_reports;
+pub mod served_journals;
 
 pub use clients::serve_client;
 pub use plans::{Plan, Session};

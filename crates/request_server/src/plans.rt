@@ -1,7 +1,7 @@
 //! Clients before and after they are served.
 
+use crate::client_seats::Seat;
 use admission_rules::Rule;
-use client_seats::Seat;
 use line_sessions::{Ended, Proofs};
 use outside_io::{Between, Disk, Sink, Source};
 use rail_types::Name;

@@ -2,13 +2,13 @@
 use Rattle.std.proofs.Common.{◌≡◌, ◌∙◌, ℕ, zero, suc, ◌-◌, ◌<◌, ◌≤◌, Bool, true, false, cond, List, length, Option, Some, None, refl, sym, ap, subst, arith}
 use Rattle.std.proofs.lemmas.Bool.{ne_eqb}
 use Rattle.std.specs.Prelude.{slice_get, IfSome, is_some}
-use Rattle.infra_types.specs.Infras.{IsInfra, IsSwitch}
-use Rattle.infra_types.specs.declared.ends.Direction.{Direction}
-use Rattle.infra_types.specs.declared.ends.Direction.TheVariants.{StartToStop, StopToStart}
-use Rattle.infra_types.specs.declared.ends.TrackEnd.{TrackEnd}
-use Rattle.infra_types.specs.declared.infras.Infra.{Infra}
-use Rattle.infra_types.specs.declared.switches.Group.{Group}
-use Rattle.infra_types.specs.declared.switches.Way.{Way}
+use Rattle.rail_types.specs.Infras.{IsInfra, IsSwitch}
+use Rattle.rail_types.specs.declared.infra_types.ends.Direction.{Direction}
+use Rattle.rail_types.specs.declared.infra_types.ends.Direction.TheVariants.{StartToStop, StopToStart}
+use Rattle.rail_types.specs.declared.infra_types.ends.TrackEnd.{TrackEnd}
+use Rattle.rail_types.specs.declared.infra_types.infras.Infra.{Infra}
+use Rattle.rail_types.specs.declared.infra_types.switches.Group.{Group}
+use Rattle.rail_types.specs.declared.infra_types.switches.Way.{Way}
 use Rattle.track_graph.specs.declared.stands.Stand.{Stand}
 use Rattle.track_graph.specs.Layouts.{Layout, IsStep, IsSwitchAt}
 use Rattle.track_graph.specs.Pieces.{AreOn, length_of}

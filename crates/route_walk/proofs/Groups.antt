@@ -3,8 +3,8 @@ use Rattle.std.proofs.Common.{◌≡◌, ◌∙◌, ℕ, zero, suc, ◌<◌, ◌
 use Rattle.std.proofs.lemmas.Bool.{cases_order, eq-eqb, ne_eqb}
 use Rattle.std.specs.Prelude.{slice_get}
 use Rattle.std.specs.List.{AllPairs, AllWithin}
-use Rattle.infra_types.specs.declared.switches.Group.TheVariants.{Other}
-use Rattle.infra_types.specs.declared.switches.Way.{Way}
+use Rattle.rail_types.specs.declared.infra_types.switches.Group.TheVariants.{Other}
+use Rattle.rail_types.specs.declared.infra_types.switches.Way.{Way}
 use Rattle.route_walk.specs.Ways.{group_in, group_of}
 
 pub got_within : {X : Type 0} (xs : List X) (i : ℕ) (x : X) → slice_get xs i ≡ Some x → (i < length xs) × ((d : X) → get_or xs i d ≡ x)

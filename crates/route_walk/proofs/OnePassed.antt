@@ -4,7 +4,7 @@ use Rattle.std.proofs.lemmas.Bool.{cases_lt}
 use Rattle.std.proofs.lemmas.List.{length-map}
 use Rattle.std.specs.Prelude.{slice_get}
 use Rattle.std.specs.List.{All, AllPairs, cons_option, filter_map}
-use Rattle.infra_types.specs.declared.routes.Route.{Route}
+use Rattle.rail_types.specs.declared.infra_types.routes.Route.{Route}
 use Rattle.route_walk.specs.declared.places.Place.{Place}
 use Rattle.route_walk.specs.declared.walks.Passed.{Passed}
 use Rattle.route_walk.specs.Legs.{ArePassed, first_number, metres_to, number_at, numbers_at}

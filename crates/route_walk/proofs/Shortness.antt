@@ -11,17 +11,17 @@ use Rattle.std.proofs.lemmas.Map.Views.{Contains-from_any}
 use Rattle.std.proofs.lemmas.Option.{slice_get_read}
 use Rattle.std.specs.Prelude.{slice_get}
 use Rattle.std.specs.List.{All, AllPairs, Contains, cons_option}
-use Rattle.infra_types.specs.Infras.{IsInfra, IsRoutePoint}
-use Rattle.infra_types.specs.declared.ends.Direction.{Direction}
-use Rattle.infra_types.specs.declared.ends.Direction.TheVariants.{StartToStop, StopToStart}
-use Rattle.infra_types.specs.declared.ends.End.{End}
-use Rattle.infra_types.specs.declared.ends.End.TheVariants as ends
-use Rattle.infra_types.specs.declared.ends.TrackEnd.{TrackEnd}
-use Rattle.infra_types.specs.declared.infras.Infra.{Infra}
-use Rattle.infra_types.specs.declared.routes.RoutePoint.{RoutePoint}
-use Rattle.infra_types.specs.declared.routes.RoutePoint.TheVariants as bounds
-use Rattle.infra_types.specs.declared.switches.Switch.{Switch}
-use Rattle.infra_types.specs.declared.switches.Way.{Way}
+use Rattle.rail_types.specs.Infras.{IsInfra, IsRoutePoint}
+use Rattle.rail_types.specs.declared.infra_types.ends.Direction.{Direction}
+use Rattle.rail_types.specs.declared.infra_types.ends.Direction.TheVariants.{StartToStop, StopToStart}
+use Rattle.rail_types.specs.declared.infra_types.ends.End.{End}
+use Rattle.rail_types.specs.declared.infra_types.ends.End.TheVariants as ends
+use Rattle.rail_types.specs.declared.infra_types.ends.TrackEnd.{TrackEnd}
+use Rattle.rail_types.specs.declared.infra_types.infras.Infra.{Infra}
+use Rattle.rail_types.specs.declared.infra_types.routes.RoutePoint.{RoutePoint}
+use Rattle.rail_types.specs.declared.infra_types.routes.RoutePoint.TheVariants as bounds
+use Rattle.rail_types.specs.declared.infra_types.switches.Switch.{Switch}
+use Rattle.rail_types.specs.declared.infra_types.switches.Way.{Way}
 use Rattle.track_graph.specs.declared.stands.Stand.{Stand}
 use Rattle.track_graph.specs.Layouts.{IsLayoutOf, Layout}
 use Rattle.track_graph.specs.Faults.{AreOnce}

@@ -4,13 +4,13 @@ use Rattle.std.proofs.lemmas.Bool.{ne_eqb, eq-eqb, le-ltb}
 use Rattle.std.proofs.lemmas.List.Sums.{count_by-le-length}
 use Rattle.std.specs.Prelude.{slice_get, IfSome}
 use Rattle.std.specs.List.{All, Contains, count_by}
-use Rattle.infra_types.specs.Infras.{IsInfra, IsPlaced, IsTrack}
-use Rattle.infra_types.specs.declared.ends.Direction.{Direction}
-use Rattle.infra_types.specs.declared.ends.Direction.TheVariants.{StartToStop, StopToStart}
-use Rattle.infra_types.specs.declared.infras.Infra.{Infra}
-use Rattle.infra_types.specs.declared.routes.RoutePoint.{RoutePoint}
-use Rattle.infra_types.specs.declared.tracks.Placed.{Placed}
-use Rattle.infra_types.specs.declared.tracks.Track.{Track}
+use Rattle.rail_types.specs.Infras.{IsInfra, IsPlaced, IsTrack}
+use Rattle.rail_types.specs.declared.infra_types.ends.Direction.{Direction}
+use Rattle.rail_types.specs.declared.infra_types.ends.Direction.TheVariants.{StartToStop, StopToStart}
+use Rattle.rail_types.specs.declared.infra_types.infras.Infra.{Infra}
+use Rattle.rail_types.specs.declared.infra_types.routes.RoutePoint.{RoutePoint}
+use Rattle.rail_types.specs.declared.infra_types.tracks.Placed.{Placed}
+use Rattle.rail_types.specs.declared.infra_types.tracks.Track.{Track}
 use Rattle.track_graph.specs.declared.stands.Stand.{Stand}
 use Rattle.track_graph.specs.Layouts.{Layout}
 use Rattle.track_graph.specs.Pieces.{AreOn, length_of}

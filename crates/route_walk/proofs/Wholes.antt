@@ -6,10 +6,10 @@ use Rattle.std.proofs.lemmas.List.Sums.{sum_by-cons, sum_by-take-le}
 use Rattle.std.specs.Prelude.{slice_index_or, IfSome}
 use Rattle.std.specs.List.{All, cons_option}
 use Rattle.std.specs.List.Sorted.{IsNonDecreasing, IsNonDecreasingBy}
-use Rattle.infra_types.specs.Infras.{IsInfra}
-use Rattle.infra_types.specs.declared.infras.Infra.{Infra}
-use Rattle.infra_types.specs.declared.routes.Route.{Route}
-use Rattle.infra_types.specs.declared.switches.Way.{Way}
+use Rattle.rail_types.specs.Infras.{IsInfra}
+use Rattle.rail_types.specs.declared.infra_types.infras.Infra.{Infra}
+use Rattle.rail_types.specs.declared.infra_types.routes.Route.{Route}
+use Rattle.rail_types.specs.declared.infra_types.switches.Way.{Way}
 use Rattle.track_graph.specs.declared.stands.Stand.{Stand}
 use Rattle.track_graph.specs.Layouts.{Layout}
 use Rattle.track_graph.specs.Pieces.{length_of}

@@ -1,14 +1,16 @@
 -- Where a route begins, and where it ends.
 use Rattle.std.specs.Prelude.{◌≡◌, ℕ, ◌+◌, min, max, Bool, true, false, nat_eq, nat_lt, List}
 use Rattle.std.specs.Prelude.{length, slice_get, Option, Some, None, if◌then◌else◌}
-use Rattle.infra_types.specs.Infras.{IsRoutePoint}
-use Rattle.infra_types.specs.declared.ends.Direction.{Direction}
-use Rattle.infra_types.specs.declared.ends.Direction.TheVariants.{StartToStop, StopToStart}
-use Rattle.infra_types.specs.declared.infras.Infra.{Infra}
-use Rattle.infra_types.specs.declared.routes.Route.{Route}
-use Rattle.infra_types.specs.declared.routes.RoutePoint.{RoutePoint}
-use Rattle.infra_types.specs.declared.routes.RoutePoint.TheVariants.{Detector, BufferStop}
-use Rattle.infra_types.specs.declared.tracks.Placed.{Placed}
+use Rattle.rail_types.specs.Infras.{IsRoutePoint}
+use Rattle.rail_types.specs.declared.infra_types.ends.Direction.{Direction}
+use Rattle.rail_types.specs.declared.infra_types.ends.Direction.TheVariants.{StartToStop}
+use Rattle.rail_types.specs.declared.infra_types.ends.Direction.TheVariants.{StopToStart}
+use Rattle.rail_types.specs.declared.infra_types.infras.Infra.{Infra}
+use Rattle.rail_types.specs.declared.infra_types.routes.Route.{Route}
+use Rattle.rail_types.specs.declared.infra_types.routes.RoutePoint.{RoutePoint}
+use Rattle.rail_types.specs.declared.infra_types.routes.RoutePoint.TheVariants.{Detector}
+use Rattle.rail_types.specs.declared.infra_types.routes.RoutePoint.TheVariants.{BufferStop}
+use Rattle.rail_types.specs.declared.infra_types.tracks.Placed.{Placed}
 use Rattle.track_graph.specs.declared.stands.Stand.{Stand}
 use Rattle.track_graph.specs.Layouts.{Layout}
 use Rattle.track_graph.specs.Pieces.{length_of}

@@ -3,12 +3,14 @@ use Rattle.std.specs.Prelude.{◌≡◌, ℕ, ◌+◌, ◌-◌, ◌*◌, ◌<◌
 use Rattle.std.specs.Prelude.{map, take, slice_get, slice_index_or, Option, Some, None, option_map}
 use Rattle.std.specs.Prelude.{if◌then◌else◌}
 use Rattle.std.specs.List.{All, AllPairs, filter_map, sum_by}
-use Rattle.infra_types.specs.declared.ends.Direction.{Direction}
-use Rattle.infra_types.specs.declared.ends.Direction.TheVariants.{StartToStop, StopToStart}
-use Rattle.infra_types.specs.declared.infras.Infra.{Infra}
-use Rattle.infra_types.specs.declared.routes.Route.{Route}
-use Rattle.infra_types.specs.declared.routes.RoutePoint.{RoutePoint}
-use Rattle.infra_types.specs.declared.routes.RoutePoint.TheVariants.{Detector, BufferStop}
+use Rattle.rail_types.specs.declared.infra_types.ends.Direction.{Direction}
+use Rattle.rail_types.specs.declared.infra_types.ends.Direction.TheVariants.{StartToStop}
+use Rattle.rail_types.specs.declared.infra_types.ends.Direction.TheVariants.{StopToStart}
+use Rattle.rail_types.specs.declared.infra_types.infras.Infra.{Infra}
+use Rattle.rail_types.specs.declared.infra_types.routes.Route.{Route}
+use Rattle.rail_types.specs.declared.infra_types.routes.RoutePoint.{RoutePoint}
+use Rattle.rail_types.specs.declared.infra_types.routes.RoutePoint.TheVariants.{Detector}
+use Rattle.rail_types.specs.declared.infra_types.routes.RoutePoint.TheVariants.{BufferStop}
 use Rattle.track_graph.specs.Layouts.{Layout, zone_at}
 use Rattle.track_graph.specs.Pieces.{length_of, pieces_of}
 use Rattle.route_walk.specs.declared.places.Place.{Place}

@@ -2,12 +2,13 @@
 use Rattle.std.specs.Prelude.{ℕ, ◌+◌, ◌-◌, ◌<◌, ◌≤◌, Bool, true, false, nat_eq, nat_le, nat_lt}
 use Rattle.std.specs.Prelude.{List, length, slice_get, Option, Some, None, option_map}
 use Rattle.std.specs.Prelude.{if◌then◌else◌, IfSome}
-use Rattle.infra_types.specs.declared.ends.Direction.{Direction}
-use Rattle.infra_types.specs.declared.ends.Direction.TheVariants.{StartToStop, StopToStart}
-use Rattle.infra_types.specs.declared.ends.End.{End}
-use Rattle.infra_types.specs.declared.ends.End.TheVariants as ends
-use Rattle.infra_types.specs.declared.ends.TrackEnd.{TrackEnd}
-use Rattle.infra_types.specs.declared.infras.Infra.{Infra}
+use Rattle.rail_types.specs.declared.infra_types.ends.Direction.{Direction}
+use Rattle.rail_types.specs.declared.infra_types.ends.Direction.TheVariants.{StartToStop}
+use Rattle.rail_types.specs.declared.infra_types.ends.Direction.TheVariants.{StopToStart}
+use Rattle.rail_types.specs.declared.infra_types.ends.End.{End}
+use Rattle.rail_types.specs.declared.infra_types.ends.End.TheVariants as ends
+use Rattle.rail_types.specs.declared.infra_types.ends.TrackEnd.{TrackEnd}
+use Rattle.rail_types.specs.declared.infra_types.infras.Infra.{Infra}
 use Rattle.track_graph.specs.declared.stands.Stand.{Stand}
 use Rattle.track_graph.specs.Layouts.{Layout}
 use Rattle.track_graph.specs.Pieces.{length_of}

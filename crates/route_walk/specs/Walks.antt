@@ -2,8 +2,8 @@
 use Rattle.std.specs.Prelude.{◌≡◌, ◌≢◌, ℕ, ◌+◌, ◌*◌, List, ◌∷◌, length, map, slice_get, Option}
 use Rattle.std.specs.Prelude.{Some, None}
 use Rattle.std.specs.List.{filter_map, sum_by}
-use Rattle.infra_types.specs.declared.infras.Infra.{Infra}
-use Rattle.infra_types.specs.declared.routes.Route.{Route}
+use Rattle.rail_types.specs.declared.infra_types.infras.Infra.{Infra}
+use Rattle.rail_types.specs.declared.infra_types.routes.Route.{Route}
 use Rattle.track_graph.specs.Layouts.{IsLayoutOf, Layout}
 use Rattle.route_walk.specs.declared.places.Place.{Place}
 use Rattle.route_walk.specs.declared.walks.Walk.{Walk}

@@ -1,15 +1,16 @@
 -- Where a route's ways lead across switches.
 use Rattle.std.specs.Prelude.{◌≡◌, ℕ, ◌↔◌, List, nat_eq, find, Option, Some, None}
-use Rattle.infra_types.specs.declared.ends.Direction.{Direction}
-use Rattle.infra_types.specs.declared.ends.Direction.TheVariants.{StartToStop, StopToStart}
-use Rattle.infra_types.specs.declared.ends.End.{End}
-use Rattle.infra_types.specs.declared.ends.End.TheVariants as ends
-use Rattle.infra_types.specs.declared.ends.TrackEnd.{TrackEnd}
-use Rattle.infra_types.specs.declared.infras.Infra.{Infra}
-use Rattle.infra_types.specs.declared.switches.Group.{Group}
-use Rattle.infra_types.specs.declared.switches.Group.TheVariants.{Other}
-use Rattle.infra_types.specs.declared.switches.Switch.{Switch}
-use Rattle.infra_types.specs.declared.switches.Way.{Way}
+use Rattle.rail_types.specs.declared.infra_types.ends.Direction.{Direction}
+use Rattle.rail_types.specs.declared.infra_types.ends.Direction.TheVariants.{StartToStop}
+use Rattle.rail_types.specs.declared.infra_types.ends.Direction.TheVariants.{StopToStart}
+use Rattle.rail_types.specs.declared.infra_types.ends.End.{End}
+use Rattle.rail_types.specs.declared.infra_types.ends.End.TheVariants as ends
+use Rattle.rail_types.specs.declared.infra_types.ends.TrackEnd.{TrackEnd}
+use Rattle.rail_types.specs.declared.infra_types.infras.Infra.{Infra}
+use Rattle.rail_types.specs.declared.infra_types.switches.Group.{Group}
+use Rattle.rail_types.specs.declared.infra_types.switches.Group.TheVariants.{Other}
+use Rattle.rail_types.specs.declared.infra_types.switches.Switch.{Switch}
+use Rattle.rail_types.specs.declared.infra_types.switches.Way.{Way}
 use Rattle.track_graph.specs.Layouts.{Layout}
 use Rattle.track_graph.specs.Ways.{LeadsTo}
 use Rattle.route_walk.specs.declared.places.Place.{Place}

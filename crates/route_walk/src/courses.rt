@@ -2,7 +2,7 @@
 
 ghost use Rattle.std.specs.Prelude.{◌≡◌, ◌∷◌, ◌≤◌, ◌+◌, ◌*◌, ◌<◌, ◌^◌, ◌↔◌, length, IfOk, IsTrue};
 ghost use Rattle.std.specs.List.{All, AllPairs};
-ghost use Rattle.infra_types.specs.Infras.{IsInfra};
+ghost use Rattle.rail_types.specs.Infras.{IsInfra};
 ghost use Rattle.track_graph.specs.Layouts.{IsLayoutOf};
 ghost use Rattle.route_walk.specs.Places.{IsPlace};
 ghost use Rattle.route_walk.specs.Entries.{IsEntry};
@@ -15,8 +15,8 @@ use crate::passages::{Passage, pass};
 use crate::places::{Place, Point};
 use crate::ways::ahead;
 use indexmap::IndexSet;
-use infra_types::{Infra, Way};
 use no_memory::NoMemory;
+use rail_types::infra_types::{Infra, Way};
 use std::alloc::Global;
 use track_graph::Graph;
 

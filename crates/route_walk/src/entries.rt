@@ -2,7 +2,7 @@
 
 ghost use Rattle.std.specs.Prelude.{◌≡◌, ◌<◌, ◌≤◌, ◌+◌, ◌^◌, length, IfSome};
 ghost use Rattle.std.specs.List.{AllPairs};
-ghost use Rattle.infra_types.specs.Infras.{IsInfra};
+ghost use Rattle.rail_types.specs.Infras.{IsInfra};
 ghost use Rattle.track_graph.specs.Layouts.{IsLayoutOf};
 ghost use Rattle.track_graph.specs.Pieces.{length_of};
 ghost use Rattle.track_graph.specs.Stands.{ComesBefore};
@@ -13,7 +13,7 @@ ghost use Rattle.route_walk.specs.Entries.{side_past_stop, stop_from, stop_spot,
 
 use crate::counts::{below, rank_of};
 use crate::places::{Place, Point, Spot, ahead_in, length_of, position_of};
-use infra_types::{Direction, Infra, Placed, Route, RoutePoint};
+use rail_types::infra_types::{Direction, Infra, Placed, Route, RoutePoint};
 use track_graph::{Graph, Stand};
 
 fn track_at(all: &[Placed], number: u32) -> u32

@@ -3,7 +3,7 @@
 ghost use Rattle.std.specs.Prelude.{◌≡◌, ◌∷◌, ◌+◌, ◌-◌, ◌*◌, ◌<◌, ◌≤◌, ◌^◌, ℕ, length, map};
 ghost use Rattle.std.specs.Prelude.{slice_index_or, IfOk, IfSome, Some, None};
 ghost use Rattle.std.specs.List.{All, filter_map, sum_by};
-ghost use Rattle.infra_types.specs.Infras.{IsInfra, IsRoute, IsRoutePoint};
+ghost use Rattle.rail_types.specs.Infras.{IsInfra, IsRoute, IsRoutePoint};
 ghost use Rattle.track_graph.specs.Layouts.{IsLayoutOf};
 ghost use Rattle.route_walk.specs.Entries.{IsPointOf};
 ghost use Rattle.route_walk.specs.Legs.{AreBehind, ArePassed, arrival_side, leg_at, length_m};
@@ -16,8 +16,8 @@ ghost use Rattle.route_walk.specs.Sound.{AreSound};
 use crate::counts::begun_before;
 use crate::places::{Place, Point, length_of};
 use crate::walks::{Passed, Stretch};
-use infra_types::{Direction, Infra, Route, RoutePoint};
 use no_memory::NoMemory;
+use rail_types::infra_types::{Direction, Infra, Route, RoutePoint};
 use std::alloc::Global;
 use track_graph::Graph;
 

@@ -7,7 +7,7 @@ ghost use Rattle.route_walk.specs.Places.{IsPlace, IsSpot, ahead_in, at_detector
 ghost use Rattle.route_walk.specs.Places.{at_wall, begin_of, come, far_end, gap_behind};
 ghost use Rattle.route_walk.specs.Places.{position_of, stands_first};
 
-use infra_types::{Direction, End, Infra, TrackEnd};
+use rail_types::infra_types::{Direction, End, Infra, TrackEnd};
 use track_graph::{Graph, Stand};
 
 /// A point at which a route can end: a detector, or where a buffer stop stands.

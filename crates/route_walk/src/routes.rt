@@ -3,7 +3,7 @@
 ghost use Rattle.std.specs.Prelude.{◌≡◌, ◌∷◌, ◌+◌, ◌*◌, ◌<◌, ◌≤◌, ◌^◌, ℕ, length, slice_index_or};
 ghost use Rattle.std.specs.Prelude.{IfErr, IfOk, Some, None};
 ghost use Rattle.std.specs.List.{All};
-ghost use Rattle.infra_types.specs.Infras.{IsInfra, IsRoute};
+ghost use Rattle.rail_types.specs.Infras.{IsInfra, IsRoute};
 ghost use Rattle.track_graph.specs.Layouts.{IsLayoutOf};
 ghost use Rattle.route_walk.specs.Legs.{AreBehind, length_m, point_count};
 ghost use Rattle.route_walk.specs.Places.{IsPlace};
@@ -16,9 +16,9 @@ use crate::legs::{legs_of, metres_of, stretches_of};
 use crate::places::Place;
 use crate::releases::{first_stray, release_metres};
 use crate::walks::{Walk, WalkFault};
-use infra_types::{Infra, Route};
 use no_memory::NoMemory;
 use rail_types::List;
+use rail_types::infra_types::{Infra, Route};
 use std::alloc::Global;
 use track_graph::Graph;
 

@@ -1,8 +1,8 @@
 //! What a walk is, and why a route has none.
 
-use infra_types::Direction;
 use no_memory::NoMemory;
 use rail_types::List;
+use rail_types::infra_types::Direction;
 use thiserror::Error;
 
 /// A point that a walk passes: its directed number, its metres from the walk's beginning, and how

@@ -2,13 +2,13 @@
 
 ghost use Rattle.std.specs.Prelude.{◌≡◌, ◌<◌, ◌≤◌, length, slice_get, IfSome};
 ghost use Rattle.std.specs.List.{AllPairs, AllWithin};
-ghost use Rattle.infra_types.specs.Infras.{IsInfra};
+ghost use Rattle.rail_types.specs.Infras.{IsInfra};
 ghost use Rattle.track_graph.specs.Layouts.{IsLayoutOf};
 ghost use Rattle.route_walk.specs.Places.{IsPlace};
 ghost use Rattle.route_walk.specs.Ways.{IsLead, IsNext, end_of, group_of};
 
 use crate::places::{Place, Spot, begin_of, come};
-use infra_types::{Direction, End, Group, Infra, TrackEnd, Way};
+use rail_types::infra_types::{Direction, End, Group, Infra, TrackEnd, Way};
 use track_graph::Graph;
 
 /// The group in which a route with these ways crosses a switch.

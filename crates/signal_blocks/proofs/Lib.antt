@@ -4,3 +4,17 @@ pub mod Growing
 pub mod Within
 pub mod Limits
 pub mod Whole
+pub mod Ranges
+pub mod Releases
+pub mod Stretches
+pub mod Stops
+pub mod Cuttings
+pub mod Lengths
+pub mod Orders
+pub mod CellOrders
+pub mod Ranks
+pub mod TrackRows
+pub mod Empties
+pub mod Flawless
+pub mod NetFlaws
+pub mod Counts

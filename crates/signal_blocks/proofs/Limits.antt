@@ -3,15 +3,15 @@ use Rattle.std.proofs.Common.{ℕ, ◌+◌, ◌<◌, ◌≤◌, List, [], ◌∷
 use Rattle.std.specs.List.{All}
 use Rattle.std.proofs.lemmas.List.{length-map}
 use Rattle.std.proofs.lemmas.List.Elements.{All-nil, All-append, All-head, All-tail, All-map}
-use Rattle.block_cuts.specs.declared.lines.SpeedRange.{SpeedRange}
-use Rattle.block_cuts.specs.declared.lines.StopPart.{StopPart}
-use Rattle.infra_types.specs.declared.infras.Infra.{Infra}
-use Rattle.infra_types.specs.declared.tracks.OperationalPoint.{OperationalPoint}
-use Rattle.infra_types.specs.declared.tracks.Part.{Part}
-use Rattle.infra_types.specs.declared.tracks.Range.{Range}
-use Rattle.infra_types.specs.declared.tracks.SpeedSection.{SpeedSection}
-use Rattle.infra_types.specs.declared.tracks.Track.{Track}
-use Rattle.infra_types.specs.Infras.{IsInfra, IsPoint, IsRange, IsSpeed, lengths_of}
+use Rattle.signal_blocks.specs.declared.block_cuts.lines.SpeedRange.{SpeedRange}
+use Rattle.signal_blocks.specs.declared.block_cuts.lines.StopPart.{StopPart}
+use Rattle.rail_types.specs.declared.infra_types.infras.Infra.{Infra}
+use Rattle.rail_types.specs.declared.infra_types.tracks.OperationalPoint.{OperationalPoint}
+use Rattle.rail_types.specs.declared.infra_types.tracks.Part.{Part}
+use Rattle.rail_types.specs.declared.infra_types.tracks.Range.{Range}
+use Rattle.rail_types.specs.declared.infra_types.tracks.SpeedSection.{SpeedSection}
+use Rattle.rail_types.specs.declared.infra_types.tracks.Track.{Track}
+use Rattle.rail_types.specs.Infras.{IsInfra, IsPoint, IsRange, IsSpeed, lengths_of}
 use Rattle.rail_types.specs.declared.limits.TheConstants.{MAX_SPEED_MM_S}
 use Rattle.signal_blocks.specs.Lines.{limited, parts_from, parts_of, speed_ranges, stop_parts}
 

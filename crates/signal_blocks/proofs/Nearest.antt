@@ -6,8 +6,8 @@ use Rattle.std.proofs.lemmas.Bool.{leb-false}
 use Rattle.std.proofs.lemmas.List.{get_or-set_same, get_or-set_other, append-nil}
 use Rattle.std.proofs.lemmas.List.Elements.{filter_more, All-nil, All-cons, All-append, All-set}
 use Rattle.signal_blocks.specs.Inside.{AreNearest, IsPost, nearer, nearest_at}
-use Rattle.block_cuts.specs.Cuts.{sight_at}
-use Rattle.infra_types.specs.declared.signals.Signal.{Signal}
+use Rattle.signal_blocks.specs.Cuts.{sight_at}
+use Rattle.rail_types.specs.declared.infra_types.signals.Signal.{Signal}
 use Rattle.rail_types.specs.declared.limits.TheConstants.{MAX_SIGHT_M}
 use Rattle.track_graph.specs.Layouts.{Layout}
 use Rattle.signal_blocks.specs.Posts.{AreSights, IsNearest, IsNearestOf, posts_at, posts_of}

@@ -6,18 +6,18 @@ use Rattle.std.proofs.lemmas.List.FromFn.{length-map-range_with_len}
 use Rattle.std.proofs.lemmas.List.{get_or_push, get_or_append_left, length-map}
 use native.Mathlib.Decide.{ℕ_discrete}
 use Rattle.std.proofs.lemmas.List.Sums.{sum_by-cons}
-use Rattle.block_cuts.specs.Cuts.{block_count}
-use Rattle.block_cuts.specs.Faults.{count_blocks}
-use Rattle.block_cuts.specs.declared.faults.Fault.{Fault}
-use Rattle.block_cuts.specs.declared.faults.Fault.TheVariants as faults
-use Rattle.infra_types.specs.declared.infras.Infra.{Infra}
-use Rattle.infra_types.specs.declared.routes.Route.{Route}
-use Rattle.named_network.specs.declared.BlockName.{BlockName}
-use Rattle.named_network.specs.Named.{IsId, IsNamed}
-use Rattle.named_network.specs.declared.Named.{Named}
-use Rattle.named_network.specs.declared.ZoneName.{ZoneName}
-use Rattle.infra_types.specs.declared.tracks.OperationalPoint.{OperationalPoint}
-use Rattle.infra_types.specs.Infras.{IsInfra}
+use Rattle.signal_blocks.specs.Cuts.{block_count}
+use Rattle.signal_blocks.specs.Faults.{count_blocks}
+use Rattle.signal_blocks.specs.declared.block_cuts.faults.Fault.{Fault}
+use Rattle.signal_blocks.specs.declared.block_cuts.faults.Fault.TheVariants as faults
+use Rattle.rail_types.specs.declared.infra_types.infras.Infra.{Infra}
+use Rattle.rail_types.specs.declared.infra_types.routes.Route.{Route}
+use Rattle.rail_types.specs.declared.named_network.BlockName.{BlockName}
+use Rattle.rail_types.specs.Named.{IsId, IsNamed}
+use Rattle.rail_types.specs.declared.named_network.Named.{Named}
+use Rattle.rail_types.specs.declared.named_network.ZoneName.{ZoneName}
+use Rattle.rail_types.specs.declared.infra_types.tracks.OperationalPoint.{OperationalPoint}
+use Rattle.rail_types.specs.Infras.{IsInfra}
 use Rattle.rail_types.specs.Flaws.{first_flaw}
 use Rattle.route_walk.specs.declared.walks.Walk.{Walk}
 use Rattle.route_walk.specs.declared.walks.WalkFault.{WalkFault}

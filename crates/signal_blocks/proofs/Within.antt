@@ -4,10 +4,10 @@ use Rattle.std.specs.List.{All, sum_by}
 use Rattle.std.proofs.Math.Seq.{take-length}
 use Rattle.std.proofs.lemmas.List.Elements.{All-nil, All-cons, All-head, All-tail, All-contains_itself}
 use Rattle.std.proofs.lemmas.List.Sums.{sum_by-cons}
-use Rattle.infra_types.specs.declared.infras.Infra.{Infra}
-use Rattle.infra_types.specs.declared.tracks.Placed.{Placed}
-use Rattle.infra_types.specs.declared.tracks.Track.{Track}
-use Rattle.infra_types.specs.Infras.{IsInfra, IsTrack}
+use Rattle.rail_types.specs.declared.infra_types.infras.Infra.{Infra}
+use Rattle.rail_types.specs.declared.infra_types.tracks.Placed.{Placed}
+use Rattle.rail_types.specs.declared.infra_types.tracks.Track.{Track}
+use Rattle.rail_types.specs.Infras.{IsInfra, IsTrack}
 use Rattle.rail_types.specs.declared.limits.TheConstants.{MAX_TRACK_LENGTH_M}
 use Rattle.track_graph.specs.declared.pieces.Piece.{Piece}
 use Rattle.track_graph.specs.Faults.{Located, all_located, first_off, is_off, placed_at, points_at, signals_at}

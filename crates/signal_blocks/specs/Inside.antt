@@ -4,9 +4,9 @@ use Rattle.std.specs.Prelude.{nat_le, if◌then◌else◌}
 use Rattle.std.specs.List.{All}
 use Rattle.rail_types.specs.declared.limits.TheConstants.{MAX_SIGHT_M}
 use Rattle.track_graph.specs.declared.pieces.Piece.{Piece}
-use Rattle.block_cuts.specs.declared.faults.Fault.TheVariants as faults
-use Rattle.block_cuts.specs.declared.faults.Fault.{Fault}
-use Rattle.infra_types.specs.declared.infras.Infra.{Infra}
+use Rattle.signal_blocks.specs.declared.block_cuts.faults.Fault.TheVariants as faults
+use Rattle.signal_blocks.specs.declared.block_cuts.faults.Fault.{Fault}
+use Rattle.rail_types.specs.declared.infra_types.infras.Infra.{Infra}
 use Rattle.track_graph.specs.declared.faults.GraphFault.TheVariants as graphs
 use Rattle.track_graph.specs.declared.faults.GraphFault.{GraphFault}
 use Rattle.signal_blocks.specs.Networks.{route_name}
@@ -18,8 +18,8 @@ use Rattle.signal_blocks.specs.declared.posts.Post.{Post}
 use Rattle.signal_blocks.specs.declared.zones.ZonedPiece.{ZonedPiece}
 use Rattle.signal_blocks.specs.Lines.{speed_ranges, stop_parts}
 use Rattle.signal_blocks.specs.Posts.{AreSights, IsNearestOf, posts_at}
-use Rattle.block_cuts.specs.Cuts.{sight_at}
-use Rattle.block_cuts.specs.declared.lines.Lines.{Lines}
+use Rattle.signal_blocks.specs.Cuts.{sight_at}
+use Rattle.signal_blocks.specs.declared.block_cuts.lines.Lines.{Lines}
 use Rattle.track_graph.specs.Layouts.{Layout}
 
 -- the nearest signal at a point

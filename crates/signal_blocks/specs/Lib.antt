@@ -5,3 +5,11 @@ pub mod Railways
 pub mod Networks
 pub mod Texts
 pub mod Inside
+pub mod Rows
+pub mod Cuts
+pub mod Cells
+pub mod Speeds
+pub mod Served
+pub mod Blocks
+pub mod Faults
+pub mod CutNetworks

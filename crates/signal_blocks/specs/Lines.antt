@@ -1,11 +1,11 @@
 -- What lies along the tracks, as an infrastructure lists it.
 use Rattle.std.specs.Prelude.{ℕ, ◌+◌, List, [], ◌∷◌, ◌++◌, map, Option, Some, None}
 use Rattle.std.specs.List.{flat_map}
-use Rattle.block_cuts.specs.declared.lines.SpeedRange.{SpeedRange}
-use Rattle.block_cuts.specs.declared.lines.StopPart.{StopPart}
-use Rattle.infra_types.specs.declared.tracks.OperationalPoint.{OperationalPoint}
-use Rattle.infra_types.specs.declared.tracks.Range.{Range}
-use Rattle.infra_types.specs.declared.tracks.SpeedSection.{SpeedSection}
+use Rattle.signal_blocks.specs.declared.block_cuts.lines.SpeedRange.{SpeedRange}
+use Rattle.signal_blocks.specs.declared.block_cuts.lines.StopPart.{StopPart}
+use Rattle.rail_types.specs.declared.infra_types.tracks.OperationalPoint.{OperationalPoint}
+use Rattle.rail_types.specs.declared.infra_types.tracks.Range.{Range}
+use Rattle.rail_types.specs.declared.infra_types.tracks.SpeedSection.{SpeedSection}
 
 -- ranges with their limit, none without a limit
 abbrev pub limited : Option ℕ → List Range → List SpeedRange

@@ -2,14 +2,14 @@
 use Rattle.std.specs.Prelude.{ℕ, Bool, nat_eq, List, [], ◌∷◌, ◌++◌, length, map, slice_get}
 use Rattle.std.specs.Prelude.{slice_index_or, Option, Some, None}
 use Rattle.std.specs.List.{filter, flat_map, range_with_len}
-use Rattle.block_cuts.specs.Cuts.{block_count}
-use Rattle.infra_types.specs.declared.infras.Infra.{Infra}
-use Rattle.infra_types.specs.declared.routes.Route.{Route}
-use Rattle.infra_types.specs.declared.tracks.OperationalPoint.{OperationalPoint}
-use Rattle.infra_types.specs.declared.tracks.Track.{Track}
-use Rattle.named_network.specs.declared.BlockName.{BlockName}
-use Rattle.named_network.specs.declared.TrackPiece.{TrackPiece}
-use Rattle.named_network.specs.declared.ZoneName.{ZoneName}
+use Rattle.signal_blocks.specs.Cuts.{block_count}
+use Rattle.rail_types.specs.declared.infra_types.infras.Infra.{Infra}
+use Rattle.rail_types.specs.declared.infra_types.routes.Route.{Route}
+use Rattle.rail_types.specs.declared.infra_types.tracks.OperationalPoint.{OperationalPoint}
+use Rattle.rail_types.specs.declared.infra_types.tracks.Track.{Track}
+use Rattle.rail_types.specs.declared.named_network.BlockName.{BlockName}
+use Rattle.rail_types.specs.declared.named_network.TrackPiece.{TrackPiece}
+use Rattle.rail_types.specs.declared.named_network.ZoneName.{ZoneName}
 use Rattle.route_walk.specs.declared.walks.Walk.{Walk}
 use Rattle.track_graph.specs.declared.pieces.Piece.{Piece}
 use Rattle.track_graph.specs.Layouts.{Layout, zone_at}

@@ -1,14 +1,14 @@
 -- The network of an infrastructure, or why it has none.
 use Rattle.std.specs.Prelude.{◌≡◌, ◌≢◌, ℕ, ◌<◌, List, [], slice_get, length, Option, Some, None}
-use Rattle.block_cuts.specs.Faults.{railway_fault}
-use Rattle.block_cuts.specs.Networks.{IsNetwork}
-use Rattle.block_cuts.specs.declared.faults.Fault.TheVariants as faults
-use Rattle.block_cuts.specs.declared.faults.Fault.{Fault}
-use Rattle.block_cuts.specs.declared.faults.Railway.{Railway}
-use Rattle.infra_types.specs.declared.infras.Infra.{Infra}
-use Rattle.infra_types.specs.declared.routes.Route.{Route}
-use Rattle.infra_types.specs.declared.tracks.Placed.{Placed}
-use Rattle.named_network.specs.declared.Named.{Named}
+use Rattle.signal_blocks.specs.Faults.{railway_fault}
+use Rattle.signal_blocks.specs.CutNetworks.{IsNetwork}
+use Rattle.signal_blocks.specs.declared.block_cuts.faults.Fault.TheVariants as faults
+use Rattle.signal_blocks.specs.declared.block_cuts.faults.Fault.{Fault}
+use Rattle.signal_blocks.specs.declared.block_cuts.faults.Railway.{Railway}
+use Rattle.rail_types.specs.declared.infra_types.infras.Infra.{Infra}
+use Rattle.rail_types.specs.declared.infra_types.routes.Route.{Route}
+use Rattle.rail_types.specs.declared.infra_types.tracks.Placed.{Placed}
+use Rattle.rail_types.specs.declared.named_network.Named.{Named}
 use Rattle.route_walk.specs.Walks.{WalkTells}
 use Rattle.route_walk.specs.declared.walks.Walk.{Walk}
 use Rattle.route_walk.specs.declared.walks.WalkFault.TheVariants as walks

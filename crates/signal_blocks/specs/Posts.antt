@@ -3,11 +3,12 @@ use Rattle.std.specs.Prelude.{◌≡◌, ℕ, ◌+◌, ◌-◌, ◌*◌, ◌<◌
 use Rattle.std.specs.Prelude.{[], ◌∷◌, ◌++◌, length, slice_get, Option, Some, None, option_map}
 use Rattle.std.specs.Prelude.{option_and_then}
 use Rattle.std.specs.List.{All, filter, filter_map}
-use Rattle.block_cuts.specs.Cuts.{sight_at}
-use Rattle.infra_types.specs.declared.ends.Direction.{Direction}
-use Rattle.infra_types.specs.declared.ends.Direction.TheVariants.{StartToStop, StopToStart}
-use Rattle.infra_types.specs.declared.signals.Bal.{Bal}
-use Rattle.infra_types.specs.declared.signals.Signal.{Signal}
+use Rattle.signal_blocks.specs.Cuts.{sight_at}
+use Rattle.rail_types.specs.declared.infra_types.ends.Direction.{Direction}
+use Rattle.rail_types.specs.declared.infra_types.ends.Direction.TheVariants.{StartToStop}
+use Rattle.rail_types.specs.declared.infra_types.ends.Direction.TheVariants.{StopToStart}
+use Rattle.rail_types.specs.declared.infra_types.signals.Bal.{Bal}
+use Rattle.rail_types.specs.declared.infra_types.signals.Signal.{Signal}
 use Rattle.track_graph.specs.declared.stands.Stand.{Stand}
 use Rattle.track_graph.specs.Layouts.{Layout}
 use Rattle.track_graph.specs.Stands.{stands_of}

@@ -1,7 +1,7 @@
 -- The railway of an infrastructure: its zones, the walks of its routes, what lies along its tracks.
 use Rattle.std.specs.Prelude.{◌≡◌, ℕ, ◌+◌, ◌*◌, ◌<◌, List, length, slice_index_or}
-use Rattle.block_cuts.specs.declared.faults.Railway.{Railway}
-use Rattle.infra_types.specs.declared.infras.Infra.{Infra}
+use Rattle.signal_blocks.specs.declared.block_cuts.faults.Railway.{Railway}
+use Rattle.rail_types.specs.declared.infra_types.infras.Infra.{Infra}
 use Rattle.route_walk.specs.Walks.{IsWalkOf}
 use Rattle.route_walk.specs.declared.walks.Walk.{Walk}
 use Rattle.track_graph.specs.Layouts.{IsLayoutOf, Layout}

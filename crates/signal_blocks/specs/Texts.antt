@@ -1,10 +1,10 @@
 -- Faults as reports write them.
 use Rattle.std.specs.Prelude.{ℕ, ℤ, List, ◌++◌, codes}
 use Rattle.std.specs.Fmt.{decimal, signed_decimal}
-use Rattle.block_cuts.specs.declared.faults.What.{What}
-use Rattle.block_cuts.specs.declared.faults.What.TheVariants as what
-use Rattle.infra_types.specs.declared.ends.End.{End}
-use Rattle.infra_types.specs.declared.ends.End.TheVariants as ends
+use Rattle.signal_blocks.specs.declared.block_cuts.faults.What.{What}
+use Rattle.signal_blocks.specs.declared.block_cuts.faults.What.TheVariants as what
+use Rattle.rail_types.specs.declared.infra_types.ends.End.{End}
+use Rattle.rail_types.specs.declared.infra_types.ends.End.TheVariants as ends
 use Rattle.json_fields.specs.Escapes.{escaped}
 use Rattle.track_graph.specs.declared.faults.GraphFault.{GraphFault}
 use Rattle.track_graph.specs.declared.faults.GraphFault.TheVariants as graphs

@@ -7,13 +7,13 @@ ghost use Rattle.signal_blocks.specs.Texts.{end_word, word_of, id_fault, fault_a
 ghost use Rattle.signal_blocks.specs.Texts.{stray_fault, limit_fault, graph_fault, route_fault};
 ghost use Rattle.signal_blocks.specs.Texts.{fault_text};
 
+use crate::block_cuts::What;
 use crate::faults::{NetFault, RouteFault};
-use block_cuts::What;
-use infra_types::End;
 use itoa::Buffer;
 use json_fields::escaped;
 use no_memory::NoMemory;
 use rail_types::Name;
+use rail_types::infra_types::End;
 use std::alloc::Global;
 use track_graph::GraphFault;
 

@@ -1,6 +1,6 @@
 //! Why an infrastructure has no network.
 
-use block_cuts::What;
+use crate::block_cuts::What;
 use no_memory::NoMemory;
 use rail_types::Name;
 use thiserror::Error;

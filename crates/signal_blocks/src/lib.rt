@@ -2,6 +2,7 @@
 //! the names of operational points, blocks and zones.
 #![tactic(auto)]
 
+pub mod block_cuts;
 mod fault_texts;
 mod faults;
 mod lines;
@@ -11,8 +12,8 @@ mod posts;
 mod railways;
 mod zones;
 
-pub use block_cuts::What;
+pub use crate::block_cuts::What;
 pub use fault_texts::fault_text;
 pub use faults::{NetFault, RouteFault};
-pub use named_network::{BlockName, Named, TrackPiece, ZoneName};
 pub use networks::network_of;
+pub use rail_types::named_network::{BlockName, Named, TrackPiece, ZoneName};

@@ -3,10 +3,10 @@
 ghost use Rattle.std.specs.Prelude.{◌≡◌, ◌++◌, ◌<◌, ◌^◌, length, OnOk, IfOk};
 ghost use Rattle.signal_blocks.specs.Lines.{limited, speed_ranges, parts_of, stop_parts};
 
-use block_cuts::{SpeedRange, StopPart};
-use infra_types::{OperationalPoint, Range, SpeedSection};
+use crate::block_cuts::{SpeedRange, StopPart};
 use no_memory::NoMemory;
 use rail_types::List;
+use rail_types::infra_types::{OperationalPoint, Range, SpeedSection};
 use std::alloc::Global;
 
 /// The ranges of the speed sections that set a limit.

@@ -2,14 +2,14 @@
 
 ghost use Rattle.std.specs.Prelude.{◌≡◌, ◌++◌, ◌≤◌, ◌^◌, ◌<◌, length, OnOk, IfOk};
 ghost use Rattle.std.specs.List.{All};
-ghost use Rattle.block_cuts.specs.Cuts.{block_count};
+ghost use Rattle.signal_blocks.specs.Cuts.{block_count};
 ghost use Rattle.signal_blocks.specs.Names.{block_names, route_parts, stop_names};
 ghost use Rattle.signal_blocks.specs.Networks.{route_name, detector_name};
 
-use block_cuts::block_count;
-use infra_types::{Infra, OperationalPoint, Route};
-use named_network::BlockName;
+use crate::block_cuts::block_count;
 use no_memory::NoMemory;
+use rail_types::infra_types::{Infra, OperationalPoint, Route};
+use rail_types::named_network::BlockName;
 use rail_types::{List, Name};
 use route_walk::Walk;
 use std::alloc::Global;

@@ -1,23 +1,23 @@
 //! The network of an infrastructure.
 
 ghost use Rattle.std.specs.Prelude.{◌≡◌, IfErr, IfOk, None};
-ghost use Rattle.block_cuts.specs.Faults.{railway_fault};
-ghost use Rattle.block_cuts.specs.Networks.{IsRailway};
-ghost use Rattle.infra_types.specs.Infras.{IsInfra};
-ghost use Rattle.named_network.specs.Named.{IsNamed};
+ghost use Rattle.signal_blocks.specs.Faults.{railway_fault};
+ghost use Rattle.signal_blocks.specs.CutNetworks.{IsRailway};
+ghost use Rattle.rail_types.specs.Infras.{IsInfra};
+ghost use Rattle.rail_types.specs.Named.{IsNamed};
 ghost use Rattle.track_graph.specs.Layouts.{IsLayoutOf};
 ghost use Rattle.signal_blocks.specs.Inside.{told_blocks};
 ghost use Rattle.signal_blocks.specs.Networks.{IsNetworkOf, NetTells};
 ghost use Rattle.signal_blocks.specs.Railways.{IsRailwayOf};
 
+use crate::block_cuts::{Fault, Railway, fault_of};
 use crate::faults::NetFault;
 use crate::names::{block_names, route_name, stop_names};
 use crate::railways::{railway_of, walks_of};
 use crate::zones::zone_names;
-use block_cuts::{Fault, Railway, fault_of};
-use infra_types::Infra;
-use named_network::Named;
 use no_memory::NoMemory;
+use rail_types::infra_types::Infra;
+use rail_types::named_network::Named;
 use std::alloc::Global;
 use track_graph::Graph;
 
@@ -51,7 +51,7 @@ fn named_network(
 {
     let sights = railway.lines.sights.as_slice();
     let walks = railway.walks.as_slice();
-    let network = block_cuts::network_of(alloc, railway)?;
+    let network = crate::block_cuts::network_of(alloc, railway)?;
     let stops = stop_names(alloc, infra.points.as_slice())?;
     let blocks = block_names(alloc, sights, infra.routes.as_slice(), walks)?;
     let zones = zone_names(alloc, graph, infra)?;

@@ -4,18 +4,19 @@ ghost use Rattle.std.specs.Prelude.{◌≡◌, ℕ, ◌+◌, ◌*◌, ◌<◌, �
 ghost use Rattle.std.specs.Prelude.{option_map, slice_get, slice_set, nat_le, OnOk, IfOk, IfSome};
 ghost use Rattle.std.specs.Prelude.{Some, None};
 ghost use Rattle.std.specs.List.{All, AllPairs, Contains};
-ghost use Rattle.block_cuts.specs.Cuts.{sight_at};
-ghost use Rattle.infra_types.specs.Infras.{IsInfra, IsSignal};
+ghost use Rattle.signal_blocks.specs.Cuts.{sight_at};
+ghost use Rattle.rail_types.specs.Infras.{IsInfra, IsSignal};
 ghost use Rattle.rail_types.specs.declared.limits.TheConstants.{MAX_SIGHT_M};
 ghost use Rattle.track_graph.specs.Stands.{ComesBefore};
 ghost use Rattle.signal_blocks.specs.Inside.{AreNearest, IsPost, nearer, nearest_at};
 ghost use Rattle.signal_blocks.specs.Posts.{detector_among, first_in, gap_between, point_of};
 ghost use Rattle.signal_blocks.specs.Posts.{post_at, post_of, post_of_bal, posts_of, AreSights};
-ghost use Rattle.infra_types.specs.declared.ends.Direction.TheVariants.{StartToStop, StopToStart};
+ghost use Rattle.rail_types.specs.declared.infra_types.ends.Direction.TheVariants.{StartToStop};
+ghost use Rattle.rail_types.specs.declared.infra_types.ends.Direction.TheVariants.{StopToStart};
 
-use infra_types::{Bal, Direction, Infra, Signal};
 use no_memory::NoMemory;
 use rail_types::List;
+use rail_types::infra_types::{Bal, Direction, Infra, Signal};
 use std::alloc::Global;
 use track_graph::{Graph, Stand};
 

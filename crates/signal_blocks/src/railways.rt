@@ -2,8 +2,8 @@
 
 ghost use Rattle.std.specs.Prelude.{◌≡◌, ◌<◌, ◌≤◌, length, IfErr, IfOk};
 ghost use Rattle.std.specs.List.{All};
-ghost use Rattle.block_cuts.specs.Networks.{IsRailway};
-ghost use Rattle.infra_types.specs.Infras.{IsInfra};
+ghost use Rattle.signal_blocks.specs.CutNetworks.{IsRailway};
+ghost use Rattle.rail_types.specs.Infras.{IsInfra};
 ghost use Rattle.route_walk.specs.Sound.{IsSound};
 ghost use Rattle.track_graph.specs.Layouts.{IsLayoutOf};
 ghost use Rattle.signal_blocks.specs.Inside.{AreLimited, AreLinesOf, told_walk};
@@ -11,14 +11,14 @@ ghost use Rattle.signal_blocks.specs.Lines.{speed_ranges, stop_parts};
 ghost use Rattle.signal_blocks.specs.Networks.{named_fault, NetTells};
 ghost use Rattle.signal_blocks.specs.Railways.{AreWalksOf, IsRailwayOf, point_count};
 
+use crate::block_cuts::{ByRow, Lines, Railway, SpeedRange, StopPart};
 use crate::faults::{NetFault, RouteFault};
 use crate::lines::{speed_ranges, stop_parts};
 use crate::names::{detector_name, route_name};
 use crate::posts::sights_by_point;
-use block_cuts::{ByRow, Lines, Railway, SpeedRange, StopPart};
-use infra_types::Infra;
 use no_memory::NoMemory;
 use rail_types::List;
+use rail_types::infra_types::Infra;
 use route_walk::{Walk, WalkFault, walk};
 use std::alloc::Global;
 use track_graph::Graph;

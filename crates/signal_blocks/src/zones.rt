@@ -2,19 +2,19 @@
 
 ghost use Rattle.std.specs.Prelude.{◌≡◌, ℕ, ◌++◌, ◌+◌, ◌<◌, ◌≤◌, ◌^◌, length, map, OnOk, IfOk};
 ghost use Rattle.std.specs.List.{All, range_with_len};
-ghost use Rattle.infra_types.specs.Infras.{IsInfra};
+ghost use Rattle.rail_types.specs.Infras.{IsInfra};
 ghost use Rattle.track_graph.specs.Layouts.{IsLayoutOf};
 ghost use Rattle.track_graph.specs.Pieces.{pieces_of};
 ghost use Rattle.signal_blocks.specs.Inside.{IsOwn, IsZoned};
-ghost use Rattle.named_network.specs.Named.{IsId};
+ghost use Rattle.rail_types.specs.Named.{IsId};
 ghost use Rattle.signal_blocks.specs.Names.{track_piece, zone_name, zone_names, zoned_on};
 ghost use Rattle.signal_blocks.specs.Names.{zoned_pieces};
 
-use block_cuts::{ByRow, InRow};
-use infra_types::{Infra, Track};
-use named_network::{TrackPiece, ZoneName};
+use crate::block_cuts::{ByRow, InRow};
 use no_memory::NoMemory;
 use rail_types::List;
+use rail_types::infra_types::{Infra, Track};
+use rail_types::named_network::{TrackPiece, ZoneName};
 use std::alloc::Global;
 use track_graph::{Graph, Piece};
 

@@ -4,7 +4,7 @@ use Rattle.std.specs.Prelude.{slice_get}
 use Rattle.std.proofs.lemmas.List.{append-nil, drop_all}
 use Rattle.std.proofs.lemmas.Option.{get_or_from_slice_get, slice_get_cases, slice_get_within}
 use Rattle.rail_types.specs.declared.tracks.Block.{Block}
-use Rattle.named_network.specs.declared.BlockName.{BlockName}
+use Rattle.rail_types.specs.declared.named_network.BlockName.{BlockName}
 use Rattle.stairway_print.specs.Networks.{block_line, block_lines}
 
 at : {X : Type 0} (xs : List X) (i : ℕ) (x : X) → i < length xs → x ≡ get_or xs i x → drop i xs ≡ x ∷ drop (i + 1) xs

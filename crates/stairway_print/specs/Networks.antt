@@ -4,10 +4,10 @@ use Rattle.std.specs.Prelude.{Option, Some, None}
 use Rattle.rail_types.specs.declared.tracks.Block.{Block}
 use Rattle.rail_types.specs.declared.tracks.Cell.{Cell}
 use Rattle.rail_types.specs.declared.tracks.Network.{Network}
-use Rattle.named_network.specs.declared.BlockName.{BlockName}
-use Rattle.named_network.specs.declared.Named.{Named as Railway}
-use Rattle.named_network.specs.declared.TrackPiece.{TrackPiece}
-use Rattle.named_network.specs.declared.ZoneName.{ZoneName}
+use Rattle.rail_types.specs.declared.named_network.BlockName.{BlockName}
+use Rattle.rail_types.specs.declared.named_network.Named.{Named as Railway}
+use Rattle.rail_types.specs.declared.named_network.TrackPiece.{TrackPiece}
+use Rattle.rail_types.specs.declared.named_network.ZoneName.{ZoneName}
 use Rattle.stairway_print.specs.Words.{numbered, named}
 
 abbrev pub new_line : List ℕ

@@ -6,8 +6,8 @@ ghost use Rattle.stairway_print.specs.Networks.{name_of, numbers_text, route_tex
 ghost use Rattle.stairway_print.specs.Networks.{stop_text};
 
 use crate::words::{push_name, push_number};
-use named_network::BlockName;
 use no_memory::NoMemory;
+use rail_types::named_network::BlockName;
 use rail_types::{Block, Cell, Name};
 use std::alloc::Global;
 

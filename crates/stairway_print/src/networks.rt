@@ -6,9 +6,9 @@ ghost use Rattle.stairway_print.specs.Networks.{header_text, network_text};
 use crate::blocks::push_blocks;
 use crate::words::push_number;
 use crate::zones::push_zones;
-use named_network::Named;
 use no_memory::NoMemory;
 use rail_types::Network;
+use rail_types::named_network::Named;
 use std::alloc::Global;
 
 /// The table of a network: a line of counts, then a line for each zone with its pieces of track,

@@ -4,8 +4,8 @@ ghost use Rattle.std.specs.Prelude.{◌≡◌, ◌<◌, ◌++◌, ◌^◌, OnOk}
 ghost use Rattle.stairway_print.specs.Networks.{piece_text, pieces_text, zone_line, zone_lines};
 
 use crate::words::{push_name, push_number};
-use named_network::{TrackPiece, ZoneName};
 use no_memory::NoMemory;
+use rail_types::named_network::{TrackPiece, ZoneName};
 use std::alloc::Global;
 
 /// Appends a line for each zone.

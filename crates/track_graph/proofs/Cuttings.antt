@@ -12,7 +12,7 @@ use Rattle.std.specs.List.{Contains, dedup}
 use Rattle.std.specs.List.Retain.{IsFiltered, DiffersFromLast}
 use Rattle.std.specs.List.Sorted.{IsPermutation, IsSorted}
 use Rattle.std.specs.Ordering.{nat_cmp}
-use Rattle.infra_types.specs.declared.tracks.Track.{Track}
+use Rattle.rail_types.specs.declared.infra_types.tracks.Track.{Track}
 use Rattle.track_graph.proofs.Maps.{contains_map, contains_from_map}
 use Rattle.track_graph.specs.declared.pieces.Piece.{Piece}
 use Rattle.track_graph.specs.declared.stands.Stand.{Stand}

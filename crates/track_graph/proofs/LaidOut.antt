@@ -4,14 +4,14 @@ use Rattle.std.proofs.lemmas.List.{get_or_default}
 use Rattle.std.proofs.lemmas.List.Elements.{All-weaker}
 use Rattle.std.specs.List.{All, sum_by}
 use Rattle.std.specs.List.Sorted.{IsStrictlyIncreasing}
-use Rattle.infra_types.specs.Infras.{IsInfra, IsSwitch, port_count}
-use Rattle.infra_types.specs.declared.ends.End.{End}
-use Rattle.infra_types.specs.declared.ends.End.TheVariants as ends
-use Rattle.infra_types.specs.declared.ends.TrackEnd.{TrackEnd}
-use Rattle.infra_types.specs.declared.infras.Infra.{Infra}
-use Rattle.infra_types.specs.declared.switches.Switch.{Switch}
-use Rattle.infra_types.specs.declared.switches.SwitchKind.{SwitchKind}
-use Rattle.infra_types.specs.declared.switches.SwitchKind.TheVariants.{Point, Link, Crossing, DoubleSlip}
+use Rattle.rail_types.specs.Infras.{IsInfra, IsSwitch, port_count}
+use Rattle.rail_types.specs.declared.infra_types.ends.End.{End}
+use Rattle.rail_types.specs.declared.infra_types.ends.End.TheVariants as ends
+use Rattle.rail_types.specs.declared.infra_types.ends.TrackEnd.{TrackEnd}
+use Rattle.rail_types.specs.declared.infra_types.infras.Infra.{Infra}
+use Rattle.rail_types.specs.declared.infra_types.switches.Switch.{Switch}
+use Rattle.rail_types.specs.declared.infra_types.switches.SwitchKind.{SwitchKind}
+use Rattle.rail_types.specs.declared.infra_types.switches.SwitchKind.TheVariants.{Point, Link, Crossing, DoubleSlip}
 use Rattle.track_graph.proofs.PortsNamed.{joints_once}
 use Rattle.track_graph.proofs.Totals.{firsts_rise, joins_within, last_first, row_some, sum_few, zones_joined}
 use Rattle.track_graph.specs.declared.joints.Joint.{Joint}

@@ -5,9 +5,9 @@ use Rattle.std.proofs.lemmas.List.Folds.{find-append}
 use Rattle.std.specs.List.{flat_map, list_any}
 use Rattle.std.specs.Option.{option_or}
 use Rattle.std.specs.Prelude.{is_some}
-use Rattle.infra_types.specs.declared.tracks.OperationalPoint.{OperationalPoint}
-use Rattle.infra_types.specs.declared.tracks.Part.{Part}
-use Rattle.infra_types.specs.declared.tracks.Track.{Track}
+use Rattle.rail_types.specs.declared.infra_types.tracks.OperationalPoint.{OperationalPoint}
+use Rattle.rail_types.specs.declared.infra_types.tracks.Part.{Part}
+use Rattle.rail_types.specs.declared.infra_types.tracks.Track.{Track}
 use Rattle.track_graph.specs.Faults.{Located, is_off, is_part_off, parts_at}
 use Rattle.track_graph.specs.Pieces.{length_of}
 

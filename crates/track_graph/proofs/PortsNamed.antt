@@ -5,11 +5,11 @@ use Rattle.std.proofs.lemmas.List.{get_or-set_same, get_or-set_other, get_or_pas
 use Rattle.std.proofs.lemmas.Option.{get_or_from_slice_get, slice_get_within, slice_get-get_or, slice_get_read}
 use Rattle.std.specs.List.{All}
 use Rattle.std.specs.Prelude.{slice_get}
-use Rattle.infra_types.specs.Infras.{IsSwitch}
-use Rattle.infra_types.specs.declared.ends.End.{End}
-use Rattle.infra_types.specs.declared.ends.End.TheVariants as ends
-use Rattle.infra_types.specs.declared.ends.TrackEnd.{TrackEnd}
-use Rattle.infra_types.specs.declared.switches.Switch.{Switch}
+use Rattle.rail_types.specs.Infras.{IsSwitch}
+use Rattle.rail_types.specs.declared.infra_types.ends.End.{End}
+use Rattle.rail_types.specs.declared.infra_types.ends.End.TheVariants as ends
+use Rattle.rail_types.specs.declared.infra_types.ends.TrackEnd.{TrackEnd}
+use Rattle.rail_types.specs.declared.infra_types.switches.Switch.{Switch}
 use Rattle.track_graph.specs.declared.joints.Joint.{Joint}
 use Rattle.track_graph.specs.Faults.{AreOnce, AreOnceBefore, IsEarlier, IsFirstTwice}
 use Rattle.track_graph.specs.Joints.{AreJoints, Took, heading, heading_of, joint_at}

@@ -10,7 +10,7 @@ use Rattle.std.proofs.lemmas.Option.{slice_get_within}
 use Rattle.std.specs.List.{AllPairs}
 use Rattle.std.specs.List.Sorted.{IsNonDecreasingBy, IsPermutation, IsSortedByKey}
 use Rattle.std.specs.Ordering.{nat_cmp, is_lt}
-use Rattle.infra_types.specs.declared.tracks.Placed.{Placed}
+use Rattle.rail_types.specs.declared.infra_types.tracks.Placed.{Placed}
 use Rattle.track_graph.specs.declared.stands.Stand.{Stand}
 use Rattle.track_graph.specs.Stands.{ComesBefore, Stands}
 use Rattle.track_graph.specs.StandRows.{AreFront, AreListed}

@@ -7,7 +7,7 @@ use Rattle.std.proofs.lemmas.List.Elements.{filter_more, Contains-get_or}
 use Rattle.std.proofs.lemmas.List.Kept.{AllPairs-filter}
 use Rattle.std.proofs.lemmas.Option.{get_or_from_slice_get, slice_get_within}
 use Rattle.std.specs.List.{All, Contains}
-use Rattle.infra_types.specs.declared.tracks.Placed.{Placed}
+use Rattle.rail_types.specs.declared.infra_types.tracks.Placed.{Placed}
 use Rattle.track_graph.proofs.Maps.{contains_next}
 use Rattle.track_graph.specs.declared.stands.Stand.{Stand}
 use Rattle.track_graph.specs.Stands.{AreOnRows, AreStands, ComesBefore, stands_of}

@@ -5,11 +5,11 @@ use Rattle.std.proofs.lemmas.List.Elements.{All-contains, Contains-get_or}
 use Rattle.std.proofs.lemmas.List.Sums.{sum_by_more, sum_by-take-le}
 use Rattle.std.specs.List.{All, Contains, sum_by}
 use Rattle.std.specs.List.Sorted.{IsStrictlyIncreasing}
-use Rattle.infra_types.specs.declared.ends.End.{End}
-use Rattle.infra_types.specs.declared.ends.End.TheVariants as ends
-use Rattle.infra_types.specs.declared.ends.TrackEnd.{TrackEnd}
-use Rattle.infra_types.specs.declared.switches.Switch.{Switch}
-use Rattle.infra_types.specs.declared.tracks.Track.{Track}
+use Rattle.rail_types.specs.declared.infra_types.ends.End.{End}
+use Rattle.rail_types.specs.declared.infra_types.ends.End.TheVariants as ends
+use Rattle.rail_types.specs.declared.infra_types.ends.TrackEnd.{TrackEnd}
+use Rattle.rail_types.specs.declared.infra_types.switches.Switch.{Switch}
+use Rattle.rail_types.specs.declared.infra_types.tracks.Track.{Track}
 use Rattle.track_graph.proofs.Links.{link_there}
 use Rattle.track_graph.proofs.Maps.{contains_flat, contains_from_flat, contains_from_map, contains_map}
 use Rattle.track_graph.specs.declared.neighbours.Join.{Join}

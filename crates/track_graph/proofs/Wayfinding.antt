@@ -3,9 +3,9 @@ use Rattle.std.proofs.Common.{◌≡◌, ℕ, ◌<◌, ◌↔◌, List, length, 
 use Rattle.std.proofs.lemmas.List.{length-map}
 use Rattle.std.proofs.lemmas.Option.{slice_get-map, slice_get_read, slice_get_within}
 use Rattle.std.specs.Prelude.{slice_get}
-use Rattle.infra_types.specs.declared.ends.TrackEnd.{TrackEnd}
-use Rattle.infra_types.specs.declared.switches.Group.{Group}
-use Rattle.infra_types.specs.declared.switches.Switch.{Switch}
+use Rattle.rail_types.specs.declared.infra_types.ends.TrackEnd.{TrackEnd}
+use Rattle.rail_types.specs.declared.infra_types.switches.Group.{Group}
+use Rattle.rail_types.specs.declared.infra_types.switches.Switch.{Switch}
 use Rattle.track_graph.specs.declared.joints.Joint.{Joint}
 use Rattle.track_graph.specs.declared.ways.Junction.{Junction}
 use Rattle.track_graph.specs.Joints.{AreJoints, joint_at, junction_of}

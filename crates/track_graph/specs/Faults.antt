@@ -2,15 +2,15 @@
 use Rattle.std.specs.Prelude.{◌≡◌, ℕ, ◌<◌, ◌⊎◌, Bool, nat_lt, List, ◌++◌, map, find, Option, Some}
 use Rattle.std.specs.Prelude.{None, option_map}
 use Rattle.std.specs.List.{flat_map, filter_map}
-use Rattle.infra_types.specs.declared.ends.TrackEnd.{TrackEnd}
-use Rattle.infra_types.specs.declared.infras.Infra.{Infra}
-use Rattle.infra_types.specs.declared.signals.Bal.{Bal}
-use Rattle.infra_types.specs.declared.signals.Signal.{Signal}
-use Rattle.infra_types.specs.declared.switches.Switch.{Switch}
-use Rattle.infra_types.specs.declared.tracks.OperationalPoint.{OperationalPoint}
-use Rattle.infra_types.specs.declared.tracks.Part.{Part}
-use Rattle.infra_types.specs.declared.tracks.Placed.{Placed}
-use Rattle.infra_types.specs.declared.tracks.Track.{Track}
+use Rattle.rail_types.specs.declared.infra_types.ends.TrackEnd.{TrackEnd}
+use Rattle.rail_types.specs.declared.infra_types.infras.Infra.{Infra}
+use Rattle.rail_types.specs.declared.infra_types.signals.Bal.{Bal}
+use Rattle.rail_types.specs.declared.infra_types.signals.Signal.{Signal}
+use Rattle.rail_types.specs.declared.infra_types.switches.Switch.{Switch}
+use Rattle.rail_types.specs.declared.infra_types.tracks.OperationalPoint.{OperationalPoint}
+use Rattle.rail_types.specs.declared.infra_types.tracks.Part.{Part}
+use Rattle.rail_types.specs.declared.infra_types.tracks.Placed.{Placed}
+use Rattle.rail_types.specs.declared.infra_types.tracks.Track.{Track}
 use Rattle.track_graph.specs.Pieces.{length_of}
 use Rattle.track_graph.specs.Ways.{HasPort}
 

@@ -1,7 +1,7 @@
 -- *Inside*: what a graph keeps.
 use Rattle.std.specs.Prelude.{◌≡◌, ℕ, ◌<◌, ◌^◌, List, length, map, Option}
 use Rattle.std.specs.List.{sum_by}
-use Rattle.infra_types.specs.declared.infras.Infra.{Infra}
+use Rattle.rail_types.specs.declared.infra_types.infras.Infra.{Infra}
 use Rattle.track_graph.specs.declared.faults.GraphFault.{GraphFault}
 use Rattle.track_graph.specs.declared.faults.GraphFault.TheVariants.{EndTwice, OffTrack, Memory}
 use Rattle.track_graph.specs.declared.joints.Joint.{Joint}

@@ -2,10 +2,10 @@
 use Rattle.std.specs.Prelude.{◌≡◌, ℕ, ◌+◌, ◌*◌, ◌<◌, List, length, slice_index_or, slice_set, Bool}
 use Rattle.std.specs.Prelude.{true, false, Option, Some, None}
 use Rattle.std.specs.List.{All}
-use Rattle.infra_types.specs.declared.ends.End.{End}
-use Rattle.infra_types.specs.declared.ends.End.TheVariants as ends
-use Rattle.infra_types.specs.declared.ends.TrackEnd.{TrackEnd}
-use Rattle.infra_types.specs.declared.switches.Switch.{Switch}
+use Rattle.rail_types.specs.declared.infra_types.ends.End.{End}
+use Rattle.rail_types.specs.declared.infra_types.ends.End.TheVariants as ends
+use Rattle.rail_types.specs.declared.infra_types.ends.TrackEnd.{TrackEnd}
+use Rattle.rail_types.specs.declared.infra_types.switches.Switch.{Switch}
 use Rattle.track_graph.specs.declared.joints.Joint.{Joint}
 use Rattle.track_graph.specs.declared.ways.Junction.{Junction}
 use Rattle.track_graph.specs.Faults.{IsEarlier, IsFirstTwice}

@@ -2,9 +2,9 @@
 use Rattle.std.specs.Prelude.{◌≡◌, ℕ, ◌+◌, ◌↔◌, List, length, Option, Some, None, slice_get}
 use Rattle.std.specs.Prelude.{slice_index, option_map}
 use Rattle.std.specs.List.{sum_by}
-use Rattle.infra_types.specs.declared.ends.TrackEnd.{TrackEnd}
-use Rattle.infra_types.specs.declared.infras.Infra.{Infra}
-use Rattle.infra_types.specs.declared.switches.Group.{Group}
+use Rattle.rail_types.specs.declared.infra_types.ends.TrackEnd.{TrackEnd}
+use Rattle.rail_types.specs.declared.infra_types.infras.Infra.{Infra}
+use Rattle.rail_types.specs.declared.infra_types.switches.Group.{Group}
 use Rattle.track_graph.specs.declared.faults.GraphFault.{GraphFault}
 use Rattle.track_graph.specs.declared.faults.GraphFault.TheVariants.{EndTwice, OffTrack, Memory}
 use Rattle.track_graph.specs.declared.pieces.Piece.{Piece}

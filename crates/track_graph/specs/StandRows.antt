@@ -2,7 +2,7 @@
 use Rattle.std.specs.Prelude.{◌≡◌, ℕ, ◌<◌, ◌↔◌, Bool, nat_eq, List, [], ◌∷◌, ◌++◌, length}
 use Rattle.std.specs.Prelude.{slice_index_or, slice_set}
 use Rattle.std.specs.List.{AllPairs, Contains, filter, sum_by}
-use Rattle.infra_types.specs.declared.tracks.Placed.{Placed}
+use Rattle.rail_types.specs.declared.infra_types.tracks.Placed.{Placed}
 use Rattle.track_graph.specs.declared.stands.Stand.{Stand}
 use Rattle.track_graph.specs.Stands.{ComesBefore, Stands, stands_of}
 

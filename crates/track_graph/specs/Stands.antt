@@ -2,7 +2,7 @@
 use Rattle.std.specs.Prelude.{◌≡◌, ℕ, ◌<◌, ◌⊎◌, ◌↔◌, List, [], length, slice_get, slice_index_or}
 use Rattle.std.specs.Prelude.{Some}
 use Rattle.std.specs.List.{AllPairs, Contains, sum_by}
-use Rattle.infra_types.specs.declared.tracks.Placed.{Placed}
+use Rattle.rail_types.specs.declared.infra_types.tracks.Placed.{Placed}
 use Rattle.track_graph.specs.declared.stands.Stand.{Stand}
 
 -- Of the detectors, or of the buffer stops, that of this number is placed so.

@@ -1,14 +1,16 @@
 -- Where the ways across a switch lead.
 use Rattle.std.specs.Prelude.{◌≡◌, ℕ, nat_eq, List, [], ◌∷◌, slice_get, Option, Some, None}
 use Rattle.std.specs.Prelude.{if◌then◌else◌}
-use Rattle.infra_types.specs.declared.ends.TrackEnd.{TrackEnd}
-use Rattle.infra_types.specs.declared.switches.Group.{Group}
-use Rattle.infra_types.specs.declared.switches.Group.TheVariants.{AB1, AB2, A1B1, A1B2, A2B1, A2B2}
-use Rattle.infra_types.specs.declared.switches.Group.TheVariants.{Other}
-use Rattle.infra_types.specs.declared.switches.Switch.{Switch}
-use Rattle.infra_types.specs.declared.switches.SwitchKind.{SwitchKind}
-use Rattle.infra_types.specs.declared.switches.SwitchKind.TheVariants.{Point, Link, Crossing}
-use Rattle.infra_types.specs.declared.switches.SwitchKind.TheVariants.{DoubleSlip}
+use Rattle.rail_types.specs.declared.infra_types.ends.TrackEnd.{TrackEnd}
+use Rattle.rail_types.specs.declared.infra_types.switches.Group.{Group}
+use Rattle.rail_types.specs.declared.infra_types.switches.Group.TheVariants.{AB1, AB2, A1B1, A1B2}
+use Rattle.rail_types.specs.declared.infra_types.switches.Group.TheVariants.{A2B1, A2B2}
+use Rattle.rail_types.specs.declared.infra_types.switches.Group.TheVariants.{Other}
+use Rattle.rail_types.specs.declared.infra_types.switches.Switch.{Switch}
+use Rattle.rail_types.specs.declared.infra_types.switches.SwitchKind.{SwitchKind}
+use Rattle.rail_types.specs.declared.infra_types.switches.SwitchKind.TheVariants.{Point, Link}
+use Rattle.rail_types.specs.declared.infra_types.switches.SwitchKind.TheVariants.{Crossing}
+use Rattle.rail_types.specs.declared.infra_types.switches.SwitchKind.TheVariants.{DoubleSlip}
 
 -- the ways of a point switch with the ports A, B1 and B2
 abbrev pub point_ways : Group → List (ℕ × ℕ)

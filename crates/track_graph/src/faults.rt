@@ -1,8 +1,8 @@
 //! Why an infrastructure has no graph.
 
-use infra_types::End;
 use no_memory::NoMemory;
 use rail_types::Name;
+use rail_types::infra_types::End;
 use thiserror::Error;
 
 /// Why an infrastructure has no graph.

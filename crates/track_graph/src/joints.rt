@@ -5,7 +5,7 @@ ghost use Rattle.std.specs.List.{All};
 ghost use Rattle.track_graph.specs.Joints.{AreHeadings, AreJoints, Named, Took, heading_of};
 ghost use Rattle.track_graph.specs.Joints.{joint_at};
 
-use infra_types::{End, Switch, TrackEnd};
+use rail_types::infra_types::{End, Switch, TrackEnd};
 
 /// A port, by the number of its switch and its place in the order of the switch's ports.
 #[derive(Clone, Copy, Debug, PartialEq, Eq)]

@@ -6,9 +6,9 @@ ghost use Rattle.std.specs.List.Sorted.{IsStrictlyIncreasing};
 ghost use Rattle.track_graph.specs.Neighbours.{AreOffset, AreWithin, ShowJoins, piece_by, star};
 ghost use Rattle.track_graph.specs.Neighbours.{stars, with_neighbour};
 
-use infra_types::{End, Switch, TrackEnd};
 use no_memory::NoMemory;
 use rail_types::List;
+use rail_types::infra_types::{End, Switch, TrackEnd};
 use std::alloc::Global;
 
 /// Two pieces that a switch joins.

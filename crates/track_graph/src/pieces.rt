@@ -6,9 +6,9 @@ ghost use Rattle.track_graph.specs.Pieces.{AreCuts, ArePieceRows, pieces_from};
 ghost use Rattle.track_graph.specs.PieceRows.{AreFirsts};
 
 use crate::stands::Stand;
-use infra_types::Track;
 use no_memory::NoMemory;
 use rail_types::List;
+use rail_types::infra_types::Track;
 use std::alloc::Global;
 
 /// A piece of track between two neighbours among the positions of its detectors and its ends: its

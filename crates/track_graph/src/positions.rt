@@ -6,8 +6,8 @@ ghost use Rattle.track_graph.specs.Faults.{first_off, is_part_off, off_among, pl
 ghost use Rattle.track_graph.specs.Faults.{signals_at};
 ghost use Rattle.track_graph.specs.Pieces.{length_of};
 
-use infra_types::{Infra, OperationalPoint, Part, Placed, Signal, Track};
 use rail_types::Name;
+use rail_types::infra_types::{Infra, OperationalPoint, Part, Placed, Signal, Track};
 
 /// The name of the first position beyond its track.
 pub(crate) fn first_off(infra: &Infra) -> Option<&Name>

@@ -6,9 +6,9 @@ ghost use Rattle.track_graph.specs.StandRows.{AreFront, AreListed};
 ghost use Rattle.track_graph.specs.Stands.{AreOnRows};
 
 use crate::rows::{fill_rows, no_rows};
-use infra_types::Placed;
 use no_memory::NoMemory;
 use rail_types::List;
+use rail_types::infra_types::Placed;
 use std::alloc::Global;
 
 /// A detector or a buffer stop on its track, by its number among its kind: its

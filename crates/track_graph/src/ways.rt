@@ -3,8 +3,8 @@
 ghost use Rattle.std.specs.Prelude.{◌≡◌, ◌∷◌, []};
 ghost use Rattle.track_graph.specs.Ways.{port_across, point_ways, slip_ways, ways};
 
-use infra_types::{Group, SwitchKind, TrackEnd};
 use rail_types::List;
+use rail_types::infra_types::{Group, SwitchKind, TrackEnd};
 
 /// A switch: its kind, and the track ends at its ports.
 #[derive(Debug, Drop)]

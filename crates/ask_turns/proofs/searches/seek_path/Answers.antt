@@ -1,6 +1,6 @@
 use Rattle.std.proofs.Common.{◌++◌, ◌≤◌, ℕ, List, ap, ◌∙◌, subst, length, arith}
-use Rattle.certificates.specs.Certified.{IsCertified}
-use Rattle.named_network.specs.declared.Named.{Named}
+use Rattle.path_labels.specs.Certified.{IsCertified}
+use Rattle.rail_types.specs.declared.named_network.Named.{Named}
 use Rattle.occupation_book.specs.Zones.{Zone}
 use Rattle.path_labels.specs.Answers.{claims_held}
 use Rattle.proof_texts.specs.declared.refusals.Proof.{Proof}

@@ -4,10 +4,10 @@ use Rattle.path_labels.specs.Answers.{claims_held}
 use Rattle.rail_types.specs.declared.entries.Entry.{Entry}
 use Rattle.rail_types.specs.Limits.{IsClientName}
 use Rattle.rail_types.specs.Timetables.{Timetable}
-use Rattle.client_turns.specs.declared.clients.Client.{Client}
-use Rattle.client_turns.specs.declared.told.Tried.{Tried}
-use Rattle.client_turns.specs.Clients.{IsCopyOf}
-use Rattle.client_turns.specs.Turns.{HasEntered, HasTried, Sight, timetable_at}
+use Rattle.ask_turns.specs.declared.client_turns.clients.Client.{Client}
+use Rattle.ask_turns.specs.declared.client_turns.told.Tried.{Tried}
+use Rattle.ask_turns.specs.Clients.{IsCopyOf}
+use Rattle.ask_turns.specs.Turns.{HasEntered, HasTried, Sight, timetable_at}
 use Rattle.ask_turns.specs.declared.asks.Ask.{Ask}
 use Rattle.ask_turns.specs.declared.asks.Found.{Found}
 use Rattle.ask_turns.specs.Finds.{IsFoundBeside, entry_for}

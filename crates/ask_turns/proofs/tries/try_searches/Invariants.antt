@@ -1,7 +1,7 @@
 use Rattle.std.proofs.Common.{◌≡◌, ◌+◌, ◌≤◌}
 use Rattle.book_gate.specs.Passes.{turns_left, view}
-use Rattle.client_turns.specs.Clients.{IsCopyOf}
-use Rattle.client_turns.specs.Turns.{IsReady, timetable_at}
+use Rattle.ask_turns.specs.Clients.{IsCopyOf}
+use Rattle.ask_turns.specs.Turns.{IsReady, timetable_at}
 use Rattle.ask_turns.specs.Tries.{HaveMissed}
 use Rattle.ask_turns.proofs.tries.try_searches.Given as goal
 

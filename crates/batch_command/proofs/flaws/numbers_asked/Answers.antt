@@ -1,8 +1,8 @@
 use Rattle.std.proofs.Common.{◌∙◌, ℕ, List, [], Option, IfNone, IfSome, inl, inr, refl, sym, ap, subst}
-use Rattle.batch_reports.specs.Flaws.{needed_line, no_ask_line, twice_line}
+use Rattle.batch_command.specs.Flaws.{needed_line, no_ask_line, twice_line}
 use Rattle.batch_command.specs.Asked.{HasNeed, HasTwice}
-use Rattle.list_lines.specs.Numbers.{first_repeat}
-use Rattle.worker_numbers.specs.Owners.{AreEnough, IsNeeded}
+use Rattle.batch_command.specs.Numbers.{first_repeat}
+use Rattle.batch_command.specs.Owners.{AreEnough, IsNeeded}
 use Rattle.batch_command.proofs.flaws.numbers_asked.Goals as goal
 
 pub returns-in-Some-clause-flaw : goal.returns-in-Some-clause-flaw

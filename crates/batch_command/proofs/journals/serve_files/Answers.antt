@@ -1,5 +1,5 @@
-use Rattle.file_rounds.specs.Scenes.{Scene, scene}
-use Rattle.served_journals.proofs.Rounds.{DiskIsRefused, IsRound}
+use Rattle.command_reports.specs.Scenes.{Scene, scene}
+use Rattle.request_server.proofs.JournalRounds.{DiskIsRefused, IsRound}
 use Rattle.batch_command.proofs.Disks.{step_by, unopened_step}
 use Rattle.batch_command.proofs.journals.serve_files.Goals as goal
 

@@ -2,18 +2,18 @@ use Rattle.std.proofs.Common.{◌≡◌, ◌∙◌, ℕ, List, Option, Vec, leng
 use Rattle.std.specs.Global.{Global}
 use Rattle.std.specs.Prelude.{option_map}
 use Rattle.std.proofs.lemmas.List.{length-map}
-use Rattle.batch_server.specs.Batches.{WereAnswered}
-use Rattle.batch_server.specs.declared.members.Member.{Member}
-use Rattle.batch_server.specs.declared.members.Worked.{Worked}
-use Rattle.batch_reports.specs.Ends.{IsEnds}
-use Rattle.batch_words.specs.Workers.{worker_names}
+use Rattle.batch_command.specs.Batches.{WereAnswered}
+use Rattle.batch_command.specs.declared.batch_server.members.Member.{Member}
+use Rattle.batch_command.specs.declared.batch_server.members.Worked.{Worked}
+use Rattle.batch_command.specs.Ends.{IsEnds}
+use Rattle.command_line.specs.Workers.{worker_names}
 use Rattle.line_sessions.specs.declared.sessions.TheConstants.{MAX_LINES}
-use Rattle.file_rounds.specs.Scenes.{scene}
+use Rattle.command_reports.specs.Scenes.{scene}
 use Rattle.path_commit.specs.Ledgers.{Ledger}
 use Rattle.rail_types.specs.declared.entries.Entry.{Entry}
-use Rattle.worker_numbers.specs.Owners.{owner_of, owners_of}
+use Rattle.batch_command.specs.Owners.{owner_of, owners_of}
 use Rattle.batch_command.specs.Asked.{HasFlaw, IsAsked}
-use Rattle.client_streams.proofs.Loans.{unchanged}
+use Rattle.request_server.proofs.StreamLoans.{unchanged}
 use Rattle.batch_command.proofs.Plain.{answered_plain, members_plain, plain}
 use Rattle.batch_command.proofs.Workers.{members_differ, members_many, members_named, numbers_many, texts_few, theirs_by}
 use Rattle.batch_command.proofs.lists.answer_lines.Goals as goal

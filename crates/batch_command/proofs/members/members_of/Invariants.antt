@@ -1,9 +1,9 @@
 use Rattle.std.proofs.Common.{◌≡◌, ℕ, ◌<◌, ◌≤◌, map}
-use Rattle.batch_words.specs.Workers.{worker_name, worker_names}
-use Rattle.batch_words.specs.declared.clients.TheConstants.{MAX_WORKERS}
-use Rattle.client_rules.specs.Clients.{rules_named}
-use Rattle.client_streams.specs.Lending.{IsUnchanged}
-use Rattle.file_rounds.specs.Scenes.{scene}
+use Rattle.command_line.specs.Workers.{worker_name, worker_names}
+use Rattle.command_line.specs.declared.batch_words.clients.TheConstants.{MAX_WORKERS}
+use Rattle.admission_rules.specs.Clients.{rules_named}
+use Rattle.request_server.specs.Lending.{IsUnchanged}
+use Rattle.command_reports.specs.Scenes.{scene}
 use Rattle.batch_command.proofs.members.members_of.Given as goal
 
 abbrev pub invariant-loop-before : goal.invariant-loop-before

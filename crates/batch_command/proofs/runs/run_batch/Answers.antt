@@ -1,4 +1,4 @@
-use Rattle.file_rounds.specs.Scenes.{Scene, scene}
+use Rattle.command_reports.specs.Scenes.{Scene, scene}
 use Rattle.batch_command.specs.Runs.{RunsBatch}
 use Rattle.batch_command.proofs.Ended.{batch_clean, batch_disks, batch_done, batch_no, batch_words}
 use Rattle.batch_command.proofs.Steps.{batch_back, works_keep}

@@ -1,6 +1,6 @@
 use Rattle.std.proofs.Common.{List, ℕ, inl, inr, refl, subst}
 use Rattle.std.proofs.lemmas.Result.{err_from_is_err_and}
-use Rattle.file_rounds.specs.Scenes.{scene}
+use Rattle.command_reports.specs.Scenes.{scene}
 use Rattle.check_command.specs.Checks.{TellsProofs}
 use Rattle.check_command.specs.Works.{named_by}
 use Rattle.check_command.proofs.journals.check_history.Goals as goal

@@ -3,8 +3,8 @@ use Rattle.std.proofs.lemmas.Result.{err_from_is_err_and}
 use Rattle.client_lines.specs.Names.{Names}
 use Rattle.client_lines.specs.Within.{AreSound}
 use Rattle.command_files.specs.declared.networks.NetworkFile.{NetworkFile}
-use Rattle.file_rounds.specs.Scenes.{scene}
-use Rattle.journal_files.specs.Journals.{JournalStep}
+use Rattle.command_reports.specs.Scenes.{scene}
+use Rattle.print_commands.specs.Journals.{JournalStep}
 use Rattle.check_command.specs.Works.{ReadsProofs}
 use Rattle.check_command.proofs.Naming.{known_same, names_sound}
 use Rattle.check_command.proofs.journals.check_journal.Goals as goal

@@ -1,5 +1,5 @@
 use Rattle.std.proofs.Common.{◌∙◌}
-use Rattle.file_rounds.specs.Scenes.{scene}
+use Rattle.command_reports.specs.Scenes.{scene}
 use Rattle.check_command.specs.Runs.{RunsCheck}
 use Rattle.check_command.proofs.Ending.{ends_leave, run_done, run_no, run_words}
 use Rattle.check_command.proofs.Stepping.{check_keeps, check_read, read_then_still}

@@ -1,6 +1,6 @@
 use Rattle.std.proofs.Common.{List, ℕ, codes, subst}
-use Rattle.exit_status.specs.declared.Status.TheVariants.{Opening}
-use Rattle.file_rounds.specs.Scenes.{scene}
+use Rattle.command_reports.specs.declared.exit_status.Status.TheVariants.{Opening}
+use Rattle.command_reports.specs.Scenes.{scene}
 use Rattle.command_reports.specs.Refusals.{IsTold, line_with}
 use Rattle.command_files.proofs.Kept.{untouched_sinks}
 use Rattle.command_files.proofs.outs.write_out.Goals as goal

@@ -1,7 +1,7 @@
 use Rattle.std.proofs.Common.{◌≡◌, ◌∙◌, List, ℕ, [], ◌∷◌, Bor, map, codes, decimal, refl, ap, sym, rules}
-use Rattle.option_words.specs.Spelling.{values_under}
-use Rattle.client_words.specs.Clients.{client_text}
-use Rattle.rule_words.specs.Rules.{rule_text}
+use Rattle.command_line.specs.Spelling.{values_under}
+use Rattle.command_line.specs.Clients.{client_text}
+use Rattle.command_line.specs.Rules.{rule_text}
 use Rattle.command_words.specs.Orders.{settings_of}
 use Rattle.command_words.specs.declared.orders.Order.TheVariants.{Batch}
 use Rattle.command_words.proofs.Agreeing.{agree_by, refuse_others}

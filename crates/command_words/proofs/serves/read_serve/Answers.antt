@@ -1,10 +1,10 @@
 use Rattle.std.proofs.Common.{◌≡◌, ◌∙◌, List, ℕ, Bor, map, codes, refl, subst, sym, rules}
-use Rattle.option_words.specs.Spelling.{Setting, values_under}
-use Rattle.client_words.specs.Clients.{AreClients, client_text}
-use Rattle.client_words.specs.declared.clients.ClientWord.{ClientWord}
-use Rattle.client_words.proofs.Naming.{clients_once}
-use Rattle.proof_words.specs.Proofs.{AreProofs, proof_text}
-use Rattle.rule_words.specs.Rules.{AreRulesOf, rule_text}
+use Rattle.command_line.specs.Spelling.{Setting, values_under}
+use Rattle.command_line.specs.Clients.{AreClients, client_text}
+use Rattle.command_line.specs.declared.client_words.clients.ClientWord.{ClientWord}
+use Rattle.command_line.proofs.NamingClients.{clients_once}
+use Rattle.command_line.specs.Proofs.{AreProofs, proof_text}
+use Rattle.command_line.specs.Rules.{AreRulesOf, rule_text}
 use Rattle.command_words.specs.Orders.{settings_of}
 use Rattle.command_words.specs.declared.orders.Order.TheVariants.{Serve}
 use Rattle.command_words.proofs.Agreeing.{agree_by, refuse_others}

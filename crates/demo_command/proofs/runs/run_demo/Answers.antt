@@ -1,4 +1,4 @@
-use Rattle.file_rounds.specs.Scenes.{scene}
+use Rattle.command_reports.specs.Scenes.{scene}
 use Rattle.command_reports.specs.Works.{Runs}
 use Rattle.demo_command.specs.Works.{demo_calls, DemoWorks}
 use Rattle.demo_command.proofs.Shown.{demo_keeps, run_back, run_clean, run_disks, run_done, run_words}

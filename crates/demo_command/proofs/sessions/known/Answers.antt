@@ -1,5 +1,5 @@
 use Rattle.std.proofs.Common.{◌≤◌, length, subst, sym}
-use Rattle.named_network.specs.declared.Named.{Named}
+use Rattle.rail_types.specs.declared.named_network.Named.{Named}
 use Rattle.rail_types.specs.declared.limits.TheConstants.{MAX_OBJECTS}
 use Rattle.demo_command.proofs.Sound.{blocks_few}
 use Rattle.demo_command.proofs.sessions.known.Goals as goal

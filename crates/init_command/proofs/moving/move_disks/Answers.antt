@@ -1,4 +1,4 @@
-use Rattle.file_rounds.specs.Scenes.{scene}
+use Rattle.command_reports.specs.Scenes.{scene}
 use Rattle.init_command.proofs.Twice.{IsRound, keeps_by, says_by}
 use Rattle.init_command.proofs.moving.move_disks.Goals as goal
 

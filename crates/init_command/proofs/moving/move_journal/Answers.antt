@@ -1,4 +1,4 @@
-use Rattle.file_rounds.specs.Scenes.{scene}
+use Rattle.command_reports.specs.Scenes.{scene}
 use Rattle.init_command.proofs.Twice.{step_from_unopened, step_refused, step_unopened}
 use Rattle.init_command.proofs.moving.move_journal.Goals as goal
 

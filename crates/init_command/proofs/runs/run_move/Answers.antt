@@ -1,4 +1,4 @@
-use Rattle.file_rounds.specs.Scenes.{scene}
+use Rattle.command_reports.specs.Scenes.{scene}
 use Rattle.command_reports.specs.Works.{Runs}
 use Rattle.command_reports.proofs.Ends.{runs_back, runs_disks, runs_sinks}
 use Rattle.init_command.specs.Works.{move_calls, MoveOver, ReadsBoth}

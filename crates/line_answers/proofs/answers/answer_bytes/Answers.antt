@@ -1,9 +1,9 @@
 use Rattle.std.proofs.Common.{◌≡◌, ℕ, List, sym, subst}
 use Rattle.book_gate.specs.Passes.{view}
-use Rattle.client_rules.specs.Ruled.{Ruled, stand}
+use Rattle.admission_rules.specs.Ruled.{Ruled, stand}
 use Rattle.rail_types.specs.Timetables.{Timetable}
-use Rattle.reply_texts.specs.declared.replies.Reply.{Reply}
-use Rattle.client_turns.specs.Turns.{Sight, timetable_at}
+use Rattle.client_lines.specs.declared.reply_texts.replies.Reply.{Reply}
+use Rattle.ask_turns.specs.Turns.{Sight, timetable_at}
 use Rattle.line_answers.specs.Answers.{Caller}
 use Rattle.line_answers.specs.Callers.{caller_of}
 use Rattle.line_answers.specs.Calls.{AnswersBetween}

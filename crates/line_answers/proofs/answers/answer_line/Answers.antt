@@ -2,7 +2,7 @@ use Rattle.std.proofs.Common.{ℕ, List, [], Option, sym, subst}
 use Rattle.book_gate.specs.Passes.{view}
 use Rattle.client_lines.specs.declared.asks.Ask.{Ask}
 use Rattle.client_lines.specs.declared.asks.Ask.TheVariants as asks
-use Rattle.client_turns.specs.Turns.{Sight}
+use Rattle.ask_turns.specs.Turns.{Sight}
 use Rattle.line_answers.specs.Proved.{ShowsLine}
 use Rattle.line_answers.specs.Rules.{wished}
 use Rattle.line_answers.proofs.Told.{none_denies}

@@ -2,9 +2,9 @@ use Rattle.std.proofs.Common.{◌≡◌, List, sym, refl, ◌∙◌, arith}
 use Rattle.std.proofs.lemmas.List.Elements.{All-nil}
 use mathlib.Core.Logic.{⊎_elim}
 use Rattle.book_gate.specs.Passes.{view}
-use Rattle.client_rules.specs.Ruled.{Ruled, stand}
-use Rattle.reply_texts.specs.declared.replies.Reply.TheVariants as reply
-use Rattle.client_turns.specs.Turns.{Sight, timetable_at}
+use Rattle.admission_rules.specs.Ruled.{Ruled, stand}
+use Rattle.client_lines.specs.declared.reply_texts.replies.Reply.TheVariants as reply
+use Rattle.ask_turns.specs.Turns.{Sight, timetable_at}
 use Rattle.line_answers.specs.Answers.{Caller}
 use Rattle.line_answers.specs.Callers.{caller_of}
 use Rattle.line_answers.specs.Calls.{AnswersBetween, IsSettled}

@@ -6,9 +6,9 @@ use Rattle.rail_types.specs.declared.entries.Deed.TheVariants.{Free, Grant}
 use Rattle.rail_types.specs.declared.entries.Wanted.TheVariants.{Asked}
 use Rattle.rail_types.specs.declared.paths.Path.{Path}
 use Rattle.rail_types.specs.Timetables.{Timetable}
-use Rattle.reply_texts.specs.declared.replies.Reply.{Reply}
-use Rattle.client_turns.specs.Told.{IsFoundAgain}
-use Rattle.client_turns.specs.Turns.{Sight, timetable_at}
+use Rattle.client_lines.specs.declared.reply_texts.replies.Reply.{Reply}
+use Rattle.ask_turns.specs.Told.{IsFoundAgain}
+use Rattle.ask_turns.specs.Turns.{Sight, timetable_at}
 use Rattle.line_answers.specs.Answers.{Caller, entry_of}
 use Rattle.line_answers.specs.Asked.{AnswersBehind, HasRoomIn, asking}
 use Rattle.line_answers.specs.Callers.{AnswersLine, caller_of}

@@ -3,9 +3,9 @@ use Rattle.book_gate.specs.Passes.{view}
 use Rattle.rail_types.specs.declared.limits.TheConstants.{MAX_PLACES}
 use Rattle.rail_types.specs.declared.tracks.Network.{Network}
 use Rattle.rail_types.specs.Timetables.{Timetable}
-use Rattle.reply_texts.specs.declared.replies.Reply.{Reply}
+use Rattle.client_lines.specs.declared.reply_texts.replies.Reply.{Reply}
 use Rattle.tail_states.specs.Listed.{HasMoreThan, Refuses}
-use Rattle.client_turns.specs.Turns.{Sight, timetable_at}
+use Rattle.ask_turns.specs.Turns.{Sight, timetable_at}
 use Rattle.ask_turns.specs.Tries.{IsTheFront}
 use Rattle.line_answers.specs.Answers.{Caller}
 use Rattle.line_answers.specs.Asked.{HasRoomIn, asking}

@@ -4,8 +4,8 @@ use Rattle.std.proofs.lemmas.List.{nil_from_length}
 use Rattle.book_gate.specs.Passes.{view}
 use Rattle.client_lines.specs.declared.asks.Ask.{Ask}
 use Rattle.client_lines.specs.declared.asks.Ask.TheVariants as asks
-use Rattle.client_rules.specs.Ruled.{Ruled, denied_by, stand}
-use Rattle.client_turns.specs.Turns.{Sight}
+use Rattle.admission_rules.specs.Ruled.{Ruled, denied_by, stand}
+use Rattle.ask_turns.specs.Turns.{Sight}
 use Rattle.line_answers.specs.Points.{added}
 use Rattle.line_answers.specs.Proved.{ShowsLine}
 use Rattle.line_answers.specs.Rules.{told_by, wished}

@@ -1,8 +1,8 @@
 use Rattle.std.proofs.Common.{rules as all_rules, ap, ◌≡◌, List, None, Option, Some, sym, ◌∙◌, subst}
 use Rattle.admission_rules.specs.declared.rules.Wish.{Wish}
 use Rattle.book_gate.specs.Passes.{view}
-use Rattle.client_rules.specs.Ruled.{Ruled, denied_by, stand}
-use Rattle.client_turns.specs.Turns.{Sight}
+use Rattle.admission_rules.specs.Ruled.{Ruled, denied_by, stand}
+use Rattle.ask_turns.specs.Turns.{Sight}
 use Rattle.line_answers.specs.Answers.{Caller}
 use Rattle.line_answers.specs.Callers.{caller_of}
 use Rattle.line_answers.specs.Points.{added}

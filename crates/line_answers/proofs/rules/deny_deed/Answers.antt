@@ -2,9 +2,9 @@ use Rattle.std.proofs.Common.{◌≡◌, [], None, Option, ℕ, sym, ◌∙◌, 
 use Rattle.book_gate.specs.Passes.{view}
 use Rattle.grant_log.proofs.Places.{new_is}
 use Rattle.rail_types.specs.declared.entries.Deed.TheVariants.{Free}
-use Rattle.reply_texts.specs.declared.replies.Reply.{Reply}
-use Rattle.client_turns.specs.Told.{IsFoundAgain}
-use Rattle.client_turns.specs.Turns.{IsHalted, Sight}
+use Rattle.client_lines.specs.declared.reply_texts.replies.Reply.{Reply}
+use Rattle.ask_turns.specs.Told.{IsFoundAgain}
+use Rattle.ask_turns.specs.Turns.{IsHalted, Sight}
 use Rattle.line_answers.specs.Answers.{Caller, entry_of}
 use Rattle.line_answers.specs.Callers.{AnswersLine, caller_of}
 use Rattle.line_answers.specs.Points.{added}

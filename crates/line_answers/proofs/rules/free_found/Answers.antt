@@ -2,11 +2,11 @@ use Rattle.std.proofs.Common.{◌≡◌, ℕ, List, Some, slice_get, ap, sym, �
 use Rattle.book_gate.specs.Passes.{view}
 use Rattle.client_lines.specs.declared.asks.Line.{Line}
 use Rattle.client_lines.specs.declared.asks.Ask.TheVariants as asks
-use Rattle.client_rules.specs.Ruled.{Ruled, stand}
+use Rattle.admission_rules.specs.Ruled.{Ruled, stand}
 use Rattle.rail_types.specs.declared.entries.Entry.{Entry}
-use Rattle.reply_texts.specs.declared.replies.Reply.{Reply}
-use Rattle.client_turns.specs.Told.{IsStanding}
-use Rattle.client_turns.specs.Turns.{Sight}
+use Rattle.client_lines.specs.declared.reply_texts.replies.Reply.{Reply}
+use Rattle.ask_turns.specs.Told.{IsStanding}
+use Rattle.ask_turns.specs.Turns.{Sight}
 use Rattle.line_answers.specs.Answers.{Caller}
 use Rattle.line_answers.specs.Callers.{AnswersAllowed, AnswersLine, caller_of}
 use Rattle.line_answers.specs.Points.{added}

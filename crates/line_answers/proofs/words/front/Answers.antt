@@ -2,8 +2,8 @@ use Rattle.std.proofs.Common.{refl, sym, ◌∙◌, subst}
 use Rattle.book_gate.specs.Passes.{view}
 use Rattle.client_lines.specs.declared.asks.Line.{Line}
 use Rattle.client_lines.specs.declared.asks.Ask.TheVariants as asks
-use Rattle.reply_texts.specs.declared.replies.Reply.{Reply}
-use Rattle.client_turns.specs.Turns.{Sight}
+use Rattle.client_lines.specs.declared.reply_texts.replies.Reply.{Reply}
+use Rattle.ask_turns.specs.Turns.{Sight}
 use Rattle.line_answers.specs.Answers.{Caller}
 use Rattle.line_answers.specs.Callers.{AnswersLine, caller_of}
 use Rattle.line_answers.proofs.Rows.{front_line, halted_line}

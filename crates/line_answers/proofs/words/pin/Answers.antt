@@ -6,11 +6,11 @@ use Rattle.rail_types.specs.declared.entries.Deed.{Deed}
 use Rattle.rail_types.specs.declared.entries.Deed.TheVariants.{Grant}
 use Rattle.rail_types.specs.declared.entries.Entry.{Entry}
 use Rattle.rail_types.specs.declared.entries.Wanted.TheVariants.{Pinned}
-use Rattle.reply_texts.specs.declared.replies.Reply.{Reply}
-use Rattle.reply_texts.specs.declared.replies.Reply.TheVariants as reply
-use Rattle.client_turns.specs.declared.told.Entered.{Entered}
-use Rattle.client_turns.specs.declared.told.Entered.TheVariants as entered
-use Rattle.client_turns.specs.Turns.{HasEntered, IsFullIn, IsRefusedIn, IsStopped, Sight, timetable_at}
+use Rattle.client_lines.specs.declared.reply_texts.replies.Reply.{Reply}
+use Rattle.client_lines.specs.declared.reply_texts.replies.Reply.TheVariants as reply
+use Rattle.ask_turns.specs.declared.client_turns.told.Entered.{Entered}
+use Rattle.ask_turns.specs.declared.client_turns.told.Entered.TheVariants as entered
+use Rattle.ask_turns.specs.Turns.{HasEntered, IsFullIn, IsRefusedIn, IsStopped, Sight, timetable_at}
 use Rattle.line_answers.specs.Answers.{Caller, IsAllowed, IsNarrowLine, entry_of}
 use Rattle.line_answers.specs.Callers.{AnswersLine, caller_of}
 use Rattle.line_answers.proofs.Rows.{full_line, pin_refused, settled_line, stopped_line, unsettled_line, want_line}

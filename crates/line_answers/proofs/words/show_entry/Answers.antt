@@ -2,9 +2,9 @@ use Rattle.std.proofs.Common.{Some, refl, sym, ◌∙◌, subst}
 use Rattle.book_gate.specs.Passes.{view}
 use Rattle.client_lines.specs.declared.asks.Line.{Line}
 use Rattle.client_lines.specs.declared.asks.Ask.TheVariants as asks
-use Rattle.reply_texts.specs.declared.replies.Reply.{Reply}
-use Rattle.client_turns.specs.Told.{IsStanding}
-use Rattle.client_turns.specs.Turns.{Sight}
+use Rattle.client_lines.specs.declared.reply_texts.replies.Reply.{Reply}
+use Rattle.ask_turns.specs.Told.{IsStanding}
+use Rattle.ask_turns.specs.Turns.{Sight}
 use Rattle.line_answers.specs.Answers.{Caller}
 use Rattle.line_answers.specs.Callers.{AnswersLine, caller_of}
 use Rattle.line_answers.proofs.Rows.{halted_line, missing_line, past_end, shown_line}

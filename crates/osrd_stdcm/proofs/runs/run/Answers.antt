@@ -1,5 +1,5 @@
 use Rattle.std.proofs.Common.{inl, inr, rules}
-use Rattle.file_rounds.specs.Scenes.{scene}
+use Rattle.command_reports.specs.Scenes.{scene}
 use Rattle.osrd_stdcm.proofs.Unhindered.{answered}
 use Rattle.osrd_stdcm.proofs.runs.run.Goals as goal
 

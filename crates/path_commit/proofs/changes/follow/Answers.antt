@@ -3,7 +3,7 @@ use Rattle.rail_types.specs.declared.entries.Owner.TheVariants.{Entry as of_entr
 use Rattle.rail_types.specs.Occupation.{Clash, HeldClaim}
 use Rattle.occupation_book.specs.Held.{AreOnZonesOf, IsFree, held}
 use Rattle.grant_log.specs.Following.{Gains}
-use Rattle.copy_since.specs.Rooms.{MayBeHeld}
+use Rattle.grant_log.specs.Rooms.{MayBeHeld}
 use Rattle.path_commit.proofs.Changing.{follow_gained, follow_lost, fresh_keeps, gained_apart, gained_free, gained_may, lost_all, lost_zones}
 use Rattle.path_commit.proofs.changes.follow.Goals as goal
 

@@ -2,9 +2,9 @@ use Rattle.std.proofs.Common.{◌≡◌, List, ap, subst, sym, ◌∙◌}
 use Rattle.std.specs.Prelude.{IfSome}
 use Rattle.rail_types.specs.declared.entries.Entry.{Entry}
 use Rattle.rail_types.specs.Timetables.{Timetable, timetable_of}
-use Rattle.history_reading.specs.Failing.{IsUnread}
-use Rattle.history_reading.specs.Files.{IsFound, TellsHistory}
-use Rattle.history_reading.proofs.Unrefused.{spelled-has}
+use Rattle.path_recover.specs.Failing.{IsUnread}
+use Rattle.path_recover.specs.Files.{IsFound, TellsHistory}
+use Rattle.path_recover.proofs.Unrefused.{spelled-has}
 use Rattle.path_recover.proofs.Reopened.{if-more, if-told}
 use Rattle.path_recover.proofs.opening.open.Goals as goal
 

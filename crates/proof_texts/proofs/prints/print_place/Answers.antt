@@ -1,6 +1,6 @@
 use Rattle.std.proofs.Common.{◌≡◌, ℕ, List, ◌++◌, map, decimal, subst}
-use Rattle.reply_texts.specs.Fields.{spaced}
-use Rattle.reply_texts.proofs.Printing.{spaced-append}
+use Rattle.client_lines.specs.Fields.{spaced}
+use Rattle.client_lines.proofs.Printing.{spaced-append}
 use Rattle.proof_texts.specs.Texts.{state_fields}
 use Rattle.proof_texts.proofs.Printing.{prints_both}
 use Rattle.proof_texts.proofs.prints.print_place.Goals as goal

@@ -1,5 +1,5 @@
 use Rattle.std.proofs.Common.{rules, refl}
-use Rattle.infra_lists.specs.Objects as objects
+use Rattle.railjson_read.specs.Objects as objects
 use Rattle.railjson_read.specs.Files.{landmarks_in}
 use Rattle.railjson_read.proofs.wholes.landmarks_of.Goals as goal
 

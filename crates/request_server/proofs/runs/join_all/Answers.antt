@@ -4,7 +4,7 @@ use Rattle.book_gate.specs.Passes.{view}
 use Rattle.line_sessions.specs.Ends.{streams}
 use Rattle.request_server.specs.declared.plans.Job.{Job}
 use Rattle.request_server.specs.declared.plans.Session.{Session}
-use Rattle.client_seats.specs.Seats.{IsBack}
+use Rattle.request_server.specs.Seats.{IsBack}
 use Rattle.request_server.specs.Jobs.{session_of}
 use Rattle.request_server.proofs.Matched.{Joining, joining_all, joining_more, joining_none}
 use Rattle.request_server.proofs.runs.join_all.Goals as goal

@@ -1,10 +1,10 @@
 use Rattle.std.proofs.Common.{◌≡◌, ◌+◌, ◌*◌, ◌≤◌, All, List, length, reverse, vec_capacity}
 use Rattle.book_gate.specs.Passes.{view}
-use Rattle.client_turns.specs.Turns.{IsReady}
+use Rattle.ask_turns.specs.Turns.{IsReady}
 use Rattle.line_sessions.specs.Ends.{streams}
-use Rattle.client_seats.specs.Runs.{AreMatched}
-use Rattle.client_seats.specs.Seats.{IsBack}
-use Rattle.client_seats.specs.Talks.{Talk}
+use Rattle.request_server.specs.ClientRuns.{AreMatched}
+use Rattle.request_server.specs.Seats.{IsBack}
+use Rattle.request_server.specs.Talks.{Talk}
 use Rattle.request_server.specs.Jobs.{IsDoneJob}
 use Rattle.request_server.proofs.Matched.{Joining}
 use Rattle.request_server.proofs.runs.join_all.Given as goal

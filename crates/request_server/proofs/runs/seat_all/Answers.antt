@@ -1,13 +1,13 @@
 use Rattle.std.proofs.Common.{ℕ, ◌≡◌, ◌++◌, ◌∷◌, [], List, Some, All, length, map, reverse, ap, sym, ◌∙◌, subst, arith, length-append}
 use Rattle.std.proofs.lemmas.List.{length-map, map-append}
 use Rattle.std.proofs.lemmas.List.Elements.{All-pop, All-push}
-use Rattle.client_rules.specs.Ruled.{Ruled, stand}
-use Rattle.client_seats.specs.Gates.{IsNewcomer}
-use Rattle.client_seats.specs.Runs.{told_own}
-use Rattle.client_seats.specs.Seats.{found_at}
-use Rattle.client_seats.specs.declared.newcomers.Newcomer.{Newcomer}
-use Rattle.client_seats.proofs.Joins.{turned}
-use Rattle.client_turns.specs.Turns.{timetable_at}
+use Rattle.admission_rules.specs.Ruled.{Ruled, stand}
+use Rattle.request_server.specs.Gates.{IsNewcomer}
+use Rattle.request_server.specs.ClientRuns.{told_own}
+use Rattle.request_server.specs.Seats.{found_at}
+use Rattle.request_server.specs.declared.client_seats.newcomers.Newcomer.{Newcomer}
+use Rattle.request_server.proofs.Joins.{turned}
+use Rattle.ask_turns.specs.Turns.{timetable_at}
 use Rattle.line_sessions.specs.declared.sessions.Why.TheVariants.{Memory}
 use Rattle.rail_types.specs.declared.entries.Entry.{Entry}
 use Rattle.request_server.specs.declared.plans.Job.{Job}

@@ -2,8 +2,8 @@ use Rattle.std.proofs.Common.{List, All, drop, length, map, ap, sym, ◌∙◌, 
 use Rattle.std.proofs.lemmas.List.{take_at}
 use Rattle.line_sessions.specs.Ends.{streams}
 use Rattle.request_server.specs.declared.plans.Job.{Job}
-use Rattle.client_seats.specs.Runs.{AreMatched}
-use Rattle.client_seats.specs.Seats.{IsBack}
+use Rattle.request_server.specs.ClientRuns.{AreMatched}
+use Rattle.request_server.specs.Seats.{IsBack}
 use Rattle.request_server.specs.Jobs.{begun_of, IsDoneJob, IsReadyJob}
 use Rattle.request_server.proofs.Matched.{all_done, matched_all}
 use Rattle.request_server.proofs.runs.serve_all.Goals as goal

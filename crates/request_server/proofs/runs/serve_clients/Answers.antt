@@ -2,10 +2,10 @@ use Rattle.std.proofs.Common.{◌≡◌, List, All, length, map, reverse, sym, �
 use Rattle.std.proofs.lemmas.List.{reverse-reverse}
 use Rattle.book_gate.specs.Passes.{opened}
 use Rattle.book_gate.specs.Views.{StartsWith}
-use Rattle.client_seats.specs.Gates.{IsNewcomer}
-use Rattle.client_seats.specs.Runs.{AreMatched, IsRun}
-use Rattle.client_seats.specs.Talks.{Talk}
-use Rattle.client_seats.specs.declared.newcomers.Newcomer.{Newcomer}
+use Rattle.request_server.specs.Gates.{IsNewcomer}
+use Rattle.request_server.specs.ClientRuns.{AreMatched, IsRun}
+use Rattle.request_server.specs.Talks.{Talk}
+use Rattle.request_server.specs.declared.client_seats.newcomers.Newcomer.{Newcomer}
 use Rattle.line_answers.specs.declared.shared.Shared.{Shared}
 use Rattle.line_sessions.specs.Ends.{streams}
 use Rattle.path_commit.specs.Ledgers.{Ledger, settled_of}

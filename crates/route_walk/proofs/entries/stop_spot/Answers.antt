@@ -1,6 +1,6 @@
 use Rattle.std.proofs.Common.{◌≡◌, ◌∙◌, sym, subst, ap, arith, length, ◌<◌, ℕ, List}
-use Rattle.infra_types.specs.declared.infras.Infra.{Infra}
-use Rattle.infra_types.specs.declared.tracks.Placed.{Placed}
+use Rattle.rail_types.specs.declared.infra_types.infras.Infra.{Infra}
+use Rattle.rail_types.specs.declared.infra_types.tracks.Placed.{Placed}
 use Rattle.track_graph.specs.Pieces.{AreOn}
 use Rattle.track_graph.specs.Stands.{AreStands, stands_of}
 use Rattle.route_walk.specs.Entries.{metre_at, track_at}

@@ -1,5 +1,5 @@
 use Rattle.std.proofs.Common.{◌∙◌, sym, subst, ap, List}
-use Rattle.infra_types.specs.declared.infras.Infra.{Infra}
+use Rattle.rail_types.specs.declared.infra_types.infras.Infra.{Infra}
 use Rattle.track_graph.specs.Pieces.{AreOn}
 use Rattle.track_graph.specs.Stands.{AreStands, stands_of}
 use Rattle.track_graph.specs.declared.stands.Stand.{Stand}

@@ -1,5 +1,5 @@
 use Rattle.std.proofs.Common.{◌≡◌, ◌∙◌, sym, subst, ap, Some, None}
-use Rattle.infra_types.specs.declared.ends.TrackEnd.{TrackEnd}
+use Rattle.rail_types.specs.declared.infra_types.ends.TrackEnd.{TrackEnd}
 use Rattle.route_walk.specs.declared.places.Place.{Place}
 use Rattle.route_walk.specs.Ways.{IsLead}
 use Rattle.route_walk.specs.Places.{come}

@@ -3,7 +3,7 @@ use Rattle.std.specs.List.Sorted.{IsPartitionPoint, IsPartitionedBy}
 use Rattle.std.proofs.lemmas.Bool.{cases_order, ltb-true, ltb-false, lt-ltb}
 use Rattle.std.proofs.lemmas.Fn.{always_returns_same}
 use Rattle.std.specs.List.{AllPairs}
-use Rattle.infra_types.specs.declared.switches.Way.{Way}
+use Rattle.rail_types.specs.declared.infra_types.switches.Way.{Way}
 use Rattle.route_walk.proofs.ways.first_from.Goals as goal
 
 parted : (ways : List Way) (switch : ℕ) → AllPairs (λ one later. one.switch < later.switch) ways → IsPartitionedBy (λ (way : Way). nat_lt way.switch switch) ways

@@ -1,5 +1,5 @@
 use Rattle.std.proofs.Common.{rules, ◌≡◌, ◌∷◌, ◌++◌, [], append_assoc}
-use Rattle.named_network.specs.declared.BlockName.{BlockName}
+use Rattle.rail_types.specs.declared.named_network.BlockName.{BlockName}
 use Rattle.signal_blocks.specs.Names.{route_parts}
 use Rattle.signal_blocks.proofs.Growing.{parts_more}
 use Rattle.signal_blocks.proofs.names.add_parts.Goals as goal

@@ -1,6 +1,6 @@
 use Rattle.std.proofs.Common.{rules, ◌≡◌, ◌<◌, ◌^◌, arith}
 use Rattle.std.specs.List.{All}
-use Rattle.block_cuts.specs.Cuts.{block_count}
+use Rattle.signal_blocks.specs.Cuts.{block_count}
 use Rattle.route_walk.specs.declared.walks.Walk.{Walk}
 use Rattle.signal_blocks.specs.Names.{block_names, stop_names}
 use Rattle.signal_blocks.proofs.Whole.{each_few, is_named}

@@ -1,5 +1,5 @@
 use Rattle.std.proofs.Common.{◌≡◌, ◌∙◌, Some, sym}
-use Rattle.block_cuts.specs.Faults.{railway_fault}
+use Rattle.signal_blocks.specs.Faults.{railway_fault}
 use Rattle.signal_blocks.specs.Networks.{HasFault}
 use Rattle.signal_blocks.proofs.Whole.{blocks_tell}
 use Rattle.signal_blocks.proofs.networks.network_of.Goals as goal

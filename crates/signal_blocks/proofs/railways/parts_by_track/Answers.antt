@@ -1,6 +1,6 @@
 use Rattle.std.proofs.Common.{rules, ◌≡◌, ◌<◌, length}
 use Rattle.std.specs.List.{All}
-use Rattle.block_cuts.specs.declared.lines.StopPart.{StopPart}
+use Rattle.signal_blocks.specs.declared.block_cuts.lines.StopPart.{StopPart}
 use Rattle.signal_blocks.specs.Lines.{stop_parts}
 use Rattle.signal_blocks.proofs.Limits.{parts_numbered, parts_on_tracks}
 use Rattle.signal_blocks.proofs.railways.parts_by_track.Goals as goal

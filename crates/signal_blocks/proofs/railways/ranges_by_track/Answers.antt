@@ -1,6 +1,6 @@
 use Rattle.std.proofs.Common.{rules, ◌≡◌, ◌<◌, length}
 use Rattle.std.specs.List.{All}
-use Rattle.block_cuts.specs.declared.lines.SpeedRange.{SpeedRange}
+use Rattle.signal_blocks.specs.declared.block_cuts.lines.SpeedRange.{SpeedRange}
 use Rattle.signal_blocks.specs.Lines.{speed_ranges}
 use Rattle.signal_blocks.proofs.Limits.{ranges_limited, ranges_on_tracks}
 use Rattle.signal_blocks.proofs.railways.ranges_by_track.Goals as goal

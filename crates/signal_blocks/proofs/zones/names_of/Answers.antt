@@ -2,9 +2,9 @@ use Rattle.std.proofs.Common.{rules, ◌≡◌, ◌∷◌, ◌++◌, [], arith, 
 use Rattle.std.specs.List.{All}
 use Rattle.std.proofs.lemmas.List.Elements.{All-append, All-cons, All-nil}
 use Rattle.std.proofs.lemmas.List.FromFn.{map-range_with_len_more}
-use Rattle.named_network.specs.Named.{IsId}
-use Rattle.named_network.specs.declared.TrackPiece.{TrackPiece}
-use Rattle.named_network.specs.declared.ZoneName.{ZoneName}
+use Rattle.rail_types.specs.Named.{IsId}
+use Rattle.rail_types.specs.declared.named_network.TrackPiece.{TrackPiece}
+use Rattle.rail_types.specs.declared.named_network.ZoneName.{ZoneName}
 use Rattle.signal_blocks.specs.Names.{zone_name}
 use Rattle.signal_blocks.proofs.zones.names_of.Goals as goal
 

@@ -1,7 +1,7 @@
 use Rattle.std.proofs.Common.{◌≡◌, ◌++◌, drop, map}
 use Rattle.std.specs.List.{All}
-use Rattle.named_network.specs.Named.{IsId}
-use Rattle.named_network.specs.declared.TrackPiece.{TrackPiece}
+use Rattle.rail_types.specs.Named.{IsId}
+use Rattle.rail_types.specs.declared.named_network.TrackPiece.{TrackPiece}
 use Rattle.signal_blocks.specs.Names.{track_piece}
 use Rattle.signal_blocks.proofs.zones.zone_name.Given as goal
 

@@ -1,7 +1,7 @@
 use Rattle.std.proofs.Common.{◌≡◌, ◌∙◌, ap, sym, subst, refl, length, List, Option, Some, option_map}
 use Rattle.std.proofs.lemmas.Option.{slice_get_read}
-use Rattle.infra_types.specs.declared.switches.Switch.{Switch}
-use Rattle.infra_types.specs.declared.tracks.Track.{Track}
+use Rattle.rail_types.specs.declared.infra_types.switches.Switch.{Switch}
+use Rattle.rail_types.specs.declared.infra_types.tracks.Track.{Track}
 use Rattle.track_graph.specs.Faults.{IsFirstTwice}
 use Rattle.track_graph.proofs.PortsNamed.{twice_within}
 use Rattle.track_graph.proofs.graphs.joints_of.Goals as goal

@@ -1,7 +1,7 @@
 use Rattle.std.proofs.Common.{◌≡◌, ◌∙◌, ℕ, List, ap, sym, subst, length, arith}
 use Rattle.std.specs.List.{sum_by}
-use Rattle.infra_types.specs.declared.infras.Infra.{Infra}
-use Rattle.infra_types.specs.declared.switches.Switch.{Switch}
+use Rattle.rail_types.specs.declared.infra_types.infras.Infra.{Infra}
+use Rattle.rail_types.specs.declared.infra_types.switches.Switch.{Switch}
 use Rattle.track_graph.specs.declared.neighbours.Join.{Join}
 use Rattle.track_graph.specs.Graphs.{IsGraph}
 use Rattle.track_graph.specs.Neighbours.{AreNamed, AreWithin, stars}

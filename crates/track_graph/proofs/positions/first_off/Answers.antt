@@ -2,7 +2,7 @@ use Rattle.std.proofs.Common.{map, sym}
 use Rattle.std.specs.List.{filter_map, flat_map}
 use Rattle.std.specs.Borrow.{Bor}
 use Rattle.rail_types.specs.declared.names.Name.{Name}
-use Rattle.infra_types.specs.declared.signals.Signal.{Signal}
+use Rattle.rail_types.specs.declared.infra_types.signals.Signal.{Signal}
 use Rattle.track_graph.specs.Faults.{is_off, kept_at, parts_at, placed_at}
 use Rattle.track_graph.proofs.Offs.{off_first, off_second, off_third, off_fourth}
 use Rattle.track_graph.proofs.positions.first_off.Goals as goal

@@ -1,6 +1,6 @@
 use Rattle.std.proofs.Common.{refl, ap, ◌∙◌}
 use Rattle.std.specs.List.{list_any}
-use Rattle.infra_types.specs.declared.tracks.Part.{Part}
+use Rattle.rail_types.specs.declared.infra_types.tracks.Part.{Part}
 use Rattle.std.proofs.Common.{List}
 use Rattle.track_graph.specs.Faults.{is_part_off}
 use Rattle.track_graph.proofs.Offs.{point_found, point_missed}

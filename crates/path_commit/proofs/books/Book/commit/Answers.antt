@@ -1,5 +1,5 @@
 use Rattle.std.proofs.Common.{◌∙◌, ap, sym, subst}
-use Rattle.journal_moments.specs.Keeping.{Left}
+use Rattle.grant_journal.specs.Keeping.{Left}
 use Rattle.path_commit.specs.Answers.{IsBeforeOrAfter, IsTold}
 use Rattle.path_commit.specs.Inside.{ledger_of}
 use Rattle.path_commit.specs.Ledgers.{Ledger}

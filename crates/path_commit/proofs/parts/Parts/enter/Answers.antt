@@ -3,8 +3,8 @@ use Rattle.occupation_book.specs.Held.{held}
 use Rattle.grant_log.specs.Legal.{Register}
 use Rattle.grant_journal.specs.declared.journals.Written.TheVariants.{Fault}
 use Rattle.entry_codec.specs.Body.{body_of}
-use Rattle.journal_text.specs.Headers.{header_of}
-use Rattle.journal_text.specs.Histories.{bodies_of}
+use Rattle.grant_journal.specs.Headers.{header_of}
+use Rattle.grant_journal.specs.Histories.{bodies_of}
 use Rattle.path_commit.proofs.Joining.{commits_by, faulty_left, faulty_one, left_by, next_used, one_by, record_bytes, record_failed}
 use Rattle.path_commit.proofs.parts.Parts.enter.Goals as goal
 

@@ -1,7 +1,7 @@
 use Rattle.std.proofs.Common.{◌≡◌, ap, ◌∙◌}
 use Rattle.rail_types.specs.declared.entries.Settings.{Settings}
-use Rattle.journal_text.specs.Headers.{header_of}
-use Rattle.journal_text.specs.Histories.{bodies_of, bytes_of}
+use Rattle.grant_journal.specs.Headers.{header_of}
+use Rattle.grant_journal.specs.Histories.{bodies_of, bytes_of}
 use Rattle.path_commit.proofs.parts.Parts.has_room.Goals as goal
 
 pub returns : goal.returns

@@ -1,6 +1,6 @@
 use Rattle.path_commit.proofs.Joining.{settled_left, settled_one, settled_told}
-use Rattle.journal_text.specs.Headers.{header_of}
-use Rattle.journal_text.specs.Histories.{bodies_of}
+use Rattle.grant_journal.specs.Headers.{header_of}
+use Rattle.grant_journal.specs.Histories.{bodies_of}
 use Rattle.path_commit.proofs.parts.Parts.settle.Goals as goal
 
 pub returns-clause-one : goal.returns-clause-one

@@ -1,7 +1,7 @@
 use Rattle.std.proofs.Common.{◌≡◌, ◌∙◌, ap, length, map, subst, sym, List}
 use Rattle.std.specs.Prelude.{slice_get}
-use Rattle.infra_types.specs.declared.ends.TrackEnd.{TrackEnd}
-use Rattle.infra_types.specs.declared.infras.Infra.{Infra}
+use Rattle.rail_types.specs.declared.infra_types.ends.TrackEnd.{TrackEnd}
+use Rattle.rail_types.specs.declared.infra_types.infras.Infra.{Infra}
 use Rattle.track_graph.specs.Joints.{AreJoints, junction_of}
 use Rattle.track_graph.specs.Layouts.{Layout}
 use Rattle.track_graph.proofs.Wayfinding.{no_port, no_way, way_leads}

@@ -1,5 +1,5 @@
 use Rattle.std.proofs.Common.{ap, length, subst, sym}
-use Rattle.infra_types.specs.declared.infras.Infra.{Infra}
+use Rattle.rail_types.specs.declared.infra_types.infras.Infra.{Infra}
 use Rattle.track_graph.specs.Joints.{AreJoints}
 use Rattle.track_graph.specs.Layouts.{Layout}
 use Rattle.track_graph.proofs.Wayfinding.{no_switch, switch_told}

@@ -1,0 +1,165 @@
+use Rattle.std.proofs.Common.{◌≡◌, ◌≤◌, List, [], length, ap, sym, ◌∙◌, subst, refl, arith}
+use Rattle.std.proofs.lemmas.List.{append-nil}
+use Rattle.book_gate.specs.Passes.{opened, view}
+use Rattle.book_gate.specs.Views.{StartsWith}
+use Rattle.path_commit.specs.Footings.{footing_of}
+use Rattle.path_commit.specs.Ledgers.{Ledger}
+use Rattle.rail_types.specs.declared.entries.Entry.{Entry}
+use Rattle.rail_types.specs.Timetables.{Timetable}
+use Rattle.ask_turns.specs.Clients.{IsCopyOf, Knows}
+use Rattle.ask_turns.specs.Turns.{IsReached, Sight, timetable_at}
+use Rattle.ask_turns.proofs.Ended.{fails_to_settle, looks, same_timetable}
+use Rattle.ask_turns.proofs.Known.{known_longer, none_there, not_err}
+use Rattle.ask_turns.proofs.Opened as settling
+use Rattle.ask_turns.proofs.client_turns.turns.open_turn.Goals as goal
+
+pub leave-requires-clause-list : goal.leave-requires-clause-list
+leave-requires-clause-list g c =
+    let m : Sight = view c.enter-held.new.pass in (
+      [],
+      settling.list g.D.Disk.faults m c.enter-held.result c.book.result.now c.settle.new.self
+          c.enter-held.ensures.found c.book.ensures.found c.settle.ensures.entries ∙ sym (append-nil m.found.list),
+    )
+
+pub returns-in-Fault-clause-knows : goal.returns-in-Fault-clause-knows
+returns-in-Fault-clause-knows g c =
+    let v : Sight = view c.args.pass.now in let w : Sight = view c.leave.new.pass in
+    let list = ap (λ (x : Sight). x.found.list) c.leave.ensures.served ∙ ap (λ s. s.list) c.enter-held.ensures.found in
+    known_longer (timetable_at c.args.gate.now) c.args.client.now w.found.list v.seen
+    (subst (λ (l : List Entry). StartsWith l v.seen) (sym list) c.enter-held.ensures.seen) c.requires.knows
+
+pub returns-in-Fault-clause-halted : goal.returns-in-Fault-clause-halted
+returns-in-Fault-clause-halted g c =
+    let faults = g.D.Disk.faults in
+    let v : Sight = view c.args.pass.now in let m : Sight = view c.enter-held.new.pass in
+    let given : Ledger g.row.D.Denot = c.enter-held.result in let old : Ledger g.row.D.Denot = c.book.result.now in
+    let left : Ledger g.row.D.Denot = c.settle.new.self in
+    let found = c.enter-held.ensures.found in let lent = c.book.ensures.found in let entries = c.settle.ensures.entries in
+    let list = settling.list faults m given old left found lent entries in
+    let rose = settling.rose faults m given old left found lent entries c.in-Fault.ensures.cause in
+    let before : m.found.count ≡ faults old.disk = settling.count_then faults m given old left found lent entries in
+    let later : faults old.disk ≤ faults left.disk = c.settle.ensures.later in
+    fails_to_settle faults v m (view c.leave.new.pass) left c.enter-held.ensures.opens c.leave.ensures.served
+    (subst (λ (l : List Entry). StartsWith l v.seen) (sym (ap (λ s. s.list) found)) c.enter-held.ensures.seen)
+    list (settling.still_pending faults m given old left found lent entries c.settle.ensures.footing c.in-Fault.ensures.settles.1)
+    (settling.pending faults m given old left found lent entries c.in-Fault.ensures.settles.0) (omega arith) rose
+
+pub catch_up-requires : goal.catch_up-requires
+catch_up-requires g c =
+    let v : Sight = view c.args.pass.now in
+    let given : Ledger g.row.D.Denot = c.enter-held.result in let old : Ledger g.row.D.Denot = c.book.result.now in
+    let left : Ledger g.row.D.Denot = c.settle.new.self in let now : Ledger g.row.D.Denot = c.book-2.result.now in
+    let again = c.book-2.ensures.found in let lent = c.book.ensures.found in
+    let entries : given.entries ≡ now.entries =
+    sym (ap (λ (b : Ledger g.row.D.Denot). b.entries) again ∙ c.settle.ensures.entries ∙ ap (λ (b : Ledger g.row.D.Denot). b.entries) lent) in
+    let footing : footing_of (opened c.args.gate.now) ≡ footing_of now =
+    sym (ap footing_of again ∙ c.settle.ensures.footing ∙ ap footing_of lent ∙ c.enter-held.ensures.footing) in
+    let timetable : timetable_at c.args.gate.now ≡ now.timetable = same_timetable (opened c.args.gate.now) now footing in
+    record {
+      knows = known_longer now.timetable c.args.client.now now.entries v.seen
+          (subst (λ (l : List Entry). StartsWith l v.seen) entries c.enter-held.ensures.seen)
+          (subst (λ (t : Timetable). Knows t c.args.client.now v.seen) timetable c.requires.knows);
+    }
+
+pub leave-requires-then-is_err-clause-list : goal.leave-requires-then-is_err-clause-list
+leave-requires-then-is_err-clause-list g c =
+    let faults = g.D.Disk.faults in
+    let m : Sight = view c.enter-held.new.pass in
+    let given : Ledger g.row.D.Denot = c.enter-held.result in let old : Ledger g.row.D.Denot = c.book.result.now in
+    let left : Ledger g.row.D.Denot = c.settle.new.self in let now : Ledger g.row.D.Denot = c.book-2.result.now in
+    let put = settling.settled_put g.D.Disk old left (faults old.disk) (faults left.disk) c.settle.result
+    c.in_default.not-Fault c.settle.ensures.settles c.settle.ensures.cause in
+    let up = settling.up faults m given old left now c.enter-held.ensures.found c.book.ensures.found
+    c.settle.ensures.entries put c.book-2.ensures.found in
+    ([], up.list ∙ sym (append-nil m.found.list))
+
+pub returns-then-is_err-clause-halted : goal.returns-then-is_err-clause-halted
+returns-then-is_err-clause-halted g c =
+    let faults = g.D.Disk.faults in
+    let m : Sight = view c.enter-held.new.pass in
+    let given : Ledger g.row.D.Denot = c.enter-held.result in let old : Ledger g.row.D.Denot = c.book.result.now in
+    let left : Ledger g.row.D.Denot = c.settle.new.self in let now : Ledger g.row.D.Denot = c.book-2.result.now in
+    let put = settling.settled_put g.D.Disk old left (faults old.disk) (faults left.disk) c.settle.result
+    c.in_default.not-Fault c.settle.ensures.settles c.settle.ensures.cause in
+    let up = settling.up faults m given old left now c.enter-held.ensures.found c.book.ensures.found
+    c.settle.ensures.entries put c.book-2.ensures.found in
+    let v : Sight = view c.args.pass.now in
+    let goes_on : StartsWith m.found.list v.seen =
+    subst (λ (l : List Entry). StartsWith l v.seen) (sym (ap (λ s. s.list) c.enter-held.ensures.found)) c.enter-held.ensures.seen in
+    looks faults v m now now c.enter-held.ensures.opens goes_on up.within up.list up.counts (omega arith)
+    (view c.leave-then-is_err.new.pass) c.leave-then-is_err.ensures.served refl up.settled
+
+pub leave-requires-in-Some-clause-list : goal.leave-requires-in-Some-clause-list
+leave-requires-in-Some-clause-list g c =
+    let faults = g.D.Disk.faults in
+    let m : Sight = view c.enter-held.new.pass in
+    let given : Ledger g.row.D.Denot = c.enter-held.result in let old : Ledger g.row.D.Denot = c.book.result.now in
+    let left : Ledger g.row.D.Denot = c.settle.new.self in let now : Ledger g.row.D.Denot = c.book-2.result.now in
+    let put = settling.settled_put g.D.Disk old left (faults old.disk) (faults left.disk) c.settle.result
+    c.in_default.not-Fault c.settle.ensures.settles c.settle.ensures.cause in
+    let up = settling.up faults m given old left now c.enter-held.ensures.found c.book.ensures.found
+    c.settle.ensures.entries put c.book-2.ensures.found in
+    ([], up.list ∙ sym (append-nil m.found.list))
+
+pub returns-in-Some-clause-halted : goal.returns-in-Some-clause-halted
+returns-in-Some-clause-halted g c =
+    let faults = g.D.Disk.faults in
+    let m : Sight = view c.enter-held.new.pass in
+    let given : Ledger g.row.D.Denot = c.enter-held.result in let old : Ledger g.row.D.Denot = c.book.result.now in
+    let left : Ledger g.row.D.Denot = c.settle.new.self in let now : Ledger g.row.D.Denot = c.book-2.result.now in
+    let put = settling.settled_put g.D.Disk old left (faults old.disk) (faults left.disk) c.settle.result
+    c.in_default.not-Fault c.settle.ensures.settles c.settle.ensures.cause in
+    let up = settling.up faults m given old left now c.enter-held.ensures.found c.book.ensures.found
+    c.settle.ensures.entries put c.book-2.ensures.found in
+    let v : Sight = view c.args.pass.now in
+    let goes_on : StartsWith m.found.list v.seen =
+    subst (λ (l : List Entry). StartsWith l v.seen) (sym (ap (λ s. s.list) c.enter-held.ensures.found)) c.enter-held.ensures.seen in
+    let copy : IsCopyOf now.timetable c.catch_up.new.self now.entries =
+    not_err _ c.catch_up.result (sym c.is_err.ensures.value ∙ c.if-is_err.false) c.catch_up.ensures.copy in
+    let w : Sight = view c.leave-in-Some.new.pass in (
+      looks faults v m now now c.enter-held.ensures.opens goes_on up.within up.list up.counts (omega arith)
+          w c.leave-in-Some.ensures.served refl up.settled,
+      record {
+        asked = c.in-Some.ensures.some.0;
+        stands = copy.front ∙ ap length up.list ∙ ap (λ (x : Sight). length x.found.list) (sym c.leave-in-Some.ensures.served);
+        beyond = c.in-Some.ensures.some.1;
+      },
+    )
+
+pub returns-clause-open : goal.returns-clause-open
+returns-clause-open g c =
+    let faults = g.D.Disk.faults in
+    let m : Sight = view c.enter-held.new.pass in
+    let given : Ledger g.row.D.Denot = c.enter-held.result in let old : Ledger g.row.D.Denot = c.book.result.now in
+    let left : Ledger g.row.D.Denot = c.settle.new.self in let now : Ledger g.row.D.Denot = c.book-2.result.now in
+    let put = settling.settled_put g.D.Disk old left (faults old.disk) (faults left.disk) c.settle.result
+    c.in_default.not-Fault c.settle.ensures.settles c.settle.ensures.cause in
+    let up = settling.up faults m given old left now c.enter-held.ensures.found c.book.ensures.found
+    c.settle.ensures.entries put c.book-2.ensures.found in
+    let v : Sight = view c.args.pass.now in
+    let goes_on : StartsWith m.found.list v.seen =
+    subst (λ (l : List Entry). StartsWith l v.seen) (sym (ap (λ s. s.list) c.enter-held.ensures.found)) c.enter-held.ensures.seen in
+    let copy : IsCopyOf now.timetable c.catch_up.new.self now.entries =
+    not_err _ c.catch_up.result (sym c.is_err.ensures.value ∙ c.if-is_err.false) c.catch_up.ensures.copy in
+    let footing : footing_of now ≡ footing_of (opened c.args.gate.now) =
+    ap footing_of c.book-2.ensures.found ∙ c.settle.ensures.footing ∙ ap footing_of c.book.ensures.found
+    ∙ c.enter-held.ensures.footing in
+    let timetable : now.timetable ≡ timetable_at c.args.gate.now = same_timetable now (opened c.args.gate.now) footing in
+    let its : IsCopyOf (timetable_at c.args.gate.now) c.catch_up.new.self m.found.list =
+    subst (λ (t : Timetable). IsCopyOf t c.catch_up.new.self m.found.list) timetable
+    (subst (IsCopyOf now.timetable c.catch_up.new.self) up.list copy) in
+    let reached : IsReached c.args.after m.found.list = λ front asked.
+    let near = c.beyond.ensures.none (none_there c.beyond.result c.in_default-beyond.not-Some) front asked in
+    let here = its.front in omega arith in record {
+      own = c.enter-held.ensures.own;
+      turn = c.enter-held.ensures.turn;
+      opens = c.enter-held.ensures.opens;
+      goes_on = goes_on;
+      within = up.within;
+      list = up.list;
+      counts = up.counts;
+      settled = up.settled;
+      footing = footing;
+      copy = its;
+      reached = reached;
+    }

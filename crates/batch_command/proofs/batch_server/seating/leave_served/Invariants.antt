@@ -1,0 +1,24 @@
+use Rattle.std.proofs.Common.{◌≡◌, ◌+◌, ◌*◌, ◌≤◌, ◌++◌, All, List, length, map, vec_capacity}
+use Rattle.batch_pool.specs.declared.workers.Served.{Served}
+use Rattle.batch_command.specs.Seating.{HaveLeft, worked_of}
+use Rattle.batch_command.specs.declared.batch_server.clerks.Clerk.{Clerk}
+use Rattle.book_gate.specs.Passes.{view}
+use Rattle.request_server.specs.Seats.{IsBack}
+use Rattle.ask_turns.specs.Turns.{IsReady}
+use Rattle.client_lines.specs.declared.reply_texts.replies.Reply.{Reply}
+use Rattle.batch_command.proofs.batch_server.seating.leave_served.Given as goal
+
+abbrev pub invariant-loop-back : goal.invariant-loop-back
+invariant-loop-back g l = record {
+  ready : IsReady l.shared.gate l.pass;
+  share : (view l.pass).share + length l.served.items * 400000 ≡ (view l.fn.pass).share + length l.fn.served.items * 400000;
+  back : All (λ one. IsBack l.shared one.worker.seat) l.served.items;
+  room : length l.served.items + length l.worked.items ≤ vec_capacity l.worked;
+  space : length l.served.items + length l.parts.items ≤ vec_capacity l.parts;
+  left : (front : List (Served (Clerk g.row.D.Denot g.row.B.Denot g.row.L.Denot) Reply)) × (l.fn.served.items ≡ front ++ l.served.items)
+      × (l.worked.items ≡ map (λ one. worked_of one.worker) front) × (l.parts.items ≡ map (λ one. one.answers) front)
+      × HaveLeft g.L.Rule l.shared (map (λ one. one.worker) front) (view l.pass);
+}
+
+abbrev pub decreases-loop-back : goal.decreases-loop-back
+decreases-loop-back g l = length l.served.items

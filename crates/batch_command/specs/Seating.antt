@@ -1,0 +1,42 @@
+-- *inside*: workers as they take their seats, and leave them.
+use Rattle.std.specs.Prelude.{◌≡◌, All, List, []}
+use Rattle.admission_rules.specs.declared.rules.Rule.{Ghosts as Rules}
+use Rattle.batch_pool.specs.Batches.{AreMatched}
+use Rattle.batch_command.specs.Clerks.{IsFresh}
+use Rattle.batch_command.specs.declared.batch_server.clerks.Clerk.{Clerk}
+use Rattle.batch_command.specs.declared.batch_server.members.Member.{Member}
+use Rattle.batch_command.specs.declared.batch_server.members.Worked.{Worked}
+use Rattle.book_gate.specs.Passes.{view}
+use Rattle.book_gate.specs.Views.{StartsWith}
+use Rattle.admission_rules.specs.Ruled.{stand}
+use Rattle.request_server.specs.Joins.{AreJoined}
+use Rattle.request_server.specs.ClientRuns.{told_own}
+use Rattle.request_server.specs.Seats.{found_at, IsDone}
+use Rattle.request_server.specs.Talks.{Talk}
+use Rattle.ask_turns.specs.Turns.{Sight}
+use Rattle.line_answers.specs.declared.shared.Shared.{Shared}
+use Rattle.rail_types.specs.declared.entries.Entry.{Entry}
+
+-- this worker sits at its seat, and its rules were told its entries of the history found
+pub record IsClerkOf {D Btw L : Type 0} (kind : Rules L) (shared : Shared D) (member : Member Btw L)
+    (clerk : Clerk D Btw L) : Type 0 where
+  pub fresh : IsFresh shared clerk
+  pub name : clerk.name ≡ member.name
+  pub client : clerk.seat.client.name ≡ member.name
+  pub rules : stand kind clerk.seat.rules.items
+      ≡ told_own (found_at shared.gate) member.name (stand kind member.rules.items)
+
+-- how many lines a worker answered, and its rules as they are left
+abbrev pub worked_of : {D Btw L : Type 0} → Clerk D Btw L → Worked L
+worked_of clerk =
+    record { name = clerk.name; lines = clerk.asked; rules = clerk.seat.rules }
+
+-- the passes of these workers were taken in by the one that knows v
+pub record HaveLeft {D Btw L : Type 0} (kind : Rules L) (shared : Shared D)
+    (clerks : List (Clerk D Btw L)) (v : Sight) : Type 0 where
+  pub seen : (history : List Entry) → All (λ list. StartsWith history list) v.joined
+      → All (λ clerk. StartsWith history (view clerk.seat.pass).seen) clerks
+  pub joined : (talks : List Talk)
+      → AreMatched (λ clerk talk. IsDone kind shared clerk.seat talk) clerks talks
+      → AreJoined shared v talks
+  pub still : All (λ clerk. (view clerk.seat.pass).turns ≡ []) clerks → v.turns ≡ []

@@ -1,0 +1,69 @@
+//! Room for what comes of a list, made before its first line is answered.
+
+ghost use Rattle.std.specs.Prelude.{◌≡◌, ◌≤◌, IfOk, length};
+ghost use Rattle.batch_command.specs.Clerks.{free_places};
+ghost use Rattle.batch_command.specs.Rooms.{IsRoomFor};
+ghost use Rattle.line_sessions.specs.declared.sessions.TheConstants.{MAX_LINES};
+
+use crate::batch_server::clerks::Clerk;
+use crate::batch_server::members::Worked;
+use crate::list_replies::empty_texts;
+use admission_rules::Rule;
+use batch_pool::{Room as Pool, room_for as pool_for};
+use client_lines::reply_texts::Reply;
+use no_memory::NoMemory;
+use outside_io::{Between, Disk};
+use rail_types::List;
+use std::alloc::Global;
+
+/// The places of the lines that are no worker's, and room: for the answers to the other lines, for
+/// the workers as they are left, for what each answered of the lines that are no worker's, for the
+/// texts of all replies, and for the batch itself.
+#[derive(Drop)]
+pub(crate) struct Room<'a, D: Disk + Send, B: Between + Send + Drop, L: Rule + Send + Drop> {
+    pub(crate) todo: Vec<u32>,
+    pub(crate) kept: Vec<(u32, Reply)>,
+    pub(crate) worked: Vec<Worked<L>>,
+    pub(crate) parts: Vec<List<(u32, Reply)>>,
+    pub(crate) texts: Vec<List<u8>>,
+    pub(crate) pool: Pool<Clerk<'a, D, B, L>>,
+}
+
+/// Room for so many workers and for the lines of these owners.
+pub(crate) fn room_for<'a, D: Disk + Send, B: Between + Send + Drop, L: Rule + Send + Drop>(
+    alloc: Global,
+    workers: usize,
+    owners: &[Option<u32>],
+) -> Result<Room<'a, D, B, L>, NoMemory>
+    requires { length owners.now ≤ MAX_LINES }
+    ensures { IfOk result (IsRoomFor workers owners.now) }
+{
+    let todo = free_places(alloc, owners)?;
+    let kept = Vec::with_capacity(alloc, owners.len())?;
+    let worked = Vec::with_capacity(alloc, workers)?;
+    let parts = Vec::with_capacity(alloc, workers)?;
+    let texts = empty_texts(alloc, owners.len())?;
+    let pool = pool_for(alloc, workers, todo.len())?;
+    Ok(Room {
+        todo,
+        kept,
+        worked,
+        parts,
+        texts,
+        pool,
+    })
+}
+
+// The places of the lines that are no worker's.
+fn free_places(alloc: Global, owners: &[Option<u32>]) -> Result<Vec<u32>, NoMemory>
+    requires { length owners.now ≤ MAX_LINES }
+    ensures { IfOk result (λ places. places.items ≡ free_places owners.now) }
+{
+    let mut places = Vec::new(alloc);
+    for at in 0..owners.len() {
+        if owners[at].is_none() {
+            places.push(at as u32)?;
+        }
+    }
+    Ok(places)
+}

@@ -1,5 +1,0 @@
-pub mod Batches
-pub mod Clerks
-pub mod Seating
-pub mod Rooms
-pub mod Outcomes

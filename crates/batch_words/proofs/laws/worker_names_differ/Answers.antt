@@ -1,5 +1,0 @@
-use Rattle.batch_words.proofs.Workers.{one_worker}
-use Rattle.batch_words.proofs.laws.worker_names_differ.Goals as goal
-
-pub returns : goal.returns
-returns c name one other few few' same = one_worker name one other same

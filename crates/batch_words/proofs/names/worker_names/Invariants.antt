@@ -1,6 +1,0 @@
-use Rattle.std.proofs.Common.{◌≡◌}
-use Rattle.batch_words.specs.Workers.{worker_names as names_of_workers}
-use Rattle.batch_words.proofs.names.worker_names.Given as goal
-
-abbrev pub invariant-loop-worker : goal.invariant-loop-worker
-invariant-loop-worker l = l.names ≡ names_of_workers l.name l.worker

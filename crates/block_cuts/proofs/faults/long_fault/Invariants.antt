@@ -1,6 +1,0 @@
-use Rattle.std.proofs.Common.{◌≡◌, drop}
-use Rattle.block_cuts.specs.Faults.{long_fault}
-use Rattle.block_cuts.proofs.faults.long_fault.Given as goal
-
-abbrev pub invariant-walks : goal.invariant-walks
-invariant-walks l = long_fault l.sights (drop l.walk-index l.walks) ≡ long_fault l.sights l.walks

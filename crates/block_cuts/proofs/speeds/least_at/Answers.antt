@@ -1,5 +1,0 @@
-use Rattle.block_cuts.proofs.TrackRows.{limits_of_row}
-use Rattle.block_cuts.proofs.speeds.least_at.Goals as goal
-
-pub returns : goal.returns
-returns c = let row = limits_of_row c.args.ranges.now c.args.stretch.now in cc

@@ -1,9 +1,0 @@
-//! Admission rules of the three kinds in one list, made as words ask for them.
-#![tactic(auto)]
-
-mod making;
-mod rules;
-mod senses;
-
-pub use making::build_rules;
-pub use rules::BuiltRule;

@@ -1,8 +1,0 @@
-//! The command `capacity`: how much of its time the trains of a stretch take (UIC Code 406).
-#![tactic(auto)]
-
-mod runs;
-mod texts;
-mod works;
-
-pub use runs::run_capacity;

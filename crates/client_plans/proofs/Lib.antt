@@ -1,4 +1,0 @@
-pub mod Loans
-pub mod Comings
-pub mod Stops
-pub mod Rounds

@@ -1,7 +1,0 @@
-use Rattle.std.proofs.Common.{◌≡◌, drop}
-use Rattle.client_rules.specs.Ruled.{first_no, stand}
-use Rattle.client_rules.proofs.denials.first_no.Given as goal
-
-abbrev pub invariant-loop-rule : goal.invariant-loop-rule
-invariant-loop-rule g l =
-    first_no (drop l.rule-index (stand g.L.Rule l.rules)) l.wish ≡ first_no (stand g.L.Rule l.rules) l.wish

@@ -1,4 +1,0 @@
-pub mod Clients
-pub mod Ruled
-pub mod Told
-pub mod Wishes

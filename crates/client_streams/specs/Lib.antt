@@ -1,3 +1,0 @@
-pub mod Clients
-pub mod Lending
-pub mod Refusing

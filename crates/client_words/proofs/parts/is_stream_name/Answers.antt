@@ -1,5 +1,0 @@
-use Rattle.option_words.proofs.Spellings.{lacks_cut}
-use Rattle.client_words.proofs.parts.is_stream_name.Goals as goal
-
-pub returns-in-Some : goal.returns-in-Some
-returns-in-Some c = (λ is. cc, λ named. absurd (lacks_cut 58 _ _ _ named.no_colon c.in-Some.ensures.found.parts))

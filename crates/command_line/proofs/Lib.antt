@@ -1,0 +1,10 @@
+pub mod Spellings
+pub mod Under
+pub mod NamingBatches
+pub mod Workers
+pub mod Apart
+pub mod NamingClients
+pub mod FirstOf
+pub mod NamingProofs
+pub mod Colons
+pub mod NamingRules

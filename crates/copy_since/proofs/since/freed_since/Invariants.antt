@@ -1,5 +1,0 @@
-use Rattle.copy_since.specs.Since.{AreFreedBelow}
-use Rattle.copy_since.proofs.since.freed_since.Given as goal
-
-abbrev pub invariant-loop-by : goal.invariant-loop-by
-invariant-loop-by l = AreFreedBelow l.history.timetable l.history.entries l.front l.by l.all.items

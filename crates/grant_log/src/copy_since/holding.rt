@@ -1,0 +1,25 @@
+//! Claims that come to those that are held.
+
+ghost use Rattle.std.specs.Prelude.{◌≡◌, All, AllPairs, length};
+ghost use Rattle.rail_types.specs.Occupation.{Clash};
+ghost use Rattle.occupation_book.specs.Held.{held, IsFree};
+ghost use Rattle.grant_log.specs.Following.{Gains};
+ghost use Rattle.grant_log.specs.Rooms.{HasRoomFor, MayBeHeld};
+
+use occupation_book::Occupations;
+use rail_types::{Claim, Owner};
+
+/// Holds these claims too. There must be room for them; they must be free, and no two of
+/// them clash. It takes no memory.
+pub fn hold_all(book: &mut Occupations, claims: &[(Claim, Owner)])
+    requires each { All (MayBeHeld (length book.old)) claims.now }
+    requires free { All (λ one. IsFree (held book.old) one.0) claims.now }
+    requires apart { AllPairs (λ one other. ¬ Clash one.0 other.0) claims.now }
+    requires room { HasRoomFor book.old claims.now }
+    ensures gained { Gains (held book.old) claims.now (held book.new) }
+    ensures zones { length book.new ≡ length book.old }
+{
+    for one in claims {
+        book.insert(one.0, one.1);
+    }
+}

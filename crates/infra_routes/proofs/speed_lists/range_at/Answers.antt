@@ -1,9 +1,0 @@
-use Rattle.std.proofs.Common.{subst, map}
-use Rattle.serde_json.specs.View.{view}
-use Rattle.json_fields.specs.Places.{FilePlace}
-use Rattle.infra_fields.specs.Fields.{Gives}
-use Rattle.infra_routes.specs.Speeds.{range_in}
-use Rattle.infra_routes.proofs.speed_lists.range_at.Goals as goal
-
-pub returns-clause-read : goal.returns-clause-read
-returns-clause-read c = subst (λ (p : FilePlace). Gives (λ found. found) c.range_in.result (range_in p c.args.tracks.now (view c.args.value.now))) c.item-at.ensures c.range_in.ensures.read

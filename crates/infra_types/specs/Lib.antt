@@ -1,2 +1,0 @@
-pub mod Infras
-pub mod Ids

@@ -1,3 +1,0 @@
-pub mod Keepings
-pub mod Commits
-pub mod Entering

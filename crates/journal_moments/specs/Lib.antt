@@ -1,3 +1,0 @@
-pub mod Timed
-pub mod Keeping
-pub mod Answers

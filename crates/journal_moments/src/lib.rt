@@ -1,7 +1,0 @@
-//! A journal that keeps, for each entry settled since it was made, the moment of its disk's clock
-//! from which on a crash leaves that entry.
-#![tactic(auto)]
-
-mod timed;
-
-pub use timed::TimedJournal;

@@ -1,7 +1,0 @@
-use Rattle.journal_reading.proofs.Once.{reads-once}
-use Rattle.journal_reading.proofs.laws.one_history.Goals as goal
-
-pub returns : goal.returns
-returns c = record {
-  once = λ header file a b short_a short_b one other. reads-once c.one_form.ensures.u32 header file a b short_a short_b one other;
-}

@@ -1,3 +1,0 @@
-pub mod Prefixes
-pub mod Counts
-pub mod Spelled

@@ -1,4 +1,0 @@
-pub mod Gathered
-pub mod Fields
-pub mod Numbered
-pub mod Numbering

@@ -1,8 +1,0 @@
-use Rattle.client_lines.proofs.Meanings.{NameLaws}
-use Rattle.list_lines.proofs.Numbering.{numbers_are}
-use Rattle.list_lines.proofs.laws.numbers_are_one.Goals as goal
-
-pub returns : goal.returns
-returns c =
-    let laws : NameLaws = record { spelled = c.names_are_spelled_once.ensures.spelled; read = c.names_are_spelled_once.ensures.read } in
-    λ known lines numbers others one other. numbers_are laws known lines numbers others one other

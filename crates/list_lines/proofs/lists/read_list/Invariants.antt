@@ -1,6 +1,0 @@
-use Rattle.list_lines.proofs.Gathered.{IsGathered}
-use Rattle.list_lines.proofs.lists.read_list.Given as goal
-
-abbrev pub invariant-loop-before : goal.invariant-loop-before
-invariant-loop-before g l =
-    IsGathered g.S.Source l.fn.source l.source l.reader.pending l.lines.items l._before

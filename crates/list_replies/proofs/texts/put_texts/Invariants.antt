@@ -1,9 +1,0 @@
-use Rattle.std.proofs.Common.{◌≡◌, drop, length}
-use Rattle.list_replies.specs.Tables.{filled, texts_by}
-use Rattle.list_replies.proofs.texts.put_texts.Given as goal
-
-abbrev pub invariant-loop-at : goal.invariant-loop-at
-invariant-loop-at l = record {
-  long : length l.texts ≡ length l.fn.texts;
-  rest : filled l.texts (texts_by (drop l.at-index l.answers)) ≡ filled l.fn.texts (texts_by l.answers);
-}

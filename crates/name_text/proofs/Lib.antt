@@ -1,2 +1,0 @@
-pub mod Unescaping
-pub mod Spelled

@@ -1,0 +1,16 @@
+//! Laws of plans, each on a function that calls other laws alone.
+
+ghost use Rattle.path_labels.specs.Searched.{PlansMayBeSearched};
+
+use stair_pieces::pieces_are_claims;
+use tail_states::{places_may_be_cut, sound_networks_are_asked};
+
+/// The plan of a request within its limits, in a network without a flaw, may be searched in each
+/// book of as many zones as the network has.
+pub fn plans_may_be_searched()
+    ensures { PlansMayBeSearched }
+{
+    sound_networks_are_asked();
+    places_may_be_cut();
+    pieces_are_claims();
+}

@@ -1,0 +1,82 @@
+ghost use Rattle.std.specs.Prelude.{◌≡◌, ◌∷◌, ◌++◌, [], None, IfOk, IsTrue, OnOk, length};
+ghost use Rattle.rail_types.specs.Limits.{IsEntryWithinLimits};
+ghost use Rattle.occupation_book.specs.Held.{held};
+ghost use Rattle.grant_log.specs.Following.{AreLive};
+ghost use Rattle.grant_log.specs.Legal.{IsInRange, Joins};
+ghost use Rattle.grant_log.specs.Live.{claims_of as claims_of_deed};
+ghost use Rattle.grant_log.specs.Verdict.{breaks};
+
+use crate::journal_reading::is_on;
+use grant_log::copy_since::bring_up;
+use grant_log::{History, Verdict, claims_are_on_the_network};
+use no_memory::NoMemory;
+use occupation_book::Occupations;
+use rail_types::{Claim, Entry};
+use std::alloc::Global;
+
+// The claims of an entry's deed, where its path breaks no rule.
+fn claims_of(alloc: Global, history: &History, entry: &Entry) -> Result<Vec<Claim>, NoMemory>
+    requires range { IsInRange history.now.timetable entry.now }
+    ensures { IfOk result (λ claims. breaks history.now.timetable entry.now.deed ≡ None →
+        claims.items ≡ claims_of_deed history.now.timetable entry.now.deed) }
+{
+    if history.breaks(&entry.deed).is_some() {
+        return Ok(Vec::new(alloc));
+    }
+    history.claims_of(&entry.deed)
+}
+
+// Whether an entry joins a history, whose live claims the book holds.
+fn joins(
+    alloc: Global,
+    history: &History,
+    book: &Occupations,
+    entry: &Entry,
+) -> Result<bool, NoMemory>
+    requires within { IsEntryWithinLimits entry.now }
+    requires zones { length book.now ≡ history.now.timetable.net.zones }
+    requires live { AreLive history.now.timetable (held book.now) history.now.entries }
+    ensures yes { IfOk result (λ yes. IsTrue yes →
+        Joins history.now.timetable history.now.entries entry.now) }
+    ensures stale { IfOk result (λ yes. Joins history.now.timetable history.now.entries entry.now →
+        IsTrue yes) }
+{
+    if !is_on(history.net(), &entry.deed) {
+        return Ok(false);
+    }
+    let claims = claims_of(alloc, history, entry)?;
+    let verdict = history.judge_by(book, entry, &claims)?;
+    Ok(matches!(verdict, Verdict::Fresh))
+}
+
+// Puts an entry behind a history, where it joins it, and lets the live claims
+// follow. Answers whether it does.
+pub(crate) fn join(
+    alloc: Global,
+    history: &mut History,
+    book: &mut Occupations,
+    entry: Entry,
+) -> Result<bool, NoMemory>
+    requires within { IsEntryWithinLimits entry }
+    requires zones { length book.old ≡ history.old.timetable.net.zones }
+    requires live { AreLive history.old.timetable (held book.old) history.old.entries }
+    ensures timetable { history.new.timetable ≡ history.old.timetable }
+    ensures zones { OnOk result (length book.new ≡ history.old.timetable.net.zones) }
+    ensures live { OnOk result
+        (AreLive history.old.timetable (held book.new) history.new.entries) }
+    ensures joined { IfOk result (λ yes. IsTrue yes →
+        Joins history.old.timetable history.old.entries entry
+        × (history.new.entries ≡ history.old.entries ++ entry ∷ [])) }
+    ensures stale { IfOk result (λ yes. (¬ IsTrue yes) →
+        (¬ Joins history.old.timetable history.old.entries entry)
+        × (history.new.entries ≡ history.old.entries)) }
+{
+    if !joins(alloc, history, book, &entry)? {
+        return Ok(false);
+    }
+    let front = history.front();
+    history.reserve()?;
+    history.push(entry);
+    bring_up(alloc, history, front, book)?;
+    Ok(true)
+}

@@ -1,2 +1,0 @@
-pub mod FirstOf
-pub mod Naming

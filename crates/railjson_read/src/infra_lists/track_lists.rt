@@ -1,0 +1,187 @@
+//! Tracks, detectors and buffer stops of a file.
+
+ghost use Rattle.rail_types.specs.InfraIds.{id_of_placed, id_of_track};
+ghost use Rattle.std.specs.Prelude.{◌≡◌, ◌<◌, ◌≤◌, [], codes, length, map, All, IfOk, OnOk};
+ghost use Rattle.serde_json.specs.View.{view};
+ghost use Rattle.rail_types.specs.Named.{IsId};
+ghost use Rattle.rail_types.specs.declared.limits.TheConstants.{MAX_OBJECTS};
+ghost use Rattle.infra_fields.specs.Fields.{Gives, GivesNext, read_each};
+ghost use Rattle.rail_types.specs.Infras.{IsTrack, IsPlaced};
+ghost use Rattle.railjson_read.specs.Objects.{all_placed_in, tracks_in, track_at, track_in};
+ghost use Rattle.railjson_read.specs.Objects.{placed_at, placed_in, length_at};
+
+use infra_fields::{InfraFault, What, limit, list, metres, new_id, number, object};
+use json_fields::Place;
+use rail_types::id_lists::Listed;
+use rail_types::infra_types::{Placed, Track};
+use rail_types::{MAX_TRACK_LENGTH_M, Name};
+use serde_json::Value;
+use std::alloc::Global;
+
+/// The tracks of a file.
+#[tactic(auto, unfolding(crate::specs::Objects::tracks_in))]
+pub fn tracks_of<'a>(alloc: Global, file: &'a Value) -> Result<Listed<'a, Track>, InfraFault>
+    ensures read { Gives (λ tracks. tracks) result (tracks_in (view file.now)) }
+    ensures few { IfOk result (λ tracks. length tracks ≤ MAX_OBJECTS) }
+    ensures within { IfOk result (λ tracks. All IsTrack tracks) }
+    ensures named { IfOk result (λ tracks. All (λ track. IsId track.id) tracks) }
+{
+    let place = Place::of_file();
+    let items = list(alloc, &place, file, "track_sections")?;
+    let tracks = read_tracks(alloc, items)?;
+    Ok(tracks)
+}
+
+/// The tracks of a list.
+fn read_tracks<'a>(alloc: Global, list: &'a [Value]) -> Result<Listed<'a, Track>, InfraFault>
+    requires { length list.now ≤ MAX_OBJECTS }
+    ensures read { Gives (λ tracks. tracks) result
+        (read_each id_of_track track_at [] (map view list.now)) }
+    ensures few { IfOk result (λ tracks. length tracks ≤ MAX_OBJECTS) }
+    ensures within { IfOk result (λ tracks. All IsTrack tracks) }
+    ensures named { IfOk result (λ tracks. All (λ track. IsId track.id) tracks) }
+{
+    let mut tracks = Listed::new(alloc);
+    'objects: for value in list {
+        read_track(alloc, tracks.len() as u32, value, &mut tracks)?;
+    }
+    Ok(tracks)
+}
+
+fn read_track<'a>(
+    alloc: Global,
+    index: u32,
+    value: &'a Value,
+    tracks: &mut Listed<'a, Track>,
+) -> Result<(), InfraFault>
+    requires room { length tracks.old < MAX_OBJECTS }
+    requires within { All IsTrack tracks.old }
+    requires named { All (λ track. IsId track.id) tracks.old }
+    ensures read { GivesNext tracks.old tracks.new result
+        (track_at index (map id_of_track tracks.old) (view value.now)) }
+    ensures within { OnOk result (All IsTrack tracks.new) }
+    ensures named { OnOk result (All (λ track. IsId track.id) tracks.new) }
+{
+    let place = Place::of_element("track_sections", index);
+    push_track(alloc, &place, value, tracks)
+}
+
+fn push_track<'a>(
+    alloc: Global,
+    place: &Place,
+    value: &'a Value,
+    tracks: &mut Listed<'a, Track>,
+) -> Result<(), InfraFault>
+    requires room { length tracks.old < MAX_OBJECTS }
+    requires within { All IsTrack tracks.old }
+    requires named { All (λ track. IsId track.id) tracks.old }
+    ensures read { GivesNext tracks.old tracks.new result
+        (track_in place.now (map id_of_track tracks.old) (view value.now)) }
+    ensures within { OnOk result (All IsTrack tracks.new) }
+    ensures named { OnOk result (All (λ track. IsId track.id) tracks.new) }
+{
+    object(alloc, place, value)?;
+    let id = new_id(alloc, place, value, tracks)?;
+    let length = length_m(alloc, place, value)?;
+    let track = Track {
+        id: Name::from_bytes(alloc, id.as_bytes())?,
+        length,
+    };
+    tracks.push(track, id)?;
+    Ok(())
+}
+
+fn length_m(alloc: Global, place: &Place, value: &Value) -> Result<u32, InfraFault>
+    ensures length { Gives (λ length. length) result (length_at place.now (view value.now)) }
+    ensures within { IfOk result (λ length. (1 ≤ length) × (length ≤ 1000000)) }
+{
+    let metres = metres(alloc, place, value, "length")?;
+    let length = limit(metres, 1, MAX_TRACK_LENGTH_M, What::Length)?;
+    Ok(length)
+}
+
+/// The detectors or the buffer stops of a file, by the name of their list.
+#[tactic(auto, unfolding(crate::specs::Objects::all_placed_in))]
+pub fn placed_of<'a>(
+    alloc: Global,
+    file: &'a Value,
+    name: &str,
+    tracks: &Listed<Track>,
+) -> Result<Listed<'a, Placed>, InfraFault>
+    ensures read { Gives (λ found. found) result
+        (all_placed_in name.now tracks.now (view file.now)) }
+    ensures few { IfOk result (λ found. length found ≤ MAX_OBJECTS) }
+    ensures within { IfOk result (λ found. All (IsPlaced (length tracks.now)) found) }
+{
+    let place = Place::of_file();
+    let items = list(alloc, &place, file, name)?;
+    let found = read_all_placed(alloc, name, items, tracks)?;
+    Ok(found)
+}
+
+/// The detectors or the buffer stops of a list.
+fn read_all_placed<'a>(
+    alloc: Global,
+    name: &str,
+    list: &'a [Value],
+    tracks: &Listed<Track>,
+) -> Result<Listed<'a, Placed>, InfraFault>
+    requires { length list.now ≤ MAX_OBJECTS }
+    ensures read { Gives (λ found. found) result
+        (read_each id_of_placed (placed_at name.now (map id_of_track tracks.now)) []
+        (map view list.now)) }
+    ensures few { IfOk result (λ found. length found ≤ MAX_OBJECTS) }
+    ensures within { IfOk result (λ found. All (IsPlaced (length tracks.now)) found) }
+{
+    let mut found = Listed::new(alloc);
+    'objects: for value in list {
+        read_placed(alloc, found.len() as u32, name, value, tracks, &mut found)?;
+    }
+    Ok(found)
+}
+
+fn read_placed<'a>(
+    alloc: Global,
+    index: u32,
+    name: &str,
+    value: &'a Value,
+    tracks: &Listed<Track>,
+    found: &mut Listed<'a, Placed>,
+) -> Result<(), InfraFault>
+    requires room { length found.old < MAX_OBJECTS }
+    requires within { All (IsPlaced (length tracks.now)) found.old }
+    ensures read { GivesNext found.old found.new result
+        (placed_at name.now (map id_of_track tracks.now) index (map id_of_placed found.old)
+        (view value.now)) }
+    ensures within { OnOk result (All (IsPlaced (length tracks.now)) found.new) }
+{
+    let place = Place::of_element(name, index);
+    push_placed(alloc, &place, value, tracks, found)
+}
+
+fn push_placed<'a>(
+    alloc: Global,
+    place: &Place,
+    value: &'a Value,
+    tracks: &Listed<Track>,
+    found: &mut Listed<'a, Placed>,
+) -> Result<(), InfraFault>
+    requires room { length found.old < MAX_OBJECTS }
+    requires within { All (IsPlaced (length tracks.now)) found.old }
+    ensures read { GivesNext found.old found.new result
+        (placed_in place.now (map id_of_track tracks.now) (map id_of_placed found.old)
+        (view value.now)) }
+    ensures within { OnOk result (All (IsPlaced (length tracks.now)) found.new) }
+{
+    object(alloc, place, value)?;
+    let id = new_id(alloc, place, value, found)?;
+    let track = number(alloc, place, value, "track", tracks)?;
+    let position = metres(alloc, place, value, "position")?;
+    let placed = Placed {
+        id: Name::from_bytes(alloc, id.as_bytes())?,
+        track,
+        position,
+    };
+    found.push(placed, id)?;
+    Ok(())
+}

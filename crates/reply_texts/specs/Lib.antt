@@ -1,4 +1,0 @@
-pub mod Fields
-pub mod Replies
-pub mod Rooms
-pub mod Parts

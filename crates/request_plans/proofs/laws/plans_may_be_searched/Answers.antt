@@ -1,7 +1,0 @@
-use Rattle.request_plans.proofs.Searching.{plans_may_be_searched}
-use Rattle.request_plans.proofs.laws.plans_may_be_searched.Goals as goal
-
-pub returns : goal.returns
-returns c =
-    let claims = c.pieces_are_claims.ensures in
-    plans_may_be_searched c.sound_networks_are_asked.ensures c.places_may_be_cut.ensures claims.pieces claims.standing claims.places

@@ -1,0 +1,13 @@
+//! Clients at one gate: each has a seat, where its lines are answered, and what all
+//! clients are told is one history.
+
+mod gates;
+mod newcomers;
+mod seats;
+mod tellings;
+
+pub use gates::{close_gate, leave_seat, open_gate, take_seat};
+pub use newcomers::Newcomer;
+pub use seats::Seat;
+#[doc(hidden)]
+pub use tellings::Telling;

@@ -1,0 +1,96 @@
+//! The work of `serve`: reads the three files, and then serves.
+
+ghost use Rattle.request_server.specs.PlannedClients.{AreClients};
+ghost use Rattle.command_reports.specs.Scenes.{scene};
+ghost use Rattle.request_server.specs.Works.{ReadsBase, ReadsNetwork, ReadsTrains};
+ghost use Rattle.request_server.specs.Files.{IsBaseRead, IsNetworkRead};
+
+use crate::serve_command::journals::serve_files;
+use crate::serve_reports::Ends;
+use crate::served_journals::Files;
+use admission_rules::Rule;
+use admission_rules::client_rules::ClientRules;
+use base_file::bases_make_timetables;
+use command_files::{BaseFile, NetworkFile, read_base_file, read_network_file, read_train_file};
+use command_line::client_words::ClientWord;
+use command_line::proof_words::ProofWord;
+use command_reports::Refusal;
+use outside_io::Outside;
+use std::alloc::AllocGlobal;
+use std::sync::Wait;
+use std::thread::Threads;
+
+/// The work of `serve`.
+pub(crate) fn serve<R: AllocGlobal + Threads + Wait + Sync, O: Outside, L: Rule + Send>(
+    rt: &R,
+    network: &str,
+    base: &str,
+    trains: &str,
+    journal: &str,
+    clients: &[ClientWord],
+    proofs: &[ProofWord],
+    rules: Vec<ClientRules<L>>,
+    outside: &mut O,
+) -> Result<Ends, Refusal>
+    requires clients { AreClients clients.now proofs.now }
+    ensures works { ReadsNetwork O.Src.Source O.Snk.Sink O.Dsk.Disk L.Rule network.now base.now
+        trains.now journal.now clients.now proofs.now rules.items (scene O.Outside outside.old)
+        (scene O.Outside outside.new) result }
+{
+    let network = read_network_file(rt.alloc(), network, outside)?;
+    serve_network(
+        rt, network, base, trains, journal, clients, proofs, rules, outside,
+    )
+}
+
+// The same, once the network is read.
+fn serve_network<R: AllocGlobal + Threads + Wait + Sync, O: Outside, L: Rule + Send>(
+    rt: &R,
+    network: NetworkFile,
+    base: &str,
+    trains: &str,
+    journal: &str,
+    clients: &[ClientWord],
+    proofs: &[ProofWord],
+    rules: Vec<ClientRules<L>>,
+    outside: &mut O,
+) -> Result<Ends, Refusal>
+    requires clients { AreClients clients.now proofs.now }
+    requires network { IsNetworkRead network }
+    ensures works { ReadsBase O.Src.Source O.Snk.Sink O.Dsk.Disk L.Rule base.now trains.now
+        journal.now clients.now proofs.now rules.items network (scene O.Outside outside.old)
+        (scene O.Outside outside.new) result }
+{
+    let base = read_base_file(rt.alloc(), base, network.named.network.zones, outside)?;
+    serve_base(
+        rt, network, base, trains, journal, clients, proofs, rules, outside,
+    )
+}
+
+// The same, once the base timetable is read.
+fn serve_base<R: AllocGlobal + Threads + Wait + Sync, O: Outside, L: Rule + Send>(
+    rt: &R,
+    network: NetworkFile,
+    base: BaseFile,
+    trains: &str,
+    journal: &str,
+    clients: &[ClientWord],
+    proofs: &[ProofWord],
+    rules: Vec<ClientRules<L>>,
+    outside: &mut O,
+) -> Result<Ends, Refusal>
+    requires clients { AreClients clients.now proofs.now }
+    requires base { IsBaseRead network base }
+    ensures works { ReadsTrains O.Src.Source O.Snk.Sink O.Dsk.Disk L.Rule trains.now journal.now
+        clients.now proofs.now rules.items network base (scene O.Outside outside.old)
+        (scene O.Outside outside.new) result }
+{
+    bases_make_timetables();
+    let trains = read_train_file(rt.alloc(), trains, outside)?;
+    let files = Files {
+        network,
+        base,
+        trains,
+    };
+    serve_files(rt, files, journal, clients, proofs, rules, outside)
+}

@@ -1,2 +1,0 @@
-pub mod Colons
-pub mod Naming

@@ -1,4 +1,0 @@
-pub mod Runs
-pub mod Works
-pub mod Journals
-pub mod Serving

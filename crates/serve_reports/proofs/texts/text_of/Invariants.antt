@@ -1,6 +1,0 @@
-use Rattle.std.proofs.Common.{◌≡◌, take}
-use Rattle.serve_reports.specs.Ends.{report_text}
-use Rattle.serve_reports.proofs.texts.text_of.Given as goal
-
-abbrev pub invariant-loop-session : goal.invariant-loop-session
-invariant-loop-session g l = l.text.held ≡ report_text g.L.Rule (take l.session-index l.sessions)

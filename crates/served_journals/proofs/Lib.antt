@@ -1,5 +1,0 @@
-pub mod Names
-pub mod Remains
-pub mod Rounds
-pub mod Halts
-pub mod Statuses

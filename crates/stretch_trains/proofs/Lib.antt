@@ -1,4 +1,0 @@
-pub mod Owners
-pub mod Grouping
-pub mod Sorting
-pub mod Selected

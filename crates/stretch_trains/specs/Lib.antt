@@ -1,2 +1,0 @@
-pub mod Trains
-pub mod Inside

@@ -1,9 +1,0 @@
-//! The trains that run on a stretch in a history: those of the base timetable and of the grants
-//! that stand.
-#![tactic(auto)]
-
-mod groups;
-mod orders;
-mod selecting;
-
-pub use selecting::trains_on;

@@ -1,7 +1,0 @@
-use Rattle.std.proofs.Common.{◌≡◌, take}
-use Rattle.worker_numbers.specs.Owners.{owners_of}
-use Rattle.worker_numbers.proofs.owners.owners_of.Given as goal
-
-abbrev pub invariant-loop-number : goal.invariant-loop-number
-invariant-loop-number l =
-    l.owners.items ≡ owners_of l.history.entries l.workers (take l.number-index l.numbers)

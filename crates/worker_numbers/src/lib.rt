@@ -1,9 +1,0 @@
-//! The numbers by which the lines of a list ask, beside a history in which some of them stand
-//! already: the worker whose each is, and the workers that are not there.
-#![tactic(auto)]
-
-mod needed;
-mod owners;
-
-pub use needed::needed_worker;
-pub use owners::owners_of;
