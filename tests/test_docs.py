@@ -1,13 +1,14 @@
 #!/usr/bin/env python3
 """Holds the pages of the repository to what is there.
 
-Each name that docs/DEFINITIONS.md and docs/MAP.md cite stands in the crates that they name. The
-order of docs/MAP.md is that of crates.txt, in which a crate names only those above it. Links lead
-to files and headings that are there. What fenced blocks run exists and takes these options, and
-blocks behind a line `<!-- run -->` are run in a copy of the repository, in the order of their page:
-in one with lines `$ COMMAND` the lines behind each are what it must print, `...` standing for any
-lines; without such lines each command must succeed. `<!-- run, status 7 -->` is one whose last
-command must end so.
+Each name that docs/DEFINITIONS.md and docs/MAP.md cite stands in the crates that they name: an item
+of a list names those that it cites by themselves or as `crate::module`, and those of its heading.
+The order of docs/MAP.md is that of crates.txt, in which a crate names only those above it, and none
+stands on one of a higher floor. Links lead to files and headings that are there. What fenced blocks
+run exists and takes these options, and blocks behind a line `<!-- run -->` are run in a copy of the
+repository, in the order of their page: in one with lines `$ COMMAND` the lines behind each are what
+it must print, `...` standing for any lines; without such lines each command must succeed.
+`<!-- run, status 7 -->` is one whose last command must end so.
 
     tests/test_docs.py --only links blocks
 """
@@ -44,7 +45,10 @@ BLOCK_S = 300.0
 CODE = re.compile(r"(?<!`)`([^`\n]+)`(?!`)")
 FENCE = re.compile(r"^```[^\n]*\n.*?^```[^\n]*$", re.M | re.S)
 LINK = re.compile(r"\]\(([^()\s]+)\)")
-BULLET = re.compile(r"^- `(\w+)`:.*$", re.M)
+#: A bullet of docs/MAP.md: the crate that it is about.
+BULLET = re.compile(r"- `(\w+)`:")
+#: A step of a walk in docs/MAP.md.
+STEP = re.compile(r"\d+\. ")
 HEADING = re.compile(r"^#+ +(.+?) *$", re.M)
 NAME = re.compile(r"[A-Za-z_]\w*(?:::[A-Za-z_]\w*)*\*?")
 #: What defines a name in a source of Rattle and in one of its specs.
@@ -58,6 +62,27 @@ def pages(root: Path = ROOT) -> list[Path]:
     found = [root / "README.md", root / "CONTRIBUTING.md", *sorted(root.glob("docs/*.md")),
              *sorted(root.glob("*/README.md"))]
     return [path for path in found if path.is_file()]
+
+
+def items(text: str) -> Iterator[tuple[int, str]]:
+    """Each line that is not indented, with the indented ones behind it, and its number.
+
+    Fenced blocks are left out.
+    """
+    begun, rows, is_fenced = 0, [], False
+    for at, row in enumerate(text.splitlines(), 1):
+        if row.startswith("```"):
+            is_fenced = not is_fenced
+        elif is_fenced:
+            continue
+        elif row.startswith(" ") and rows:
+            rows.append(row)
+        else:
+            if rows:
+                yield begun, "\n".join(rows)
+            begun, rows = at, [row]
+    if rows:
+        yield begun, "\n".join(rows)
 
 
 @dataclass
@@ -90,6 +115,11 @@ class Crates:
     def read(self) -> dict[str, tuple[str, str]]:
         return {}
 
+    def named(self, text: str) -> list[str]:
+        """The crates that a text cites, by themselves or before `::`."""
+        fronts = (cited.partition("::")[0] for cited in CODE.findall(text))
+        return [front for front in fronts if front in self.names]
+
     def has(self, crate: str, name: str) -> bool:
         """Whether a crate defines a name, or gives one on; `put_*` is any that begins so."""
         sources, specs = self.texts(crate)
@@ -104,6 +134,9 @@ class Crates:
         """What is wrong with a citation beside these crates; None where it stands in one."""
         if cited in self.plain or (ROOT / cited).exists():
             return None
+        front, _, behind = cited.partition("::")
+        if behind and front in self.names:
+            return None if self.has(front, behind) else f"`{cited}` is no name of {front}"
         if "/" in cited or cited in ("stdin", "args", "stdout"):
             if any((self.repository.folder(crate) / cited).exists() for crate in crates):
                 return None
@@ -116,46 +149,68 @@ class Crates:
 
 
 def map_names() -> list[str]:
-    """Each citation of docs/MAP.md stands in the crate of its row, or in one that the row names."""
+    """Each citation of docs/MAP.md stands in a crate that its bullet, or its step, names."""
     crates, faults = Crates(Repository(ROOT)), []
-    for row in BULLET.finditer((ROOT / "docs/MAP.md").read_text()):
-        cited = CODE.findall(row[0])
-        beside = [name for name in cited if name in crates.names]
-        faults += [f"docs/MAP.md: {row[1]}: {fault}" for fault in
-                   (crates.fault(name, beside) for name in cited) if fault]
+    for at, item in items((ROOT / "docs/MAP.md").read_text()):
+        if BULLET.match(item) or STEP.match(item):
+            beside = crates.named(item)
+            faults += [f"docs/MAP.md:{at}: {fault}" for fault in
+                       (crates.fault(name, beside) for name in CODE.findall(item)) if fault]
+    return faults
+
+
+def map_floors() -> list[str]:
+    """The first block of docs/MAP.md has each crate once, and those that it names not above it."""
+    libraries = Repository(ROOT).libraries
+    block = FENCE.search((ROOT / "docs/MAP.md").read_text())
+    rows = block[0].splitlines() if block else []
+    floors = [[name for name in re.findall(r"\w+", row) if name in libraries] for row in rows]
+    order = [name for floor in floors for name in floor]
+    height = {name: at for at, floor in enumerate(floors) for name in floor}
+    faults = [f"docs/MAP.md: the floors have {name} {order.count(name)} times"
+              for name in libraries if order.count(name) != 1]
+    faults += [f"docs/MAP.md: {name} stands on {it}, which is on a higher floor"
+               for name in height for it in libraries[name]
+               if it in height and height[it] < height[name]]
     return faults
 
 
 def map_order() -> list[str]:
-    """docs/MAP.md has the order of crates.txt, and each crate names only those above it."""
-    libraries = Repository(ROOT).libraries
-    order = [row[1] for row in BULLET.finditer((ROOT / "docs/MAP.md").read_text())]
+    """docs/MAP.md has the order of crates.txt, and each crate names only those above it.
+
+    It tells how many crates the longest chain has.
+    """
+    libraries, page = Repository(ROOT).libraries, (ROOT / "docs/MAP.md").read_text()
+    rows = (BULLET.match(item) for _, item in items(page))
+    order = [row[1] for row in rows if row]
     faults = []
     if order != [*libraries]:
         pairs = zip(order, libraries)
         first = next(((a, b) for a, b in pairs if a != b), ("its end", "another length"))
         faults.append(f"docs/MAP.md has {first[0]} where crates.txt has {first[1]}")
-    above: set[str] = set()
+    #: The longest chain from each crate down.
+    chains: dict[str, int] = {}
     for crate, named in libraries.items():
         faults += [f"crates.txt: {crate} names {it}, which stands below it"
-                   for it in named if it in libraries and it not in above]
-        above.add(crate)
+                   for it in named if it in libraries and it not in chains]
+        chains[crate] = 1 + max((chains[it] for it in named if it in chains), default=0)
+    if f"the longest chain has {max(chains.values())} crates" not in " ".join(page.split()):
+        faults.append(f"docs/MAP.md: the longest chain has {max(chains.values())} crates")
     return faults
 
 
 def definition_names() -> list[str]:
-    """Each citation of docs/DEFINITIONS.md stands in a crate of its heading or of its row."""
+    """Each citation of docs/DEFINITIONS.md stands in a crate of its heading or of its item."""
     crates, faults = Crates(Repository(ROOT)), []
     heading: list[str] = []
-    for at, row in enumerate((ROOT / "docs/DEFINITIONS.md").read_text().splitlines(), 1):
-        cited = CODE.findall(row)
-        named = [name for name in cited if name in crates.names]
-        if row.startswith("#"):
+    for at, item in items((ROOT / "docs/DEFINITIONS.md").read_text()):
+        named = crates.named(item)
+        if item.startswith("#"):
             heading = named
         beside = [*heading, *named]
         if beside:
             faults += [f"docs/DEFINITIONS.md:{at}: {fault}" for fault in
-                       (crates.fault(name, beside) for name in cited) if fault]
+                       (crates.fault(name, beside) for name in CODE.findall(item)) if fault]
     return faults
 
 
@@ -389,6 +444,7 @@ def main() -> int:
     cases: list[tuple[str, Callable[[], list[str]]]] = [
         ("names of the map", map_names),
         ("order of the map", map_order),
+        ("floors of the map", map_floors),
         ("names of the definitions", definition_names),
         ("links", links),
         ("size of the readme", size_of_readme),
