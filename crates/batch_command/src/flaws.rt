@@ -2,7 +2,9 @@
 
 ghost use Rattle.std.specs.Prelude.{◌≤◌, All, IfErr, IfOk, length};
 ghost use Rattle.batch_command.specs.Asked.{HasFlaw, IsAsked};
-ghost use Rattle.command_line.specs.declared.batch_words.clients.TheConstants.{MAX_BATCH_NAME_BYTES};
+ghost use Rattle.command_line.specs.declared.batch_words.clients.TheConstants.{
+  MAX_BATCH_NAME_BYTES,
+};
 ghost use Rattle.command_line.specs.declared.batch_words.clients.TheConstants.{MAX_WORKERS};
 ghost use Rattle.client_lines.specs.declared.lines.TheConstants.{MAX_LINE_BYTES};
 ghost use Rattle.line_sessions.specs.declared.sessions.TheConstants.{MAX_LINES};

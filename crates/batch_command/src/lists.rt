@@ -3,7 +3,9 @@
 ghost use Rattle.std.specs.Prelude.{◌≡◌, ◌≤◌, All, IfOk, IfSome, length, option_map};
 ghost use Rattle.batch_command.specs.Lists.{LinesSay, ListSays, WritesTexts};
 ghost use Rattle.command_line.specs.Workers.{AreWorkers, worker_names as names_of_workers};
-ghost use Rattle.command_line.specs.declared.batch_words.clients.TheConstants.{MAX_BATCH_NAME_BYTES};
+ghost use Rattle.command_line.specs.declared.batch_words.clients.TheConstants.{
+  MAX_BATCH_NAME_BYTES,
+};
 ghost use Rattle.client_lines.specs.Within.{AreSound};
 ghost use Rattle.request_server.specs.Lending.{IsUnchanged};
 ghost use Rattle.command_reports.specs.Scenes.{scene};

@@ -2,7 +2,9 @@
 
 ghost use Rattle.std.specs.Prelude.{◌≡◌, ◌≤◌, IfOk};
 ghost use Rattle.batch_command.specs.Lists.{AreMembers};
-ghost use Rattle.command_line.specs.declared.batch_words.clients.TheConstants.{MAX_BATCH_NAME_BYTES};
+ghost use Rattle.command_line.specs.declared.batch_words.clients.TheConstants.{
+  MAX_BATCH_NAME_BYTES,
+};
 ghost use Rattle.command_line.specs.declared.batch_words.clients.TheConstants.{MAX_WORKERS};
 ghost use Rattle.request_server.specs.Lending.{IsUnchanged};
 ghost use Rattle.command_reports.specs.Scenes.{scene};

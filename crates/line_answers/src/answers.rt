@@ -6,7 +6,9 @@ ghost use Rattle.client_lines.specs.declared.lines.TheConstants.{MAX_LINE_BYTES}
 ghost use Rattle.rail_types.specs.Limits.{IsClientName};
 ghost use Rattle.client_lines.specs.Replies.{reply_text as text_of};
 ghost use Rattle.client_lines.specs.Rooms.{room_for};
-ghost use Rattle.client_lines.specs.declared.reply_texts.replies.Reply.TheVariants.{NoMemory as no_memory};
+ghost use Rattle.client_lines.specs.declared.reply_texts.replies.Reply.TheVariants.{
+  NoMemory as no_memory,
+};
 ghost use Rattle.ask_turns.specs.Clients.{Knows};
 ghost use Rattle.ask_turns.specs.Turns.{IsReady, timetable_at};
 ghost use Rattle.line_answers.specs.Asked.{HasRoomIn};

@@ -7,7 +7,9 @@ use Rattle.admission_rules.specs.declared.client_rules.clients.ClientRules.{Clie
 use Rattle.command_line.specs.declared.rule_words.kinds.RuleKind.{RuleKind}
 use Rattle.command_line.specs.declared.rule_words.kinds.RuleKind.TheVariants.{Quota as QuotaKind}
 use Rattle.command_line.specs.declared.rule_words.kinds.RuleKind.TheVariants.{Curfew as CurfewKind}
-use Rattle.command_line.specs.declared.rule_words.kinds.RuleKind.TheVariants.{Longest as LongestKind}
+use Rattle.command_line.specs.declared.rule_words.kinds.RuleKind.TheVariants.{
+  Longest as LongestKind,
+}
 use Rattle.command_line.specs.declared.rule_words.reading.RuleWord.{RuleWord}
 use Rattle.osrd_stdcm.specs.declared.built_rules.rules.BuiltRule.{BuiltRule}
 use Rattle.osrd_stdcm.specs.declared.built_rules.rules.BuiltRule.TheVariants.{Quota, Curfew}

@@ -14,7 +14,9 @@ use Rattle.path_recover.specs.Failing.{HasFaultCause}
 use Rattle.path_recover.specs.declared.history_reading.moves.MoveFault.{MoveFault}
 use Rattle.path_recover.specs.declared.history_reading.moves.MoveFault.TheVariants.{NotEmpty, From}
 use Rattle.path_recover.specs.declared.history_reading.moves.MoveFault.TheVariants.{Fault}
-use Rattle.path_recover.specs.declared.history_reading.moves.MoveFault.TheVariants.{Memory as no_memory}
+use Rattle.path_recover.specs.declared.history_reading.moves.MoveFault.TheVariants.{
+  Memory as no_memory,
+}
 
 -- the old file is a journal of version 1 with so many entries, and whatever has P reads as them in
 -- the version of today: it is a header, their records and a closed gate, and no byte more

@@ -15,7 +15,9 @@ pub enum Halt {
 
 impl From<NoMemory> for Halt {
     ghost use Rattle.std.specs.Prelude.{◌≡◌};
-    ghost use Rattle.ask_turns.specs.declared.client_turns.halts.Halt.TheVariants.{NoMemory as no_memory};
+    ghost use Rattle.ask_turns.specs.declared.client_turns.halts.Halt.TheVariants.{
+      NoMemory as no_memory,
+    };
 
     ghost from_gives = { λ _ halt. halt ≡ no_memory };
 

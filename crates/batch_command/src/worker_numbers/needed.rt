@@ -1,7 +1,9 @@
 //! Workers that are not there.
 
 ghost use Rattle.std.specs.Prelude.{◌≡◌, ◌≤◌, IfNone, IfOk, IfSome, length};
-ghost use Rattle.command_line.specs.declared.batch_words.clients.TheConstants.{MAX_BATCH_NAME_BYTES};
+ghost use Rattle.command_line.specs.declared.batch_words.clients.TheConstants.{
+  MAX_BATCH_NAME_BYTES,
+};
 ghost use Rattle.command_line.specs.declared.batch_words.clients.TheConstants.{MAX_WORKERS};
 ghost use Rattle.rail_types.specs.declared.limits.TheConstants.{MAX_OWNER_BYTES};
 ghost use Rattle.batch_command.specs.Owners.{AreEnough, IsNeeded, needs};

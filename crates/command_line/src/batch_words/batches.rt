@@ -2,7 +2,9 @@
 
 ghost use Rattle.std.specs.Prelude.{◌≡◌, ℕ, List as list_of, decimal, IfOk, IsErrOf, map};
 ghost use Rattle.command_line.specs.Clients.{client_text};
-ghost use Rattle.command_line.specs.declared.client_words.clients.ClientWord.{ClientWord as client_type};
+ghost use Rattle.command_line.specs.declared.client_words.clients.ClientWord.{
+  ClientWord as client_type,
+};
 ghost use Rattle.command_line.specs.Rules.{rule_text};
 ghost use Rattle.command_line.specs.declared.rule_words.reading.RuleWord.{RuleWord as rule_type};
 ghost use Rattle.command_line.specs.Workers.{IsBatch};

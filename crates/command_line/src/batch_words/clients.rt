@@ -2,7 +2,9 @@
 
 ghost use Rattle.std.specs.Prelude.{◌≡◌, ◌≤◌, ℕ, decimal, IfNone, IfOk, IfSome, IsErrOf};
 ghost use Rattle.command_line.specs.Clients.{client_text};
-ghost use Rattle.command_line.specs.declared.client_words.clients.ClientWord.{ClientWord as client_type};
+ghost use Rattle.command_line.specs.declared.client_words.clients.ClientWord.{
+  ClientWord as client_type,
+};
 ghost use Rattle.command_line.specs.Workers.{AreWorkers, IsBatchClient};
 
 use crate::client_words::{ClientWord, read_client};

@@ -3,7 +3,9 @@
 ghost use Rattle.std.specs.Prelude.{◌≡◌, List as list_of, IfOk, IsErrOf, map};
 ghost use Rattle.std.specs.List.{All};
 ghost use Rattle.command_line.specs.Clients.{AreClients, client_text, IsClientWord};
-ghost use Rattle.command_line.specs.declared.client_words.clients.ClientWord.{ClientWord as client_type};
+ghost use Rattle.command_line.specs.declared.client_words.clients.ClientWord.{
+  ClientWord as client_type,
+};
 
 use crate::client_words::distinct::are_all_apart;
 use crate::client_words::parts::{ClientParts, is_client, split_client};

@@ -3,7 +3,9 @@
 ghost use Rattle.std.specs.Prelude.{◌≡◌, ◌<◌, ◌^◌, ℕ, List, length};
 ghost use Rattle.rail_types.specs.declared.entries.Entry.{Entry as entry_type};
 ghost use Rattle.rail_types.specs.Timetables.{Timetable};
-ghost use Rattle.path_recover.specs.declared.journal_reading.faults.OpenFault.{OpenFault as open_fault};
+ghost use Rattle.path_recover.specs.declared.journal_reading.faults.OpenFault.{
+  OpenFault as open_fault,
+};
 ghost use Rattle.path_recover.specs.Failing.{IsUnread};
 ghost use Rattle.path_recover.specs.Files.{IsFound, IsRefused, TellsHistory};
 
