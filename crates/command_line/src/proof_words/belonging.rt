@@ -6,7 +6,7 @@ ghost use Rattle.command_line.specs.Proofs.{IsNoStreamOf, NamesOneOf};
 
 use crate::Text;
 use crate::client_words::{ClientWord, cut_at_colon};
-use crate::proofs::proof_words::ProofWord;
+use crate::proof_words::proofs::ProofWord;
 
 /// Whether a proof names one of these clients, and its file is a stream of none of them.
 pub(crate) fn belongs_to(proof: &ProofWord, clients: &[ClientWord]) -> bool

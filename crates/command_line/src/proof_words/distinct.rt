@@ -4,7 +4,7 @@ ghost use Rattle.std.specs.Prelude.{◌≢◌, ◌↔◌, IsTrue};
 ghost use Rattle.std.specs.List.{All, AllPairs};
 ghost use Rattle.command_line.specs.Proofs.{AreApart};
 
-use crate::proofs::proof_words::ProofWord;
+use crate::proof_words::proofs::ProofWord;
 
 /// Whether no two of these proofs share a client or a file.
 pub(crate) fn are_all_apart(proofs: &[ProofWord]) -> bool

@@ -4,7 +4,7 @@ ghost use Rattle.std.specs.Prelude.{◌≡◌, option_map};
 ghost use Rattle.command_line.specs.Proofs.{proof_of as file_of};
 
 use crate::Text;
-use crate::proofs::proof_words::ProofWord;
+use crate::proof_words::proofs::ProofWord;
 use rail_types::Name;
 
 /// The file for the proofs of a client: that of the first of these proofs that

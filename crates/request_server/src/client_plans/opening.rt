@@ -13,9 +13,9 @@ ghost use Rattle.request_server.specs.Refusing.{IsStopped};
 ghost use Rattle.command_line.specs.Proofs.{proof_of as file_of};
 
 use crate::Plan;
+use crate::client_plans::proofs::proofs_to;
 use crate::client_plans::returning::put_back_plans;
 use crate::client_streams::{ClientStreams, between_of, open_served};
-use crate::proofs::client_plans::proofs_to;
 use admission_rules::Rule;
 use admission_rules::client_rules::{ClientRules, take_rules};
 use command_line::client_words::ClientWord;

@@ -7,8 +7,8 @@ ghost use Rattle.request_server.specs.StreamClients.{stream_loans};
 ghost use Rattle.request_server.specs.Lending.{AreIn};
 ghost use Rattle.command_line.specs.Proofs.{proof_of as file_of};
 
+use crate::client_plans::proofs::sink_of;
 use crate::client_streams::{ClientStreams, put_back_served};
-use crate::proofs::client_plans::sink_of;
 use crate::{Plan, Session};
 use admission_rules::Rule;
 use command_line::client_words::ClientWord;
