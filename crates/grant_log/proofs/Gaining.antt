@@ -20,6 +20,16 @@ use Rattle.grant_log.proofs.Elements.{all_by, contains_cases, contains_head, con
 pub gains_none : (old : List HeldClaim) → Gains old [] old
 gains_none old one = ((λ contains. inl contains), (λ either. elim either [ inl old_one ↦ old_one | inr new_one ↦ absurd (no_element one new_one) ]))
 
+-- the same claims in another order
+pub gains_moved : (old more moved new : List HeldClaim) → IsPermutation more moved → Gains old moved new → Gains old more new
+gains_moved old more moved new order gains one = (
+  (λ contains. elim ((gains one).0 contains) [ inl was ↦ inl was | inr came ↦ inr (Contains-permutation moved more one (IsPermutation-sym more moved order) came) ]),
+  (λ either. (gains one).1 (elim either [ inl was ↦ inl was | inr came ↦ inr (Contains-permutation more moved one order came) ])),
+)
+
+pub clash_back : (a b : Claim) → Clash a b → Clash b a
+clash_back a b clash = (sym clash.0, (clash.1.1, clash.1.0))
+
 -- one claim more
 pub gains_more : (old more mid new : List HeldClaim) (next : HeldClaim) → Gains old more mid → IsPermutation (next ∷ mid) new → Gains old (more ++ next ∷ []) new
 gains_more old more mid new next gains gained one = (

@@ -18,3 +18,4 @@ pub mod Counted
 pub mod Pairs
 pub mod Gaining
 pub mod Bringing
+pub mod Changing

@@ -7,3 +7,4 @@ pub mod Following
 pub mod Inside
 pub mod Rooms
 pub mod Since
+pub mod Changes

@@ -1,4 +1,3 @@
 pub mod Standing
 pub mod Joining
-pub mod Changing
 pub mod Growing

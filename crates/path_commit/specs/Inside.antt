@@ -1,8 +1,6 @@
 -- Inside: how the parts of a book belong together, and what its private calls leave.
-use Rattle.std.specs.Prelude.{◌≡◌, ℕ, ◌+◌, ◌<◌, ◌≤◌, ◌^◌, true, List, length, All}
+use Rattle.std.specs.Prelude.{◌≡◌, ℕ, ◌+◌, ◌<◌, ◌≤◌, ◌^◌, List, length, All}
 use Rattle.rail_types.specs.declared.entries.Entry.{Entry}
-use Rattle.rail_types.specs.declared.entries.Deed.{Deed}
-use Rattle.rail_types.specs.declared.entries.Deed.TheVariants.{Free}
 use Rattle.rail_types.specs.Timetables.{Timetable}
 use Rattle.occupation_book.specs.Zones.{Zone}
 use Rattle.occupation_book.specs.Held.{held}
@@ -12,21 +10,16 @@ use Rattle.grant_journal.specs.declared.journals.Written.{Written}
 use Rattle.grant_journal.specs.declared.journals.Written.TheVariants.{Done, Fault}
 use Rattle.grant_journal.specs.declared.journals.Stage.TheVariants.{Record, Gate}
 use Rattle.grant_log.specs.Legal.{Joins, Register}
-use Rattle.grant_log.specs.Live.{claims_of, owned_by}
-use Rattle.grant_log.specs.Verdict.{takes}
 use Rattle.entry_codec.specs.Within.{HasBody}
 use Rattle.grant_journal.specs.Headers.{header_of}
 use Rattle.grant_journal.specs.Histories.{bodies_of, record_of}
 use Rattle.grant_journal.specs.Keeping.{Keeps}
 use Rattle.grant_journal.specs.Timed.{Timed, settled_of}
-use Rattle.grant_log.specs.Rooms.{HasRoomFor}
-use Rattle.grant_log.specs.Since.{claims_at}
+use Rattle.grant_log.specs.Changes.{HasRoomToChange, IsChangeOf}
 use Rattle.path_commit.specs.Answers.{bytes_with}
 use Rattle.path_commit.specs.declared.answers.Committed.{Committed}
 use Rattle.path_commit.specs.declared.answers.Committed.TheVariants.{Done as told_done}
 use Rattle.path_commit.specs.declared.answers.Committed.TheVariants.{Unsettled as told_unsettled}
-use Rattle.path_commit.specs.declared.changes.Change.{Change}
-use Rattle.path_commit.specs.declared.changes.Change.TheVariants.{Gained, Lost}
 use Rattle.path_commit.specs.declared.parts.Ready.{Ready}
 use Rattle.path_commit.specs.Ledgers.{Ledger}
 
@@ -53,18 +46,6 @@ ledger_of network base history journal = record {
   found = journal.found;
   moments = journal.moments;
 }
-
--- a change is that which an entry of this deed makes behind these
-abbrev pub IsChangeOf : Timetable → List Entry → Deed → Change → Type 0
-IsChangeOf timetable entries deed (Gained claims) =
-    (takes deed ≡ true) × (claims ≡ owned_by (length entries) (claims_of timetable deed))
-IsChangeOf timetable entries deed (Lost at claims) =
-    (deed ≡ Free at) × (claims ≡ claims_at timetable entries at)
-
--- there is room for what a change brings
-abbrev pub HasRoomToChange : List Zone → Change → Type 0
-HasRoomToChange claims (Gained more) = HasRoomFor claims more
-HasRoomToChange claims (Lost at less) = Unit {0}
 
 -- all that an entry needs is there: it is in range and fresh, the journal's limit leaves room for
 -- its record, and there is memory for the history, the claims and the moment

@@ -4,7 +4,6 @@
 
 mod answers;
 mod books;
-mod changes;
 mod clashes;
 mod judging;
 mod parts;

@@ -14,8 +14,8 @@ ghost use Rattle.path_commit.specs.Inside.{AreOne, IsBegun, IsReady, IsToldBy, l
 ghost use Rattle.path_commit.specs.Ledgers.{IsPrefixOf, settled_of as settled_in};
 
 use crate::answers::Committed;
-use crate::changes::{Change, change_of, follow, reserve_change};
 use crate::judging::judge;
+use grant_log::copy_since::{Change, change_of, follow, reserve_change};
 use entry_codec::body_len;
 use grant_journal::journal_moments::TimedJournal;
 use grant_journal::journal_text::{bytes_are_counted, record};

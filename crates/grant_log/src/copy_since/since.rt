@@ -12,7 +12,7 @@ ghost use Rattle.grant_log.specs.Live.{owned_by};
 ghost use Rattle.grant_log.specs.Since.{AreFreedBelow, brought_since};
 ghost use Rattle.grant_log.specs.Since.{claims_at as claims_standing_at};
 
-use crate::copy_since::holding::hold_all;
+use crate::copy_since::holding::hold_in_order;
 use crate::copy_since::rooms::reserve_for;
 use crate::{
     History, claims_are_on_the_network, grants_keep_their_requests, legal_histories_never_clash,
@@ -58,7 +58,7 @@ pub fn bring_up(
     let brought = brought_since(alloc, history, front)?;
     reserve_for(alloc, copy, &brought)?;
     take_out_all(copy, &freed);
-    hold_all(copy, &brought);
+    hold_in_order(copy, brought);
     Ok(())
 }
 
@@ -72,7 +72,7 @@ pub fn copy_of(alloc: Global, history: &History) -> Result<Occupations, NoMemory
     let mut book = Occupations::new(alloc, history.net().zones)?;
     let planned = planned_claims(alloc, history)?;
     reserve_for(alloc, &mut book, &planned)?;
-    hold_all(&mut book, &planned);
+    hold_in_order(&mut book, planned);
     bring_up(alloc, history, 0, &mut book)?;
     Ok(book)
 }
@@ -154,7 +154,11 @@ fn brought_since(
 }
 
 // Puts claims behind the others, with the entry at this position as their owner.
-fn push_owned(all: &mut Vec<(Claim, Owner)>, claims: &[Claim], at: u64) -> Result<(), NoMemory>
+pub(crate) fn push_owned(
+    all: &mut Vec<(Claim, Owner)>,
+    claims: &[Claim],
+    at: u64,
+) -> Result<(), NoMemory>
     ensures { OnOk result (all.new.items ≡ all.old.items ++ owned_by at claims.now) }
 {
     for claim in claims {

@@ -15,16 +15,16 @@ reserve_for-requires c =
     let count : length c.in_ok-book.book ≡ t.net.zones = c.in_ok-book.ensures.zones ∙ ap (λ net. net.zones) c.net.ensures.net in
     record { zones = subst (All (λ (one : HeldClaim). one.0.zone < length c.in_ok-book.book)) (sym (c.deref.ensures.value ∙ c.in_ok-planned.ensures)) (all_by (λ (one : HeldClaim). one.0.zone < length c.in_ok-book.book) (base_claims t) (λ one inside. (All-contains (MayBeHeld (length c.in_ok-book.book)) (base_claims t) one (planned_may t (length c.in_ok-book.book) c.net.ensures.timetable count) inside).zone)) }
 
-pub hold_all-requires-clause-each : goal.hold_all-requires-clause-each
-hold_all-requires-clause-each c =
+pub hold_in_order-requires-clause-each : goal.hold_in_order-requires-clause-each
+hold_in_order-requires-clause-each c =
     let t = c.args.history.now.timetable in
     let count : length c.reserve_for.new.book ≡ t.net.zones = c.reserve_for.ensures.zones ∙ c.in_ok-book.ensures.zones ∙ ap (λ net. net.zones) c.net.ensures.net in
-    subst (All (MayBeHeld (length c.reserve_for.new.book))) (sym (c.deref-2.ensures.value ∙ c.in_ok-planned.ensures)) (planned_may t (length c.reserve_for.new.book) c.net.ensures.timetable count)
+    subst (All (MayBeHeld (length c.reserve_for.new.book))) (sym c.in_ok-planned.ensures) (planned_may t (length c.reserve_for.new.book) c.net.ensures.timetable count)
 
-pub hold_all-requires-clause-apart : goal.hold_all-requires-clause-apart
-hold_all-requires-clause-apart c = subst (AllPairs (λ (one other : HeldClaim). ¬ Clash one.0 other.0)) (sym (c.deref-2.ensures.value ∙ c.in_ok-planned.ensures)) (planned_apart c.args.history.now.timetable c.net.ensures.timetable)
+pub hold_in_order-requires-clause-apart : goal.hold_in_order-requires-clause-apart
+hold_in_order-requires-clause-apart c = subst (AllPairs (λ (one other : HeldClaim). ¬ Clash one.0 other.0)) (sym c.in_ok-planned.ensures) (planned_apart c.args.history.now.timetable c.net.ensures.timetable)
 
 pub bring_up-requires-clause-live : goal.bring_up-requires-clause-live
 bring_up-requires-clause-live c =
     let t = c.args.history.now.timetable in
-    planned_live t (held c.reserve_for.new.book) (held c.hold_all.new.book) (c.live_claims_follow.ensures.begin t) (c.reserve_for.ensures.held ∙ c.in_ok-book.ensures.empty) (subst (λ l. Gains (held c.reserve_for.new.book) l (held c.hold_all.new.book)) (c.deref-2.ensures.value ∙ c.in_ok-planned.ensures) c.hold_all.ensures.gained)
+    planned_live t (held c.reserve_for.new.book) (held c.hold_in_order.new.book) (c.live_claims_follow.ensures.begin t) (c.reserve_for.ensures.held ∙ c.in_ok-book.ensures.empty) (subst (λ l. Gains (held c.reserve_for.new.book) l (held c.hold_in_order.new.book)) c.in_ok-planned.ensures c.hold_in_order.ensures.gained)

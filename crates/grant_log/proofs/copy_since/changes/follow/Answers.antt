@@ -4,8 +4,8 @@ use Rattle.rail_types.specs.Occupation.{Clash, HeldClaim}
 use Rattle.occupation_book.specs.Held.{AreOnZonesOf, IsFree, held}
 use Rattle.grant_log.specs.Following.{Gains}
 use Rattle.grant_log.specs.Rooms.{MayBeHeld}
-use Rattle.path_commit.proofs.Changing.{follow_gained, follow_lost, fresh_keeps, gained_apart, gained_free, gained_may, lost_all, lost_zones}
-use Rattle.path_commit.proofs.changes.follow.Goals as goal
+use Rattle.grant_log.proofs.Changing.{follow_gained, follow_lost, fresh_keeps, gained_apart, gained_free, gained_may, lost_all, lost_zones}
+use Rattle.grant_log.proofs.copy_since.changes.follow.Goals as goal
 
 pub hold_all-requires-clause-each : goal.hold_all-requires-clause-each
 hold_all-requires-clause-each c =

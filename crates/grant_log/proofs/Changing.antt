@@ -1,5 +1,5 @@
 -- How an entry changes the claims that are held.
-use Rattle.std.proofs.Common.{◌≡◌, ℕ, ◌<◌, ◌<ℤ◌, true, false, List, length, get_or, Option, Some, None, slice_get, All, AllPairs, Any, Contains, inl, inr, sym, ap, subst, refl, arith}
+use Rattle.std.proofs.Common.{◌≡◌, ◌↔◌, ℕ, ◌<◌, ◌<ℤ◌, true, false, List, length, get_or, Option, Some, None, slice_get, All, AllPairs, Any, Contains, inl, inr, sym, ap, subst, refl, arith}
 use Rattle.std.proofs.lemmas.Int.{ints}
 use Rattle.std.proofs.lemmas.List.Elements.{All-map, All-nil}
 use Rattle.rail_types.specs.declared.paths.Claim.{Claim}
@@ -15,14 +15,13 @@ use Rattle.grant_log.specs.declared.verdicts.Verdict.{Verdict}
 use Rattle.grant_log.specs.declared.verdicts.Verdict.TheVariants.{Fresh}
 use Rattle.grant_log.specs.Following.{AreLive, Follow, Gains, Loses}
 use Rattle.grant_log.specs.Legal.{IsInRange, IsLegal}
-use Rattle.grant_log.specs.Live.{claims_of, live_claims, owned_by}
+use Rattle.grant_log.specs.Live.{claims_of, freed_by, live_claims, owned_by}
 use Rattle.grant_log.specs.Meanings.{MayJoin, Says}
 use Rattle.grant_log.specs.Verdict.{breaks, takes}
 use Rattle.grant_log.specs.Rooms.{MayBeHeld}
 use Rattle.grant_log.specs.Since.{claims_at, claims_of_some}
 use Rattle.grant_log.proofs.Elements.{all_by, of_others}
 use Rattle.grant_log.proofs.Pairs.{all_pairs_map}
-use Rattle.path_commit.proofs.Standing.{Unfreed}
 
 -- an entry that may join breaks no rule
 joins_keeps : (timetable : Timetable) (entries : List Entry) (owner : List ℕ) (deed : Deed) → MayJoin timetable entries owner deed → breaks timetable deed ≡ None
@@ -69,6 +68,12 @@ lost_zones timetable entries at count same legal zones = go (slice_get entries a
     go : (here : Option Entry) → slice_get entries at ≡ here → All (λ claim. claim.zone < count) (claims_of_some timetable here)
     go None is = All-nil (λ claim. claim.zone < count)
     go (Some entry) is = subst (λ n. All (λ claim. claim.zone < n) (claims_of timetable entry.deed)) (sym same) (zones entry (legal at entry is).in_range)
+
+-- what the law of live claims says of an entry
+abbrev Unfreed : Timetable → List Entry → Type 0
+Unfreed timetable entries =
+    (claim : Claim) (at : ℕ) → Contains (live_claims timetable entries) (claim, of_entry at)
+    ↔ ((entry : Entry) × (slice_get entries at ≡ Some entry) × Contains (claims_of timetable entry.deed) claim × (freed_by entries at ≡ None))
 
 pub lost_all : (timetable : Timetable) (entries : List Entry) (held : List HeldClaim) (at : ℕ) → AreLive timetable held entries → Unfreed timetable entries → AreOnZonesOf (of_entry at) held (claims_at timetable entries at)
 lost_all timetable entries held at live law = all_by (λ one. one.1 ≡ of_entry at → Any (λ claim. claim.zone ≡ one.0.zone) (claims_at timetable entries at)) held (λ one inside mine.

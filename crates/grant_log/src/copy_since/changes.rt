@@ -6,10 +6,12 @@ ghost use Rattle.occupation_book.specs.Held.{claims_by_zone, held};
 ghost use Rattle.grant_log.specs.Following.{AreLive, Follow};
 ghost use Rattle.grant_log.specs.Legal.{IsLegal, Joins};
 ghost use Rattle.grant_log.specs.Live.{claims_of, owned_by};
-ghost use Rattle.path_commit.specs.Inside.{HasRoomToChange, IsChangeOf};
+ghost use Rattle.grant_log.specs.Changes.{HasRoomToChange, IsChangeOf};
 
-use grant_log::copy_since::{claims_at, hold_all, reserve_for};
-use grant_log::{
+use crate::copy_since::holding::hold_all;
+use crate::copy_since::rooms::reserve_for;
+use crate::copy_since::since::{claims_at, push_owned};
+use crate::{
     History, claims_are_on_the_network, fresh_claims_are_free, live_claims_are_unfreed,
     verdicts_say_what_they_mean,
 };
@@ -18,15 +20,17 @@ use occupation_book::Occupations;
 use rail_types::{Claim, Deed, Entry, List, Owner};
 use std::alloc::Global;
 
-/// What an entry changes: these claims come, or those of an entry that is freed go.
+/// What an entry changes of the claims that are held.
 #[derive(Debug, Drop)]
-pub(crate) enum Change {
+pub enum Change {
+    /// These claims come.
     Gained(List<(Claim, Owner)>),
+    /// The entry at this position had these claims, and they go.
     Lost(u64, List<Claim>),
 }
 
-// The change that an entry with these claims makes behind a history.
-pub(crate) fn change_of(
+/// The change that an entry with these claims makes behind a history.
+pub fn change_of(
     alloc: Global,
     history: &History,
     entry: &Entry,
@@ -42,25 +46,15 @@ pub(crate) fn change_of(
             Ok(Change::Lost(*at, List::from_vec(lost)))
         }
         _ => {
-            let gained = owned(alloc, claims, history.front())?;
+            let mut gained = Vec::new(alloc);
+            push_owned(&mut gained, claims, history.front())?;
             Ok(Change::Gained(List::from_vec(gained)))
         }
     }
 }
 
-// The claims with the entry at this position as their owner.
-fn owned(alloc: Global, claims: &[Claim], at: u64) -> Result<Vec<(Claim, Owner)>, NoMemory>
-    ensures { IfOk result (λ all. all.items ≡ owned_by at claims.now) }
-{
-    let mut all = Vec::new(alloc);
-    for claim in claims {
-        all.push((*claim, Owner::Entry(at)))?;
-    }
-    Ok(all)
-}
-
-// Makes room for what a change brings. The claims that are held stay.
-pub(crate) fn reserve_change(
+/// Makes room for what a change brings. The claims that are held stay.
+pub fn reserve_change(
     alloc: Global,
     book: &mut Occupations,
     history: &History,
@@ -83,8 +77,8 @@ pub(crate) fn reserve_change(
     }
 }
 
-// Lets the claims that are held follow an entry. It takes no memory.
-pub(crate) fn follow(book: &mut Occupations, history: &History, entry: &Entry, change: &Change)
+/// Lets the claims that are held follow an entry. It takes no memory.
+pub fn follow(book: &mut Occupations, history: &History, entry: &Entry, change: &Change)
     requires zones { length book.old ≡ history.now.timetable.net.zones }
     requires live { AreLive history.now.timetable (held book.old) history.now.entries }
     requires joins { Joins history.now.timetable history.now.entries entry.now }

@@ -1,7 +1,7 @@
 use Rattle.std.proofs.Common.{◌<◌, length, All, subst, sym, ◌∙◌}
 use Rattle.rail_types.specs.Occupation.{HeldClaim}
-use Rattle.path_commit.proofs.Changing.{gained_zones}
-use Rattle.path_commit.proofs.changes.reserve_change.Goals as goal
+use Rattle.grant_log.proofs.Changing.{gained_zones}
+use Rattle.grant_log.proofs.copy_since.changes.reserve_change.Goals as goal
 
 pub reserve_for-requires : goal.reserve_for-requires
 reserve_for-requires c =
