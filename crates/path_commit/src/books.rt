@@ -1,4 +1,4 @@
-ghost use Rattle.std.specs.Prelude.{◌≡◌, ◌+◌, ◌<◌, ◌≤◌, ◌^◌, ◌↔◌, [], ℕ, List, All, IfErr, IfOk};
+ghost use Rattle.std.specs.Prelude.{◌≡◌, ◌+◌, ◌<◌, ◌≤◌, ◌^◌, ◌↔◌, [], ℕ, List, All};
 ghost use Rattle.std.specs.Prelude.{IsTrue, OnErr, OnOk, length, take};
 ghost use Rattle.rail_types.specs.Timetables.{IsTimetable};
 ghost use Rattle.occupation_book.specs.Held.{claims_by_zone, held};
@@ -15,7 +15,7 @@ use grant_journal::journal_moments::TimedJournal;
 use grant_journal::journal_text::bytes_are_counted;
 use grant_journal::{Journal, Settled};
 use grant_log::History;
-use grant_log::copy_since::{bring_up, copy_of};
+use grant_log::copy_since::bring_up;
 use no_memory::NoMemory;
 use occupation_book::Occupations;
 use outside_io::Disk;
@@ -50,23 +50,26 @@ impl<D: Disk> Book<D> {
     ghost use Rattle.path_commit.specs.Answers.{IsBeforeOrAfter, IsTold, Settles};
     ghost use Rattle.path_commit.specs.Ledgers.{IsKept, IsPrefixOf, moment_of, settled_of};
 
-    /// The book of a history, for a network's file and a base timetable's file with these SHA-256
-    /// digests, and of a journal with nothing pending, which reads as the history where its disk
-    /// tells its bytes. For want of memory the journal comes back.
+    /// The book of a history and of the claims that are live in it, for a network's file and a
+    /// base timetable's file with these SHA-256 digests, and of a journal with nothing pending,
+    /// which reads as the history where its disk tells its bytes.
     pub fn of(
         alloc: Global,
         history: History,
+        claims: Occupations,
         network: [u8; 32],
         base: [u8; 32],
         journal: Journal<D>,
-    ) -> Result<Book<D>, (Journal<D>, NoMemory)>
+    ) -> Book<D>
+        requires live { AreLive history.timetable (held claims) history.entries }
+        requires zones { length claims ≡ history.timetable.net.zones }
         requires idle { journal.next ≡ journal.gate }
         requires used { journal.next + 1 ≡ bytes_of history.entries }
         requires reads { (image : List ℕ) → D.images journal.disk image →
             ReadsAs (header_of network base) (bodies_of history.entries) image }
         requires short { All (λ body. length body < 2 ^ 32) (bodies_of history.entries) }
         requires spelled { All HasBody history.entries }
-        ensures book { IfOk result (λ book. book ≡ record {
+        ensures book { result ≡ record {
           disk = journal.disk;
           network_digest = network;
           base_digest = base;
@@ -75,15 +78,11 @@ impl<D: Disk> Book<D> {
           made = D.clock journal.disk;
           found = length history.entries;
           moments = [];
-        }) }
-        ensures refused { IfErr result (λ refused. refused.0 ≡ journal) }
+        } }
     {
         bytes_are_counted();
         has_its_bytes(&network);
         has_its_bytes(&base);
-        let Ok(claims) = copy_of(alloc, &history) else {
-            return Err((journal, NoMemory));
-        };
         let journal = TimedJournal::of(alloc, journal, history.front());
         let parts = Parts {
             network,
@@ -92,7 +91,7 @@ impl<D: Disk> Book<D> {
             claims,
             journal,
         };
-        Ok(Book { alloc, parts })
+        Book { alloc, parts }
     }
 
     /// Judges an entry, writes it, and lets the history and the live claims follow. `searched` is

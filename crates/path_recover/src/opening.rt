@@ -9,7 +9,6 @@ use crate::history_reading::{Found, one_reading, read_journal};
 use crate::journal_reading::OpenFault;
 use grant_journal::Journal;
 use grant_log::History;
-use no_memory::NoMemory;
 use outside_io::Disk;
 use path_commit::Book;
 use rail_types::{Base, Network};
@@ -55,13 +54,15 @@ pub fn open<D: Disk>(
     };
     let empty = History::new(alloc, net, base);
     let read = read_journal(alloc, &mut disk, empty, VERSION, network, base_digest);
-    let Found { history, gate } = match read {
+    let Found {
+        history,
+        claims,
+        gate,
+    } = match read {
         Ok(found) => found,
         Err(fault) => return Err((disk, fault)),
     };
     let journal = Journal::at(disk, gate);
-    match Book::of(alloc, history, *network, *base_digest, journal) {
-        Ok(book) => Ok(book),
-        Err((journal, NoMemory)) => Err((journal.close(), OpenFault::Memory)),
-    }
+    let book = Book::of(alloc, history, claims, *network, *base_digest, journal);
+    Ok(book)
 }

@@ -1,6 +1,8 @@
 ghost use Rattle.std.specs.Prelude.{◌≡◌, ◌+◌, ◌<◌, ◌≤◌, ◌^◌, [], ℕ, List, All, Some, IfErr, IfOk};
 ghost use Rattle.std.specs.Prelude.{IfSome, OnOk, length};
 ghost use Rattle.grant_journal.specs.Histories.{bodies_of, bytes_of};
+ghost use Rattle.grant_log.specs.Following.{AreLive};
+ghost use Rattle.occupation_book.specs.Held.{held};
 ghost use Rattle.path_recover.specs.Failing.{IsAsFaulty, IsNotOfDisk, IsOnlyRead, IsUnread};
 ghost use Rattle.path_recover.specs.Files.{IsFound, IsRefused, TellsHistory};
 ghost use Rattle.path_recover.specs.Walks.{IsSpelledIn};
@@ -61,6 +63,10 @@ pub fn read_journal<D: Disk>(
     ensures short { IfOk result (λ found.
         All (λ body. length body < 2 ^ 32) (bodies_of found.history.entries)) }
     ensures spelled { IfOk result (λ found. All (IsSpelledIn version) found.history.entries) }
+    ensures live { IfOk result (λ found. AreLive
+        found.history.timetable (held found.claims) found.history.entries) }
+    ensures zones { IfOk result (λ found.
+        length found.claims ≡ found.history.timetable.net.zones) }
     ensures durable { OnOk result ((image : List ℕ) → D.images disk.new image →
         D.contents disk.old ≡ Some image) }
     ensures read { IsOnlyRead D.Disk disk.old disk.new }
@@ -95,6 +101,10 @@ pub(crate) fn read_bytes(
     ensures short { IfOk result (λ found.
         All (λ body. length body < 2 ^ 32) (bodies_of found.history.entries)) }
     ensures spelled { IfOk result (λ found. All (IsSpelledIn version) found.history.entries) }
+    ensures live { IfOk result (λ found. AreLive
+        found.history.timetable (held found.claims) found.history.entries) }
+    ensures zones { IfOk result (λ found.
+        length found.claims ≡ found.history.timetable.net.zones) }
     ensures refused { IfErr result
         (IsRefused empty.timetable version network.now base.now file.now) }
     ensures quiet { IfErr result IsNotOfDisk }

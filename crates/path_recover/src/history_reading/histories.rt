@@ -1,4 +1,6 @@
 ghost use Rattle.std.specs.Prelude.{◌≡◌, ◌+◌, ◌<◌, ◌^◌, [], IfErr, IfOk, length};
+ghost use Rattle.grant_log.specs.Following.{AreLive};
+ghost use Rattle.occupation_book.specs.Held.{held};
 ghost use Rattle.path_recover.specs.Files.{WalkIsRefused};
 ghost use Rattle.path_recover.specs.Walks.{IsReadTo};
 
@@ -7,12 +9,15 @@ use crate::journal_reading::{Next, OpenFault, next_record};
 use byte_fields::Fields;
 use grant_log::History;
 use grant_log::copy_since::copy_of;
+use occupation_book::Occupations;
 use std::alloc::Global;
 
-/// The history of a journal, and the offset of the gate behind its last record.
+/// The history of a journal, the claims that are live in it, and the offset of the gate behind its
+/// last record.
 #[derive(Drop)]
 pub struct Found {
     pub history: History,
+    pub claims: Occupations,
     pub gate: u64,
 }
 
@@ -28,6 +33,10 @@ pub(crate) fn read_history(
     ensures timetable { IfOk result (λ found. found.history.timetable ≡ empty.timetable) }
     ensures found { IfOk result (λ found.
         IsReadTo empty.timetable version left.now 76 found.history.entries found.gate) }
+    ensures live { IfOk result (λ found. AreLive
+        found.history.timetable (held found.claims) found.history.entries) }
+    ensures zones { IfOk result (λ found.
+        length found.claims ≡ found.history.timetable.net.zones) }
     ensures refused { IfErr result (WalkIsRefused empty.timetable version left.now) }
 {
     let mut history = empty;
@@ -43,7 +52,13 @@ pub(crate) fn read_history(
             return Err(OpenFault::Memory);
         };
         let entry = match next {
-            Next::Shut => return Ok(Found { history, gate }),
+            Next::Shut => {
+                return Ok(Found {
+                    history,
+                    claims: book,
+                    gate,
+                });
+            }
             Next::Broken => return Err(OpenFault::Damaged { at: gate }),
             Next::Record(entry) => entry,
         };

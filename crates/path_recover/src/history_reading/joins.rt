@@ -1,4 +1,4 @@
-ghost use Rattle.std.specs.Prelude.{◌≡◌, ◌∷◌, ◌++◌, [], None, IfOk, IsTrue, OnOk, length};
+ghost use Rattle.std.specs.Prelude.{◌≡◌, ◌≤◌, ◌∷◌, ◌++◌, [], None, IfOk, IsTrue, OnOk, length};
 ghost use Rattle.rail_types.specs.Limits.{IsEntryWithinLimits};
 ghost use Rattle.occupation_book.specs.Held.{held};
 ghost use Rattle.grant_log.specs.Following.{AreLive};
@@ -7,8 +7,8 @@ ghost use Rattle.grant_log.specs.Live.{claims_of as claims_of_deed};
 ghost use Rattle.grant_log.specs.Verdict.{breaks};
 
 use crate::journal_reading::is_on;
-use grant_log::copy_since::bring_up;
-use grant_log::{History, Verdict, claims_are_on_the_network};
+use grant_log::copy_since::{change_of, follow, reserve_change};
+use grant_log::{History, Verdict, live_claims_follow, verdicts_say_what_they_mean};
 use no_memory::NoMemory;
 use occupation_book::Occupations;
 use rail_types::{Claim, Entry};
@@ -26,14 +26,16 @@ fn claims_of(alloc: Global, history: &History, entry: &Entry) -> Result<Vec<Clai
     history.claims_of(&entry.deed)
 }
 
-// Whether an entry joins a history, whose live claims the book holds.
+// Whether an entry with these claims joins a history, whose live claims the book holds.
 fn joins(
-    alloc: Global,
     history: &History,
     book: &Occupations,
     entry: &Entry,
+    claims: &[Claim],
 ) -> Result<bool, NoMemory>
-    requires within { IsEntryWithinLimits entry.now }
+    requires range { IsInRange history.now.timetable entry.now }
+    requires claims { breaks history.now.timetable entry.now.deed ≡ None →
+        claims.now ≡ claims_of_deed history.now.timetable entry.now.deed }
     requires zones { length book.now ≡ history.now.timetable.net.zones }
     requires live { AreLive history.now.timetable (held book.now) history.now.entries }
     ensures yes { IfOk result (λ yes. IsTrue yes →
@@ -41,12 +43,39 @@ fn joins(
     ensures stale { IfOk result (λ yes. Joins history.now.timetable history.now.entries entry.now →
         IsTrue yes) }
 {
-    if !is_on(history.net(), &entry.deed) {
-        return Ok(false);
-    }
-    let claims = claims_of(alloc, history, entry)?;
-    let verdict = history.judge_by(book, entry, &claims)?;
+    let verdict = history.judge_by(book, entry, claims)?;
     Ok(matches!(verdict, Verdict::Fresh))
+}
+
+// Puts an entry with these claims behind a history with room for it, and lets the live claims
+// follow.
+fn take(
+    alloc: Global,
+    history: &mut History,
+    book: &mut Occupations,
+    entry: Entry,
+    claims: &[Claim],
+) -> Result<(), NoMemory>
+    requires joins { Joins history.old.timetable history.old.entries entry }
+    requires claims { breaks history.old.timetable entry.deed ≡ None →
+        claims.now ≡ claims_of_deed history.old.timetable entry.deed }
+    requires room { 1 ≤ history.old.spare }
+    requires zones { length book.old ≡ history.old.timetable.net.zones }
+    requires live { AreLive history.old.timetable (held book.old) history.old.entries }
+    ensures timetable { history.new.timetable ≡ history.old.timetable }
+    ensures entries { OnOk result (history.new.entries ≡ history.old.entries ++ entry ∷ []) }
+    ensures zones { OnOk result (length book.new ≡ history.old.timetable.net.zones) }
+    ensures live { OnOk result
+        (AreLive history.old.timetable (held book.new) history.new.entries) }
+{
+    // What joins is fresh, and so breaks no rule.
+    verdicts_say_what_they_mean();
+    live_claims_follow();
+    let change = change_of(alloc, history, &entry, claims)?;
+    reserve_change(alloc, book, history, &entry, &change)?;
+    follow(book, history, &entry, &change);
+    history.push(entry);
+    Ok(())
 }
 
 // Puts an entry behind a history, where it joins it, and lets the live claims
@@ -71,12 +100,14 @@ pub(crate) fn join(
         (¬ Joins history.old.timetable history.old.entries entry)
         × (history.new.entries ≡ history.old.entries)) }
 {
-    if !joins(alloc, history, book, &entry)? {
+    history.reserve()?;
+    if !is_on(history.net(), &entry.deed) {
         return Ok(false);
     }
-    let front = history.front();
-    history.reserve()?;
-    history.push(entry);
-    bring_up(alloc, history, front, book)?;
+    let claims = claims_of(alloc, history, &entry)?;
+    if !joins(history, book, &entry, &claims)? {
+        return Ok(false);
+    }
+    take(alloc, history, book, entry, &claims)?;
     Ok(true)
 }

@@ -15,8 +15,8 @@ returns-in-Err-clause-whole g c =
     let same : c.new-empty.result.timetable ≡ timetable_of c.args.net.now c.args.base = c.new-empty.ensures.timetable ∙ ap (λ net. timetable_of net c.args.base) c.in-Ok.ensures in
     subst (λ (t : Timetable). IfSome (g.D.Disk.contents c.args.disk) (λ file. (entries : List Entry) → TellsHistory t 2 network base file entries → IsUnread c.in-Err.fault)) same c.in-Err.ensures.whole
 
-pub of-requires-clause-reads : goal.of-requires-clause-reads
-of-requires-clause-reads g c image left =
+pub of-book-requires-clause-reads : goal.of-book-requires-clause-reads
+of-book-requires-clause-reads g c image left =
     let network = c.args.network.now in
     let base = c.args.base_digest.now in
     let found = c.in-Ok-read.found in
@@ -25,17 +25,17 @@ of-requires-clause-reads g c image left =
     let is = if-told (λ file. IsFound timetable 2 network base file found.history.entries found.gate) (g.D.Disk.contents c.args.disk) image told c.in-Ok-read.ensures.found in
     let tells = c.one_reading.ensures.found timetable 2 network base image found.history.entries found.gate is in tells.reads
 
-pub returns-in-Ok-of-clause-tells : goal.returns-in-Ok-of-clause-tells
-returns-in-Ok-of-clause-tells g c =
+pub returns-clause-tells : goal.returns-clause-tells
+returns-clause-tells g c =
     let network = c.args.network.now in
     let base = c.args.base_digest.now in
     let found = c.in-Ok-read.found in
     let timetable = c.new-empty.result.timetable in
     let same : timetable ≡ timetable_of c.args.net.now c.args.base = c.new-empty.ensures.timetable ∙ ap (λ net. timetable_of net c.args.base) c.in-Ok.ensures in
-    let entries : c.in-Ok-of.book.entries ≡ found.history.entries = ap (λ b. b.entries) c.in-Ok-of.ensures.book in
-    if-more (λ file. IsFound timetable 2 network base file found.history.entries found.gate) (λ file. TellsHistory (timetable_of c.args.net.now c.args.base) 2 network base file c.in-Ok-of.book.entries) (g.D.Disk.contents c.args.disk)
-    (λ file is. subst (λ (t : Timetable). TellsHistory t 2 network base file c.in-Ok-of.book.entries) same (subst (λ (l : List Entry). TellsHistory timetable 2 network base file l) (sym entries) (c.one_reading.ensures.found timetable 2 network base file found.history.entries found.gate is)))
+    let entries : c.of-book.result.entries ≡ found.history.entries = ap (λ b. b.entries) c.of-book.ensures.book in
+    if-more (λ file. IsFound timetable 2 network base file found.history.entries found.gate) (λ file. TellsHistory (timetable_of c.args.net.now c.args.base) 2 network base file c.of-book.result.entries) (g.D.Disk.contents c.args.disk)
+    (λ file is. subst (λ (t : Timetable). TellsHistory t 2 network base file c.of-book.result.entries) same (subst (λ (l : List Entry). TellsHistory timetable 2 network base file l) (sym entries) (c.one_reading.ensures.found timetable 2 network base file found.history.entries found.gate is)))
     c.in-Ok-read.ensures.found
 
-pub of-requires-clause-spelled : goal.of-requires-clause-spelled
-of-requires-clause-spelled g c = spelled-has 2 c.in-Ok-read.found.history.entries c.in-Ok-read.ensures.spelled
+pub of-book-requires-clause-spelled : goal.of-book-requires-clause-spelled
+of-book-requires-clause-spelled g c = spelled-has 2 c.in-Ok-read.found.history.entries c.in-Ok-read.ensures.spelled

@@ -11,4 +11,4 @@ invariant_of-result g c =
     let front = c.bytes_are_counted.ensures.front a.network a.base a.history.entries c.has_its_bytes.ensures c.has_its_bytes-2.ensures in
     let gate : a.journal.gate ≡ length (front_of (header_of a.network a.base) (bodies_of a.history.entries)) = omega (arith, front, c.requires.used, c.requires.idle) in
     let kept = c.of-journal.ensures.keeps (header_of a.network a.base) (bodies_of a.history.entries) count gate c.requires.short c.requires.reads in
-    record { digests = (c.has_its_bytes.ensures, c.has_its_bytes-2.ensures); live = c.in-Ok.ensures.live; zones = c.in-Ok.ensures.zones; spelled = c.requires.spelled; kept = kept; room = omega (arith, c.of-journal.ensures.found, c.front.ensures.front) }
+    record { digests = (c.has_its_bytes.ensures, c.has_its_bytes-2.ensures); live = c.requires.live; zones = c.requires.zones; spelled = c.requires.spelled; kept = kept; room = omega (arith, c.of-journal.ensures.found, c.front.ensures.front) }

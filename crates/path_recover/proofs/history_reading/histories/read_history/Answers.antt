@@ -1,4 +1,4 @@
-use Rattle.std.proofs.Common.{◌≡◌, ◌+◌, Bool, false, sym, ap, subst}
+use Rattle.std.proofs.Common.{◌≡◌, ◌+◌, ◌∙◌, Bool, false, sym, ap, subst}
 use Rattle.std.specs.Prelude.{IsTrue}
 use Rattle.grant_log.specs.Following.{AreLive}
 use Rattle.occupation_book.specs.Held.{held}
@@ -14,6 +14,13 @@ returns-in-Shut-clause-found c =
     let old = c.loop-next.fields in
     let shut = subst (NextIs c.args.version old c.next_record.new.fields) c.in-Shut.is c.in-Ok-next_record.ensures in
     read-to c.args.empty.timetable c.args.version c.args.left.now c.loop-next.history c.loop-next.book old c.loop-next.invariant (76 + c.at.result) (ap (λ n. 76 + n) c.at.ensures) c.front-front.ensures.legal shut
+
+pub returns-in-Shut-clause-live : goal.returns-in-Shut-clause-live
+returns-in-Shut-clause-live c =
+    subst (λ t. AreLive t (held c.loop-next.book) c.loop-next.history.entries) (sym c.loop-next.invariant.same) c.loop-next.invariant.live
+
+pub returns-in-Shut-clause-zones : goal.returns-in-Shut-clause-zones
+returns-in-Shut-clause-zones c = c.loop-next.invariant.zones ∙ ap (λ t. t.net.zones) (sym c.loop-next.invariant.same)
 
 pub returns-in-Broken-clause-refused : goal.returns-in-Broken-clause-refused
 returns-in-Broken-clause-refused c =
