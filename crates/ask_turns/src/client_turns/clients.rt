@@ -2,7 +2,6 @@
 ghost use Rattle.std.specs.Prelude.{◌≡◌, IfOk, OnOk};
 ghost use Rattle.ask_turns.specs.Clients.{IsCopyOf, Knows};
 
-use grant_log::copy_since::copy_of;
 use no_memory::NoMemory;
 use occupation_book::Occupations;
 use outside_io::Disk;
@@ -25,7 +24,7 @@ impl Client {
         ensures copy { IfOk result (λ client.
             IsCopyOf book.now.timetable client book.now.entries) }
     {
-        let copy = copy_of(alloc, book.history())?;
+        let copy = book.occupations().copy(alloc)?;
         let front = book.front();
         Ok(Client { name, copy, front })
     }
