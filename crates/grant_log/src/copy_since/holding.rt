@@ -24,7 +24,8 @@ pub fn hold_all(book: &mut Occupations, claims: &[(Claim, Owner)])
     }
 }
 
-// Holds these claims too, those of each zone by their begins: where none stood on the zone, each comes at its end.
+// Holds these claims too, those of each zone by their begins: where none stood on the zone, each
+// comes at its end.
 pub(crate) fn hold_in_order(book: &mut Occupations, claims: Vec<(Claim, Owner)>)
     requires each { All (MayBeHeld (length book.old)) claims.items }
     requires free { All (λ one. IsFree (held book.old) one.0) claims.items }
