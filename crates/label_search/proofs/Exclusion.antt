@@ -50,7 +50,7 @@ module _ (plan : Plan) (trip : Trip) (tick : ℤ) where
       by_lt_z (arrival plan steps) tick (λ early. absurd (path_excluded plan (before trip tick) book members closed steps (path_before steps path early) fits)) (λ late. late)
 
 -- a train that goes on has waited as long as it must at least
-waited : (place : Place) (standing : Bool) (arrive enter : ℤ) → standing ≡ place.standing → Enters place arrive enter → (arrive +ℤ (if standing then place.dwell else pos 0)) ≤ℤ enter
+pub waited : (place : Place) (standing : Bool) (arrive enter : ℤ) → standing ≡ place.standing → Enters place arrive enter → (arrive +ℤ (if standing then place.dwell else pos 0)) ≤ℤ enter
 waited place true arrive enter same enters = enters.0 (sym same)
 waited place false arrive enter same enters =
     let moving : ¬ IsTrue place.standing = λ standing. cc in

@@ -16,3 +16,11 @@ pub mod Rebuilding
 pub mod Within
 pub mod Seeking
 pub mod Below
+pub mod Taking
+pub mod Settling
+pub mod Arriving
+pub mod Handling
+pub mod Leaving
+pub mod Advancing
+pub mod Going
+pub mod Doing

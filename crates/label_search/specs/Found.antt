@@ -1,15 +1,12 @@
 -- What a search finds that keeps no members.
-use Rattle.std.specs.Prelude.{ℤ, pos, ◌<ℤ◌, ◌≤ℤ◌, List, Option, None, Some}
-use Rattle.label_search.specs.declared.plans.TheConstants.{LATEST}
+use Rattle.std.specs.Prelude.{ℤ, ◌≤ℤ◌, List, Option, None, Some}
 use Rattle.label_search.specs.declared.plans.Plan.{Plan}
 use Rattle.label_search.specs.declared.plans.Trip.{Trip}
 use Rattle.label_search.specs.declared.plans.Step.{Step}
 use Rattle.label_search.specs.declared.finds.Finding.{Finding}
 use Rattle.label_search.specs.declared.finds.Finding.TheVariants.{Found, NoPath}
-use Rattle.label_search.specs.declared.finds.Reach.{Reach}
 use Rattle.label_search.specs.Free.{Book}
 use Rattle.label_search.specs.Paths.{IsPath, PathFits, Possible, arrival}
-use Rattle.rail_types.specs.Limits.{IsNear}
 
 -- no path that fits arrives before the tick
 abbrev pub ArriveFrom : Plan → Trip → Book → ℤ → Type 0
@@ -29,7 +26,3 @@ IsFinding plan trip book NoPath = ¬ Possible plan trip book
 abbrev pub IsFoundBelow : Plan → Trip → Book → ℤ → Option (List Step) → Type 0
 IsFoundBelow plan trip book below None = ArriveFrom plan trip book below
 IsFoundBelow plan trip book below (Some steps) = IsLeast plan trip book steps
-
-pub record IsReach (reach : Reach) : Type 0 where
-  pub below : IsNear reach.below
-  pub slack : (pos 0 <ℤ reach.slack) × (reach.slack ≤ℤ LATEST)

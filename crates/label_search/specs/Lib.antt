@@ -10,3 +10,5 @@ pub mod Search
 pub mod Rebuilt
 pub mod Found
 pub mod Sought
+pub mod Queues
+pub mod Pending

@@ -12,12 +12,31 @@ use crate::plans::{Move, Place, Plan, Target};
 use no_memory::NoMemory;
 use rail_types::{FAR_TICK, List, Tick};
 use std::alloc::Global;
+use std::mem;
 
 // A move into a place: where from, and its ticks with the wait before it.
 #[derive(Clone, Copy, Debug)]
 struct Entry {
     from: usize,
     ticks: Tick,
+}
+
+// The moves into each place, and into the end, which stands as one place behind the others: those
+// into one stand together, from its first on.
+#[derive(Debug, Drop)]
+struct Entries {
+    firsts: Vec<usize>,
+    entries: Vec<Entry>,
+}
+
+impl Entries {
+    // The number of the first move into a place, or of what stands behind all.
+    fn first(&self, place: usize) -> usize {
+        match self.firsts.get(place) {
+            Some(first) => *first,
+            None => self.entries.len(),
+        }
+    }
 }
 
 /// The ticks from each place to an end, which no train takes faster.
@@ -97,13 +116,14 @@ fn distances(alloc: Global, plan: &Plan) -> Result<Vec<Ahead>, NoMemory> {
     let mut ahead = all_far(alloc, end)?;
     let mut open = Vec::new(alloc);
     open.push(end)?;
+    let mut nearer = Vec::new(alloc);
     for _ in 0..end {
-        open = nearer(
-            alloc,
-            entries.as_slice(),
-            ahead.as_mut_slice(),
-            open.as_slice(),
-        )?;
+        come_nearer(&entries, ahead.as_mut_slice(), open.as_slice(), &mut nearer)?;
+        mem::swap(&mut open, &mut nearer);
+        nearer.clear();
+        if open.is_empty() {
+            return Ok(ahead);
+        }
     }
     Ok(ahead)
 }
@@ -117,29 +137,38 @@ fn all_far(alloc: Global, places: usize) -> Result<Vec<Ahead>, NoMemory> {
     Ok(ahead)
 }
 
-// The places that come nearer by a move into one of these.
-fn nearer(
-    alloc: Global,
-    entries: &[Vec<Entry>],
+// Adds the places that come nearer by a move into one of these.
+fn come_nearer(
+    entries: &Entries,
     ahead: &mut [Ahead],
     open: &[usize],
-) -> Result<Vec<usize>, NoMemory> {
-    let mut next = Vec::new(alloc);
+    nearer: &mut Vec<usize>,
+) -> Result<(), NoMemory> {
     for place in open {
-        let Some(there) = ahead.get(*place) else {
-            continue;
+        come_nearer_to(entries, ahead, *place, nearer)?;
+    }
+    Ok(())
+}
+
+fn come_nearer_to(
+    entries: &Entries,
+    ahead: &mut [Ahead],
+    place: usize,
+    nearer: &mut Vec<usize>,
+) -> Result<(), NoMemory> {
+    let Some(there) = ahead.get(place) else {
+        return Ok(());
+    };
+    let there = *there;
+    for number in entries.first(place)..entries.first(place.saturating_add(1)) {
+        let Some(entry) = entries.entries.get(number) else {
+            return Ok(());
         };
-        let there = *there;
-        let Some(into) = entries.get(*place) else {
-            continue;
-        };
-        for entry in into.as_slice() {
-            if comes_nearer(ahead, entry, &there) {
-                next.push(entry.from)?;
-            }
+        if comes_nearer(ahead, entry, &there) {
+            nearer.push(entry.from)?;
         }
     }
-    Ok(next)
+    Ok(())
 }
 
 fn comes_nearer(ahead: &mut [Ahead], entry: &Entry, there: &Ahead) -> bool {
@@ -154,37 +183,77 @@ fn comes_nearer(ahead: &mut [Ahead], entry: &Entry, there: &Ahead) -> bool {
     true
 }
 
-// Of each place, and of the end, the moves into it.
-fn entries_of(alloc: Global, plan: &Plan) -> Result<Vec<Vec<Entry>>, NoMemory> {
+// The moves into each place, and into the end.
+fn entries_of(alloc: Global, plan: &Plan) -> Result<Entries, NoMemory> {
     let places = plan.places.as_slice();
-    let mut entries = Vec::new(alloc);
+    let mut firsts = Vec::new(alloc);
     for _ in 0..=places.len() {
-        entries.push(Vec::new(alloc))?;
+        firsts.push(0usize)?;
     }
+    for place in places {
+        count_moves(firsts.as_mut_slice(), places.len(), place);
+    }
+    let count = sum_up(firsts.as_mut_slice());
+    let mut entries = no_entries(alloc, count)?;
     for from in 0..places.len() {
-        enter(entries.as_mut_slice(), places.len(), from, &places[from])?;
+        enter(
+            firsts.as_mut_slice(),
+            entries.as_mut_slice(),
+            places.len(),
+            from,
+            &places[from],
+        );
+    }
+    Ok(Entries { firsts, entries })
+}
+
+// How many moves lead to each place.
+fn count_moves(counts: &mut [usize], end: usize, place: &Place) {
+    for step in place.moves.as_slice() {
+        if let Some(count) = counts.get_mut(target_of(step, end)) {
+            *count = count.saturating_add(1);
+        }
+    }
+}
+
+// Of each place how many there are up to it, and of all.
+fn sum_up(counts: &mut [usize]) -> usize {
+    let mut sum = 0usize;
+    for count in counts.iter_mut() {
+        sum = sum.saturating_add(*count);
+        *count = sum;
+    }
+    sum
+}
+
+fn no_entries(alloc: Global, count: usize) -> Result<Vec<Entry>, NoMemory> {
+    let mut entries = Vec::new(alloc);
+    for _ in 0..count {
+        entries.push(Entry { from: 0, ticks: 0 })?;
     }
     Ok(entries)
 }
 
-fn enter(
-    entries: &mut [Vec<Entry>],
-    end: usize,
-    from: usize,
-    place: &Place,
-) -> Result<(), NoMemory> {
+// Puts the moves from a place before those that stand at their places already.
+fn enter(firsts: &mut [usize], entries: &mut [Entry], end: usize, from: usize, place: &Place) {
     let wait = if place.standing { place.dwell } else { 0 };
     for step in place.moves.as_slice() {
-        let to = match step.target {
-            Target::Place(to) => to as usize,
-            Target::End => end,
+        let Some(first) = firsts.get_mut(target_of(step, end)) else {
+            continue;
         };
-        if let Some(into) = entries.get_mut(to) {
-            into.push(Entry {
+        *first = first.saturating_sub(1);
+        if let Some(entry) = entries.get_mut(*first) {
+            *entry = Entry {
                 from,
                 ticks: wait.saturating_add(step.run),
-            })?;
+            };
         }
     }
-    Ok(())
+}
+
+fn target_of(step: &Move, end: usize) -> usize {
+    match step.target {
+        Target::Place(to) => to as usize,
+        Target::End => end,
+    }
 }

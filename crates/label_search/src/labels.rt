@@ -98,8 +98,8 @@ impl Labels {
         ensures labels { IfOk result (λ known. known.labels ≡ []) }
         ensures places { IfOk result (λ known. known.places ≡ places) }
     {
-        let mut arrived = Vec::new(alloc);
-        let mut ready = Vec::new(alloc);
+        let mut arrived = Vec::with_capacity(alloc, places)?;
+        let mut ready = Vec::with_capacity(alloc, places)?;
         for _ in 0..places {
             arrived.push(Seen::new(alloc))?;
             ready.push(Seen::new(alloc))?;
@@ -115,6 +115,14 @@ impl Labels {
         ensures { result ≡ length self.now.labels }
     {
         self.labels.len()
+    }
+
+    // The place and the ticks of a label.
+    pub(crate) fn front(&self, number: usize) -> Front
+        requires { number < length self.now.labels }
+        ensures { result ≡ as_front (label_at self.now.labels number) }
+    {
+        front_of(&self.labels[number])
     }
 
     // The last label before a number that has a tick.

@@ -3,11 +3,13 @@
 
 mod bounding;
 mod finds;
+mod firsts;
 mod labels;
 mod laws;
 mod limits;
 mod paths;
 mod plans;
+mod queues;
 mod searches;
 mod seeks;
 mod seen;

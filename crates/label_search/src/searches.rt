@@ -94,7 +94,7 @@ fn explore_fronts(
 }
 
 // The label of the start.
-fn start(
+pub(crate) fn start(
     alloc: Global,
     plan: &Plan,
     book: &Occupations,
@@ -207,7 +207,7 @@ fn explore_move(
 }
 
 // What a move leads to that is entered at any of these ticks of a label.
-fn reach(
+pub(crate) fn reach(
     plan: &Plan,
     book: &Occupations,
     trip: &Trip,
@@ -338,7 +338,7 @@ fn explore_waits(
 }
 
 // Where there is no dwell the train can go on when it comes.
-fn go_on_at_once(
+pub(crate) fn go_on_at_once(
     plan: &Plan,
     book: &Occupations,
     trip: &Trip,
@@ -363,7 +363,7 @@ fn go_on_at_once(
 }
 
 // A label for the ticks at which the train can go on, after it came at those of another.
-fn wait(
+pub(crate) fn wait(
     plan: &Plan,
     book: &Occupations,
     trip: &Trip,
@@ -410,7 +410,7 @@ pub(crate) fn move_at(plan: &Plan, place: u32, number: usize) -> &Move
 
 // The ticks of a label at which a move can be entered, leave by the
 // horizon and end below the limit.
-fn enters(front: &Front, plan: &Plan, limits: &Limits, step: &Move) -> Window
+pub(crate) fn enters(front: &Front, plan: &Plan, limits: &Limits, step: &Move) -> Window
     requires horizon { IsShort plan.now.horizon }
     requires run { IsShort step.now.run }
     requires limits { IsLimits limits.now }
@@ -461,7 +461,7 @@ fn later(free: &Window, step: &Move) -> Window
     }
 }
 
-fn until_the_horizon(ticks: &Window, plan: &Plan) -> Window
+pub(crate) fn until_the_horizon(ticks: &Window, plan: &Plan) -> Window
     ensures from { result.from ≡ ticks.now.from }
     ensures to { result.to ≡ plan.now.horizon }
 {
@@ -473,7 +473,7 @@ fn until_the_horizon(ticks: &Window, plan: &Plan) -> Window
 
 // The ticks at which the train can go on that stands at free ticks: it may
 // leave as the last of them ends.
-fn ready_ticks(free: &Window, place: &Place, plan: &Plan) -> Window
+pub(crate) fn ready_ticks(free: &Window, place: &Place, plan: &Plan) -> Window
     requires near { IsNear free.now.from × IsNear free.now.to }
     requires dwell { IsShort place.now.dwell }
     ensures from { result.from ≡ free.now.from +ℤ place.now.dwell }

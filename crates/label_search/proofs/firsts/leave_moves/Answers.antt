@@ -1,0 +1,34 @@
+use Rattle.std.proofs.Common.{◌<◌, length, arith, sym, subst, inl, inr}
+use Rattle.std.proofs.lemmas.Bool.{cases_eq}
+use Rattle.label_search.specs.Pending.{IsMoveInHand}
+use Rattle.label_search.proofs.Growth.{front_further}
+use Rattle.label_search.proofs.Advancing.{advanced_none, advanced_more, move_in_hand_more}
+use Rattle.label_search.proofs.firsts.leave_moves.Goals as goal
+
+pub loop-number-init : goal.loop-number-init
+loop-number-init c = record {
+  search = c.requires.search;
+  advanced = advanced_none c.args.plan.now c.args.search.now c.args.queue.now;
+  done = λ tick held number early. absurd (omega arith);
+}
+
+pub go_on-requires-clause-part : goal.go_on-requires-clause-part
+go_on-requires-clause-part c = front_further c.args.plan.now c.args.search.now c.loop-number.search c.args.front.now c.loop-number.invariant.advanced.further c.requires.front
+
+pub loop-number-preserved : goal.loop-number-preserved
+loop-number-preserved c =
+    let step = c.in_ok-go_on.ensures.advanced in
+    record {
+      search = c.go_on.ensures.search;
+      advanced = advanced_more c.args.plan.now c.args.search.now c.loop-number.search c.go_on.new.search c.args.queue.now c.loop-number.queue c.go_on.new.queue c.loop-number.invariant.advanced step;
+      done = λ tick held number early. elim (cases_eq number c.loop-number.number) [
+        | inl same ↦ subst (λ n. IsMoveInHand c.args.plan.now c.args.trip.now c.args.book.now c.go_on.new.search c.go_on.new.queue c.args.label c.args.front.now.place tick n) (sym same) (c.in_ok-go_on.ensures.done tick held)
+        | inr differs ↦ move_in_hand_more c.loop-number.queue c.go_on.new.queue step.kept c.args.plan.now c.loop-number.search c.go_on.new.search step.further c.args.trip.now c.args.book.now c.args.label c.args.front.now.place tick number (c.loop-number.invariant.done tick held number (omega arith))
+      ];
+    }
+
+pub returns-clause-done : goal.returns-clause-done
+returns-clause-done c tick held number inside =
+    let within : number < length c.place_at-place.result.now.moves = subst (λ p. number < length p.moves) (sym c.place_at-place.ensures) inside in
+    let count = c.len-number-end.ensures in
+    c.loop-number.invariant.done tick held number (omega arith)

@@ -1,0 +1,476 @@
+//! The search in the order of least arrival: what a label leads to is looked at when it is due, and
+//! of a move its first free ticks alone. So the first end that is met is the earliest, and nothing
+//! that could arrive later is looked at.
+
+ghost use Rattle.std.specs.Prelude.{◌≡◌, ◌⊎◌, ℕ, ◌<◌, ◌≤◌, ℤ, pos, ◌+ℤ◌, ◌-ℤ◌, ◌<ℤ◌, ◌≤ℤ◌, false};
+ghost use Rattle.std.specs.Prelude.{true, length, IfOk, IsTrue, OnOk};
+ghost use Rattle.std.specs.Int.{int_max};
+ghost use Rattle.free_windows.specs.Free.{Holds};
+ghost use Rattle.rail_types.specs.Limits.{IsNear};
+ghost use Rattle.label_search.specs.Plans.{IsPlan, IsShort};
+ghost use Rattle.label_search.specs.Paths.{place_at as place_of};
+ghost use Rattle.label_search.specs.Limits.{IsAhead, IsConsistent, IsLimits};
+ghost use Rattle.label_search.specs.Labels.{as_front, label_at};
+ghost use Rattle.label_search.specs.Search.{IsFrontOf, IsSearch, IsStarted};
+ghost use Rattle.label_search.specs.Queues.{Waits};
+ghost use Rattle.label_search.specs.Pending.{AreLongWaitsInHand, AreToBeLeft, AreWaitsInHand};
+ghost use Rattle.label_search.specs.Pending.{IsAdvanced, IsDone, IsMoveInHand, IsSettled};
+ghost use Rattle.label_search.specs.Pending.{IsToBeLeft, stop_at, waited as waited_there};
+ghost use Rattle.label_search.specs.declared.queues.Due.{Due as due_type};
+
+use crate::labels::Front;
+use crate::limits::{Ahead, Limits, ahead_at, ahead_to};
+use crate::plans::{Move, Place, Plan, Trip};
+use crate::queues::{Due, Queue, Task, Work};
+use crate::searches::{
+    Search, enters, go_on_at_once, move_at, place_at, reach, ready_ticks, start, until_the_horizon,
+    wait,
+};
+use free_windows::next_start;
+use no_memory::NoMemory;
+use occupation_book::Occupations;
+use rail_types::{Tick, Window};
+use std::alloc::Global;
+
+// What the search has when no work is due before its best end.
+pub(crate) fn explore_first(
+    alloc: Global,
+    plan: &Plan,
+    book: &Occupations,
+    trip: &Trip,
+    limits: Limits,
+) -> Result<Search, NoMemory>
+    requires plan { IsPlan plan.now book.now }
+    requires limits { IsLimits limits }
+    requires consistent { IsConsistent plan.now limits.ahead }
+    ensures limits { IfOk result (λ search. search.limits ≡ limits) }
+    ensures search { IfOk result (IsSearch plan.now trip.now book.now) }
+    ensures started { IfOk result (IsStarted plan.now trip.now) }
+    ensures settled { IfOk result (IsSettled plan.now trip.now book.now) }
+{
+    let mut search = start(alloc, plan, book, trip, limits)?;
+    let mut queue = Queue::new(alloc);
+    leave_later(alloc, plan, book, trip, &search, &mut queue, 0)?;
+    for _ in 0..u64::MAX {
+        let stop = stop_of(&search);
+        let Some(due) = queue.pop_before(&stop.ticks) else {
+            return Ok(search);
+        };
+        take_up(alloc, plan, book, trip, &mut search, &mut queue, &due.task)?;
+    }
+    // More work than can be counted.
+    Err(NoMemory)
+}
+
+// The tick of the best end, or the limit.
+fn stop_of(search: &Search) -> Ahead
+    ensures { result.ticks ≡ stop_at search.now.limits.below search.now.best }
+{
+    match search.best {
+        Some(ending) => Ahead {
+            ticks: ending.arrive.from,
+        },
+        None => Ahead {
+            ticks: search.limits.below,
+        },
+    }
+}
+
+// Does work of a label.
+fn take_up(
+    alloc: Global,
+    plan: &Plan,
+    book: &Occupations,
+    trip: &Trip,
+    search: &mut Search,
+    queue: &mut Queue,
+    task: &Task,
+) -> Result<(), NoMemory>
+    requires plan { IsPlan plan.now book.now }
+    requires search { IsSearch plan.now trip.now book.now search.old }
+    ensures search { IsSearch plan.now trip.now book.now search.new }
+    ensures advanced { OnOk result (IsAdvanced plan.now search.old search.new queue.old queue.new) }
+    ensures done { OnOk result (task.now.label < length search.old.labels.labels
+        → IsDone plan.now trip.now book.now search.new queue.new task.now.label
+        (as_front (label_at search.old.labels.labels task.now.label)) task.now.work) }
+{
+    if task.label >= search.labels.len() {
+        return Ok(());
+    }
+    let front = search.labels.front(task.label);
+    match &task.work {
+        Work::Leave => leave(alloc, plan, book, trip, search, queue, &front, task.label),
+        Work::Wait { from } => {
+            let part = part_from(&front, from);
+            wait_on(alloc, plan, book, trip, search, queue, &part, task.label)
+        }
+        Work::Move { number, from } => {
+            let part = part_from(&front, from);
+            move_on(
+                alloc, plan, book, trip, search, queue, &part, task.label, *number,
+            )
+        }
+    }
+}
+
+// The ticks of a label from one on.
+fn part_from(front: &Front, from: &Tick) -> Front
+    ensures place { result.place ≡ front.now.place }
+    ensures ready { result.ready ≡ front.now.ready }
+    ensures from { result.ticks.from ≡ int_max front.now.ticks.from from.now }
+    ensures to { result.ticks.to ≡ front.now.ticks.to }
+{
+    Front {
+        place: front.place,
+        ready: front.ready,
+        ticks: Window {
+            from: front.ticks.from.max(*from),
+            to: front.ticks.to,
+        },
+    }
+}
+
+// All work of a label: the waits, where the train stands there and has not waited, else the moves.
+fn leave(
+    alloc: Global,
+    plan: &Plan,
+    book: &Occupations,
+    trip: &Trip,
+    search: &mut Search,
+    queue: &mut Queue,
+    front: &Front,
+    label: usize,
+) -> Result<(), NoMemory>
+    requires plan { IsPlan plan.now book.now }
+    requires front { IsFrontOf plan.now search.old front.now }
+    requires search { IsSearch plan.now trip.now book.now search.old }
+    ensures search { IsSearch plan.now trip.now book.now search.new }
+    ensures advanced { OnOk result (IsAdvanced plan.now search.old search.new queue.old queue.new) }
+    ensures done { OnOk result (IsDone plan.now trip.now book.now search.new queue.new label
+        front.now Work.Leave) }
+{
+    let place = place_at(plan, front.place);
+    if place.standing && !front.ready {
+        return leave_waits(alloc, plan, book, trip, search, queue, front, label);
+    }
+    leave_moves(alloc, plan, book, trip, search, queue, front, label)
+}
+
+fn leave_moves(
+    alloc: Global,
+    plan: &Plan,
+    book: &Occupations,
+    trip: &Trip,
+    search: &mut Search,
+    queue: &mut Queue,
+    front: &Front,
+    label: usize,
+) -> Result<(), NoMemory>
+    requires plan { IsPlan plan.now book.now }
+    requires front { IsFrontOf plan.now search.old front.now }
+    requires goes { IsTrue (place_of plan.now front.now.place).standing → front.now.ready ≡ true }
+    requires search { IsSearch plan.now trip.now book.now search.old }
+    ensures search { IsSearch plan.now trip.now book.now search.new }
+    ensures advanced { OnOk result (IsAdvanced plan.now search.old search.new queue.old queue.new) }
+    ensures done { OnOk result ((tick : ℤ) → Holds front.now.ticks tick → (number : ℕ)
+        → number < length (place_of plan.now front.now.place).moves
+        → IsMoveInHand plan.now trip.now book.now search.new queue.new label front.now.place tick
+        number) }
+{
+    let place = place_at(plan, front.place);
+    for number in 0..place.moves.len() {
+        go_on(alloc, plan, book, trip, search, queue, front, label, number)?;
+    }
+    Ok(())
+}
+
+fn leave_waits(
+    alloc: Global,
+    plan: &Plan,
+    book: &Occupations,
+    trip: &Trip,
+    search: &mut Search,
+    queue: &mut Queue,
+    front: &Front,
+    label: usize,
+) -> Result<(), NoMemory>
+    requires plan { IsPlan plan.now book.now }
+    requires front { IsFrontOf plan.now search.old front.now }
+    requires standing { IsTrue (place_of plan.now front.now.place).standing }
+    requires arrived { front.now.ready ≡ false }
+    requires search { IsSearch plan.now trip.now book.now search.old }
+    ensures search { IsSearch plan.now trip.now book.now search.new }
+    ensures advanced { OnOk result (IsAdvanced plan.now search.old search.new queue.old queue.new) }
+    ensures done { OnOk result ((tick : ℤ) → Holds front.now.ticks tick
+        → AreWaitsInHand plan.now book.now search.new queue.new label front.now.place tick) }
+{
+    let known = search.labels.len();
+    go_on_at_once(plan, book, trip, search, front)?;
+    leave_later(alloc, plan, book, trip, search, queue, known)?;
+    go_on_waiting(alloc, plan, book, trip, search, queue, front, label)?;
+    Ok(())
+}
+
+// A move at ticks of a label, where there is such a move and the train can go on.
+fn move_on(
+    alloc: Global,
+    plan: &Plan,
+    book: &Occupations,
+    trip: &Trip,
+    search: &mut Search,
+    queue: &mut Queue,
+    part: &Front,
+    label: usize,
+    number: usize,
+) -> Result<(), NoMemory>
+    requires plan { IsPlan plan.now book.now }
+    requires part { IsFrontOf plan.now search.old part.now }
+    requires search { IsSearch plan.now trip.now book.now search.old }
+    ensures search { IsSearch plan.now trip.now book.now search.new }
+    ensures advanced { OnOk result (IsAdvanced plan.now search.old search.new queue.old queue.new) }
+    ensures done { OnOk result ((IsTrue (place_of plan.now part.now.place).standing
+        → part.now.ready ≡ true) → number < length (place_of plan.now part.now.place).moves
+        → (tick : ℤ) → Holds part.now.ticks tick → IsMoveInHand plan.now trip.now book.now
+        search.new queue.new label part.now.place tick number) }
+{
+    let place = place_at(plan, part.place);
+    if number >= place.moves.len() {
+        return Ok(());
+    }
+    if place.standing && !part.ready {
+        return Ok(());
+    }
+    go_on(alloc, plan, book, trip, search, queue, part, label, number)
+}
+
+// The waits from ticks of a label, where the train stands there and has not waited.
+fn wait_on(
+    alloc: Global,
+    plan: &Plan,
+    book: &Occupations,
+    trip: &Trip,
+    search: &mut Search,
+    queue: &mut Queue,
+    part: &Front,
+    label: usize,
+) -> Result<(), NoMemory>
+    requires plan { IsPlan plan.now book.now }
+    requires part { IsFrontOf plan.now search.old part.now }
+    requires search { IsSearch plan.now trip.now book.now search.old }
+    ensures search { IsSearch plan.now trip.now book.now search.new }
+    ensures advanced { OnOk result (IsAdvanced plan.now search.old search.new queue.old queue.new) }
+    ensures done { OnOk result (IsTrue (place_of plan.now part.now.place).standing
+        → part.now.ready ≡ false → (tick : ℤ) → Holds part.now.ticks tick
+        → AreLongWaitsInHand plan.now book.now search.new queue.new label part.now.place tick) }
+{
+    let place = place_at(plan, part.place);
+    if place.standing && !part.ready {
+        return go_on_waiting(alloc, plan, book, trip, search, queue, part, label);
+    }
+    Ok(())
+}
+
+// The first free ticks of a move among those of a label; what is behind them waits.
+fn go_on(
+    alloc: Global,
+    plan: &Plan,
+    book: &Occupations,
+    trip: &Trip,
+    search: &mut Search,
+    queue: &mut Queue,
+    part: &Front,
+    label: usize,
+    number: usize,
+) -> Result<(), NoMemory>
+    requires plan { IsPlan plan.now book.now }
+    requires part { IsFrontOf plan.now search.old part.now }
+    requires number { number < length (place_of plan.now part.now.place).moves }
+    requires goes { IsTrue (place_of plan.now part.now.place).standing → part.now.ready ≡ true }
+    requires search { IsSearch plan.now trip.now book.now search.old }
+    ensures search { IsSearch plan.now trip.now book.now search.new }
+    ensures advanced { OnOk result (IsAdvanced plan.now search.old search.new queue.old queue.new) }
+    ensures done { OnOk result ((tick : ℤ) → Holds part.now.ticks tick
+        → IsMoveInHand plan.now trip.now book.now search.new queue.new label part.now.place tick
+        number) }
+{
+    let step = move_at(plan, part.place, number);
+    let rest = enters(part, plan, &search.limits, step);
+    let Some(free) = next_start(step.pieces.as_slice(), book, &rest) else {
+        return Ok(());
+    };
+    let known = search.labels.len();
+    reach(plan, book, trip, search, part, number, &free)?;
+    leave_later(alloc, plan, book, trip, search, queue, known)?;
+    if free.to >= rest.to {
+        return Ok(());
+    }
+    let ahead = ahead_to(&search.limits.ahead, &step.target);
+    queue.push(alloc, &move_behind(&free, step, &ahead, label, number))
+}
+
+// A move behind its first free ticks.
+fn move_behind(free: &Window, step: &Move, ahead: &Ahead, label: usize, number: usize) -> Due
+    requires near { IsNear free.now.from × IsNear free.now.to }
+    requires run { IsShort step.now.run }
+    requires ahead { IsAhead ahead.now }
+    ensures tick { result.tick ≡ ((free.now.to +ℤ pos 1) +ℤ step.now.run) +ℤ ahead.now.ticks }
+    ensures label { result.task.label ≡ label }
+    ensures work { result.task.work ≡ Work.Move number (free.now.to +ℤ pos 1) }
+{
+    Due {
+        tick: free.to + 1 + step.run + ahead.ticks,
+        task: Task {
+            label,
+            work: Work::Move {
+                number,
+                from: free.to + 1,
+            },
+        },
+    }
+}
+
+// The first free ticks at which a train can stand that came at ticks of a
+// label; what is behind them waits.
+fn go_on_waiting(
+    alloc: Global,
+    plan: &Plan,
+    book: &Occupations,
+    trip: &Trip,
+    search: &mut Search,
+    queue: &mut Queue,
+    part: &Front,
+    label: usize,
+) -> Result<(), NoMemory>
+    requires plan { IsPlan plan.now book.now }
+    requires part { IsFrontOf plan.now search.old part.now }
+    requires standing { IsTrue (place_of plan.now part.now.place).standing }
+    requires arrived { part.now.ready ≡ false }
+    requires search { IsSearch plan.now trip.now book.now search.old }
+    ensures search { IsSearch plan.now trip.now book.now search.new }
+    ensures advanced { OnOk result (IsAdvanced plan.now search.old search.new queue.old queue.new) }
+    ensures done { OnOk result ((tick : ℤ) → Holds part.now.ticks tick
+        → AreLongWaitsInHand plan.now book.now search.new queue.new label part.now.place tick) }
+{
+    let place = place_at(plan, part.place);
+    let rest = until_the_horizon(&part.ticks, plan);
+    let Some(free) = next_start(place.waits.as_slice(), book, &rest) else {
+        return Ok(());
+    };
+    if free.from > part.ticks.to {
+        return Ok(());
+    }
+    let known = search.labels.len();
+    wait(
+        plan,
+        book,
+        trip,
+        search,
+        part,
+        &ready_ticks(&free, place, plan),
+    )?;
+    leave_later(alloc, plan, book, trip, search, queue, known)?;
+    if free.to >= part.ticks.to {
+        return Ok(());
+    }
+    let ahead = ahead_at(&search.limits.ahead, part.place as usize);
+    let due = waits_behind(&free, &ahead, label);
+    if due.tick >= search.limits.below {
+        return Ok(());
+    }
+    queue.push(alloc, &due)
+}
+
+// The waits of trains that came behind free ticks.
+fn waits_behind(free: &Window, ahead: &Ahead, label: usize) -> Due
+    requires near { IsNear free.now.from × IsNear free.now.to }
+    requires ahead { IsAhead ahead.now }
+    ensures tick { result.tick ≡ (free.now.to +ℤ pos 1) +ℤ ahead.now.ticks }
+    ensures label { result.task.label ≡ label }
+    ensures work { result.task.work ≡ Work.Wait (free.now.to +ℤ pos 1) }
+{
+    Due {
+        tick: free.to + 1 + ahead.ticks,
+        task: Task {
+            label,
+            work: Work::Wait { from: free.to + 1 },
+        },
+    }
+}
+
+// All work of the labels from a number on.
+fn leave_later(
+    alloc: Global,
+    plan: &Plan,
+    book: &Occupations,
+    trip: &Trip,
+    search: &Search,
+    queue: &mut Queue,
+    from: usize,
+) -> Result<(), NoMemory>
+    requires plan { IsPlan plan.now book.now }
+    requires search { IsSearch plan.now trip.now book.now search.now }
+    ensures kept { (due : due_type) → Waits queue.old due → Waits queue.new due }
+    ensures left { OnOk result (AreToBeLeft plan.now search.now queue.new from) }
+{
+    for label in from..search.labels.len() {
+        leave_one(alloc, plan, book, trip, search, queue, label)?;
+    }
+    Ok(())
+}
+
+// All work of a label, unless what it leads to cannot arrive below the limit.
+fn leave_one(
+    alloc: Global,
+    plan: &Plan,
+    book: &Occupations,
+    trip: &Trip,
+    search: &Search,
+    queue: &mut Queue,
+    label: usize,
+) -> Result<(), NoMemory>
+    requires plan { IsPlan plan.now book.now }
+    requires search { IsSearch plan.now trip.now book.now search.now }
+    requires label { label < length search.now.labels.labels }
+    ensures kept { (due : due_type) → Waits queue.old due → Waits queue.new due }
+    ensures left { OnOk result (IsToBeLeft plan.now search.now queue.new label) }
+{
+    let front = search.labels.front(label);
+    let place = place_at(plan, front.place);
+    let ahead = ahead_at(&search.limits.ahead, front.place as usize);
+    let due = leaving(&front, &waited(front.ready, place), &ahead, label);
+    if due.tick >= search.limits.below {
+        return Ok(());
+    }
+    queue.push(alloc, &due)
+}
+
+fn leaving(front: &Front, waited: &Ahead, ahead: &Ahead, label: usize) -> Due
+    requires ticks { IsShort front.now.ticks.from }
+    requires waited { IsShort waited.now.ticks }
+    requires ahead { IsAhead ahead.now }
+    ensures tick { result.tick ≡ front.now.ticks.from +ℤ int_max (ahead.now.ticks -ℤ
+        waited.now.ticks) (pos 0) }
+    ensures label { result.task.label ≡ label }
+    ensures work { result.task.work ≡ Work.Leave }
+{
+    Due {
+        tick: front.ticks.from + (ahead.ticks - waited.ticks).max(0),
+        task: Task {
+            label,
+            work: Work::Leave,
+        },
+    }
+}
+
+// The ticks that a train has waited that is ready at a place.
+fn waited(ready: bool, place: &Place) -> Ahead
+    requires dwell { IsShort place.now.dwell }
+    ensures value { result.ticks ≡ waited_there place.now ready }
+    ensures short { IsShort result.ticks }
+{
+    if ready && place.standing {
+        Ahead { ticks: place.dwell }
+    } else {
+        Ahead { ticks: 0 }
+    }
+}
