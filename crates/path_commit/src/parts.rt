@@ -15,11 +15,11 @@ ghost use Rattle.path_commit.specs.Ledgers.{IsPrefixOf, settled_of as settled_in
 
 use crate::answers::Committed;
 use crate::judging::judge;
-use grant_log::copy_since::{Change, change_of, follow, reserve_change};
 use entry_codec::body_len;
 use grant_journal::journal_moments::TimedJournal;
 use grant_journal::journal_text::{bytes_are_counted, record};
 use grant_journal::{Settled, Stage, Written};
+use grant_log::copy_since::{Change, change_of, follow, reserve_change};
 use grant_log::{History, live_claims_follow};
 use no_memory::NoMemory;
 use occupation_book::Occupations;
