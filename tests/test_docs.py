@@ -3,6 +3,7 @@
 
 Each name that docs/DEFINITIONS.md and docs/MAP.md cite stands in the crates that they name: an item
 of a list names those that it cites by themselves or as `crate::module`, and those of its heading.
+Each source, spec and proof that an item of CONTRIBUTING.md cites is one of a crate that it names.
 The order of docs/MAP.md is that of crates.txt, in which a crate names only those above it, and none
 stands on one of a higher floor. Links lead to files and headings that are there. What fenced blocks
 run exists and takes these options, and blocks behind a line `<!-- run -->` are run in a copy of the
@@ -50,6 +51,8 @@ BULLET = re.compile(r"- `(\w+)`:")
 #: A step of a walk in docs/MAP.md.
 STEP = re.compile(r"\d+\. ")
 HEADING = re.compile(r"^#+ +(.+?) *$", re.M)
+#: A file of a crate from which it is proved.
+SOURCE = re.compile(r"/.*\.(?:rt|antt)$")
 NAME = re.compile(r"[A-Za-z_]\w*(?:::[A-Za-z_]\w*)*\*?")
 #: What defines a name in a source of Rattle and in one of its specs.
 IN_SOURCE = (r"\b(?:fn|struct|enum|trait|type|const|mod|ghost)\s+{0}\b|\bpub use [^;]*\b{0}\b"
@@ -211,6 +214,18 @@ def definition_names() -> list[str]:
         if beside:
             faults += [f"docs/DEFINITIONS.md:{at}: {fault}" for fault in
                        (crates.fault(name, beside) for name in CODE.findall(item)) if fault]
+    return faults
+
+
+def files_to_change() -> list[str]:
+    """Each source, spec and proof that CONTRIBUTING.md cites is of a crate that its item names."""
+    crates, faults = Crates(Repository(ROOT)), []
+    for at, item in items((ROOT / "CONTRIBUTING.md").read_text()):
+        folders = [ROOT / "crates", *(crates.repository.folder(it) for it in crates.named(item))]
+        if "NAME" not in item:
+            faults += [f"CONTRIBUTING.md:{at}: `{name}` is no file of a crate of this item"
+                       for name in filter(SOURCE.search, CODE.findall(item))
+                       if not any((folder / name).is_file() for folder in folders)]
     return faults
 
 
@@ -446,6 +461,7 @@ def main() -> int:
         ("order of the map", map_order),
         ("floors of the map", map_floors),
         ("names of the definitions", definition_names),
+        ("files to change", files_to_change),
         ("links", links),
         ("size of the readme", size_of_readme),
         ("words of blocks", words_of_blocks),
