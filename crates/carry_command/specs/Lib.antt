@@ -1,0 +1,9 @@
+pub mod Names
+pub mod Before
+pub mod Disks
+pub mod Olds
+pub mod Lines
+pub mod Prepared
+pub mod Inside
+pub mod Works
+pub mod Runs
