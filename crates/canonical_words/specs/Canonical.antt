@@ -89,3 +89,28 @@ canonical_batch network base journal trains client workers =
     ∷ joined (setting (codes "base") base) ∷ joined (setting (codes "journal") journal)
     ∷ joined (setting (codes "trains") trains) ∷ joined (setting (codes "client") client)
     ∷ joined (setting (codes "workers") workers) ∷ []
+
+-- the command `carry`, without a file for what is left out
+abbrev pub carry_app : App
+carry_app =
+    with_rule (with_rule (journal_app (codes "carry")) (required_rule (codes "from")))
+    (required_rule (codes "from-base"))
+
+-- the canonical words of `carry`: each option in one word, in one order
+abbrev pub canonical_carry : (network base journal from from_base : List ℕ) → List Word
+canonical_carry network base journal from from_base =
+    codes "carry" ∷ joined (setting (codes "network") network)
+    ∷ joined (setting (codes "base") base) ∷ joined (setting (codes "journal") journal)
+    ∷ joined (setting (codes "from") from) ∷ joined (setting (codes "from-base") from_base) ∷ []
+
+-- the command `carry` with a file for what is left out
+abbrev pub carry_left_app : App
+carry_left_app = with_rule carry_app (required_rule (codes "left"))
+
+-- its canonical words
+abbrev pub canonical_carry_left : (network base journal from from_base left : List ℕ) → List Word
+canonical_carry_left network base journal from from_base left =
+    codes "carry" ∷ joined (setting (codes "network") network)
+    ∷ joined (setting (codes "base") base) ∷ joined (setting (codes "journal") journal)
+    ∷ joined (setting (codes "from") from) ∷ joined (setting (codes "from-base") from_base)
+    ∷ joined (setting (codes "left") left) ∷ []

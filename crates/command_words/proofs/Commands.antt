@@ -6,7 +6,7 @@ use Rattle.proof_words.specs.declared.proofs.ProofWord.{ProofWord}
 use Rattle.rule_words.specs.declared.reading.RuleWord.{RuleWord}
 use Rattle.command_words.specs.Orders.{Agree, Asks, IsWithinLimits, settings_of}
 use Rattle.command_words.specs.declared.orders.Order.{Order}
-use Rattle.command_words.specs.declared.orders.Order.TheVariants.{Tables, Init, Stairs, Capacity, Serve, Demo, Check, Batch}
+use Rattle.command_words.specs.declared.orders.Order.TheVariants.{Tables, Init, Stairs, Capacity, Serve, Demo, Check, Carry, Batch}
 use Rattle.command_words.proofs.Agreeing.{agree_by, differ}
 
 pub list_order : (settings : List Setting) (order : Order) → Asks (codes "list") settings order → (network : List ℕ) × (out : List ℕ) × Agree settings (settings_of (Tables network out))
@@ -17,6 +17,7 @@ list_order settings (Capacity network base journal first last from to out) asks 
 list_order settings (Serve network trains base journal clients proofs rules) asks = absurd (differ (codes "list") (codes "serve") refl asks.command_is)
 list_order settings (Demo number out) asks = absurd (differ (codes "list") (codes "demo") refl asks.command_is)
 list_order settings (Check network trains base journal proof) asks = absurd (differ (codes "list") (codes "check") refl asks.command_is)
+list_order settings (Carry network base journal from from_base left) asks = absurd (differ (codes "list") (codes "carry") refl asks.command_is)
 list_order settings (Batch network trains base journal client workers rules) asks = absurd (differ (codes "list") (codes "batch") refl asks.command_is)
 
 -- the parts of an order to begin a journal
@@ -41,6 +42,7 @@ init_order settings (Capacity network base journal first last from to out) asks 
 init_order settings (Serve network trains base journal clients proofs rules) asks = absurd (differ (codes "init") (codes "serve") refl asks.command_is)
 init_order settings (Demo number out) asks = absurd (differ (codes "init") (codes "demo") refl asks.command_is)
 init_order settings (Check network trains base journal proof) asks = absurd (differ (codes "init") (codes "check") refl asks.command_is)
+init_order settings (Carry network base journal from from_base left) asks = absurd (differ (codes "init") (codes "carry") refl asks.command_is)
 init_order settings (Batch network trains base journal client workers rules) asks = absurd (differ (codes "init") (codes "batch") refl asks.command_is)
 
 -- the parts of an order to write a stairway
@@ -69,6 +71,7 @@ stairs_order settings (Capacity network base journal first last from to out) ask
 stairs_order settings (Serve network trains base journal clients proofs rules) asks = absurd (differ (codes "stairs") (codes "serve") refl asks.command_is)
 stairs_order settings (Demo number out) asks = absurd (differ (codes "stairs") (codes "demo") refl asks.command_is)
 stairs_order settings (Check network trains base journal proof) asks = absurd (differ (codes "stairs") (codes "check") refl asks.command_is)
+stairs_order settings (Carry network base journal from from_base left) asks = absurd (differ (codes "stairs") (codes "carry") refl asks.command_is)
 stairs_order settings (Batch network trains base journal client workers rules) asks = absurd (differ (codes "stairs") (codes "batch") refl asks.command_is)
 
 -- the parts of an order to write a capacity
@@ -103,6 +106,7 @@ capacity_order settings (Capacity network base journal first last from to out) a
 capacity_order settings (Serve network trains base journal clients proofs rules) asks = absurd (differ (codes "capacity") (codes "serve") refl asks.command_is)
 capacity_order settings (Demo number out) asks = absurd (differ (codes "capacity") (codes "demo") refl asks.command_is)
 capacity_order settings (Check network trains base journal proof) asks = absurd (differ (codes "capacity") (codes "check") refl asks.command_is)
+capacity_order settings (Carry network base journal from from_base left) asks = absurd (differ (codes "capacity") (codes "carry") refl asks.command_is)
 capacity_order settings (Batch network trains base journal client workers rules) asks = absurd (differ (codes "capacity") (codes "batch") refl asks.command_is)
 
 -- the parts of an order to serve clients
@@ -135,6 +139,7 @@ serve_order settings (Serve network trains base journal clients proofs rules) as
 }
 serve_order settings (Demo number out) asks = absurd (differ (codes "serve") (codes "demo") refl asks.command_is)
 serve_order settings (Check network trains base journal proof) asks = absurd (differ (codes "serve") (codes "check") refl asks.command_is)
+serve_order settings (Carry network base journal from from_base left) asks = absurd (differ (codes "serve") (codes "carry") refl asks.command_is)
 serve_order settings (Batch network trains base journal client workers rules) asks = absurd (differ (codes "serve") (codes "batch") refl asks.command_is)
 
 -- the parts of an order to demonstrate
@@ -157,6 +162,7 @@ demo_order settings (Demo number out) asks = record {
   limits = asks.limits;
 }
 demo_order settings (Check network trains base journal proof) asks = absurd (differ (codes "demo") (codes "check") refl asks.command_is)
+demo_order settings (Carry network base journal from from_base left) asks = absurd (differ (codes "demo") (codes "carry") refl asks.command_is)
 demo_order settings (Batch network trains base journal client workers rules) asks = absurd (differ (codes "demo") (codes "batch") refl asks.command_is)
 
 -- the parts of an order to check proofs
@@ -183,6 +189,7 @@ check_order settings (Check network trains base journal proof) asks = record {
   proof = proof;
   agree = asks.agree;
 }
+check_order settings (Carry network base journal from from_base left) asks = absurd (differ (codes "check") (codes "carry") refl asks.command_is)
 check_order settings (Batch network trains base journal client workers rules) asks = absurd (differ (codes "check") (codes "batch") refl asks.command_is)
 
 -- the parts of an order to answer a list of asks
@@ -205,6 +212,7 @@ batch_order settings (Capacity network base journal first last from to out) asks
 batch_order settings (Serve network trains base journal clients proofs rules) asks = absurd (differ (codes "batch") (codes "serve") refl asks.command_is)
 batch_order settings (Demo number out) asks = absurd (differ (codes "batch") (codes "demo") refl asks.command_is)
 batch_order settings (Check network trains base journal proof) asks = absurd (differ (codes "batch") (codes "check") refl asks.command_is)
+batch_order settings (Carry network base journal from from_base left) asks = absurd (differ (codes "batch") (codes "carry") refl asks.command_is)
 batch_order settings (Batch network trains base journal client workers rules) asks = record {
   network = network;
   trains = trains;
@@ -248,5 +256,82 @@ init_agrees settings network base journal from among of_network of_base of_journ
       (
         of_base ∙ sym (init_base network base journal from),
         (of_journal ∙ sym (init_journal network base journal from), (of_from ∙ sym (init_from network base journal from), tt)),
+      ),
+    )
+
+-- the parts of an order to carry a journal
+pub record IsCarry (settings : List Setting) : Type 0 where
+  pub network : List ℕ
+  pub base : List ℕ
+  pub journal : List ℕ
+  pub from : List ℕ
+  pub from_base : List ℕ
+  pub left : Option (List ℕ)
+  pub agree : Agree settings (settings_of (Carry network base journal from from_base left))
+
+pub carry_order : (settings : List Setting) (order : Order) → Asks (codes "carry") settings order → IsCarry settings
+carry_order settings (Tables network out) asks = absurd (differ (codes "carry") (codes "list") refl asks.command_is)
+carry_order settings (Init network base journal from) asks = absurd (differ (codes "carry") (codes "init") refl asks.command_is)
+carry_order settings (Stairs network base journal entry out) asks = absurd (differ (codes "carry") (codes "stairs") refl asks.command_is)
+carry_order settings (Capacity network base journal first last from to out) asks = absurd (differ (codes "carry") (codes "capacity") refl asks.command_is)
+carry_order settings (Serve network trains base journal clients proofs rules) asks = absurd (differ (codes "carry") (codes "serve") refl asks.command_is)
+carry_order settings (Demo number out) asks = absurd (differ (codes "carry") (codes "demo") refl asks.command_is)
+carry_order settings (Check network trains base journal proof) asks = absurd (differ (codes "carry") (codes "check") refl asks.command_is)
+carry_order settings (Carry network base journal from from_base left) asks = record {
+  network = network;
+  base = base;
+  journal = journal;
+  from = from;
+  from_base = from_base;
+  left = left;
+  agree = asks.agree;
+}
+carry_order settings (Batch network trains base journal client workers rules) asks = absurd (differ (codes "carry") (codes "batch") refl asks.command_is)
+
+-- the options of an order to carry a journal are of these kinds
+pub carry_among : (network base journal from from_base : List ℕ) (left : Option (List ℕ)) → are_among (codes "network" ∷ codes "base" ∷ codes "journal" ∷ codes "from" ∷ codes "from-base" ∷ codes "left" ∷ []) (settings_of (Carry network base journal from from_base left)) ≡ true
+carry_among network base journal from from_base None = refl
+carry_among network base journal from from_base (Some left) = refl
+
+pub carry_network : (network base journal from from_base : List ℕ) (left : Option (List ℕ)) → values_under (codes "network") (settings_of (Carry network base journal from from_base left)) ≡ network ∷ []
+carry_network network base journal from from_base None = refl
+carry_network network base journal from from_base (Some left) = refl
+
+pub carry_base : (network base journal from from_base : List ℕ) (left : Option (List ℕ)) → values_under (codes "base") (settings_of (Carry network base journal from from_base left)) ≡ base ∷ []
+carry_base network base journal from from_base None = refl
+carry_base network base journal from from_base (Some left) = refl
+
+pub carry_journal : (network base journal from from_base : List ℕ) (left : Option (List ℕ)) → values_under (codes "journal") (settings_of (Carry network base journal from from_base left)) ≡ journal ∷ []
+carry_journal network base journal from from_base None = refl
+carry_journal network base journal from from_base (Some left) = refl
+
+pub carry_from : (network base journal from from_base : List ℕ) (left : Option (List ℕ)) → values_under (codes "from") (settings_of (Carry network base journal from from_base left)) ≡ from ∷ []
+carry_from network base journal from from_base None = refl
+carry_from network base journal from from_base (Some left) = refl
+
+pub carry_from_base : (network base journal from from_base : List ℕ) (left : Option (List ℕ)) → values_under (codes "from-base") (settings_of (Carry network base journal from from_base left)) ≡ from_base ∷ []
+carry_from_base network base journal from from_base None = refl
+carry_from_base network base journal from from_base (Some left) = refl
+
+pub carry_left : (network base journal from from_base : List ℕ) (left : Option (List ℕ)) → values_under (codes "left") (settings_of (Carry network base journal from from_base left)) ≡ at_most_one left
+carry_left network base journal from from_base None = refl
+carry_left network base journal from from_base (Some left) = refl
+
+-- options with these values are those of this order
+pub carry_agrees : (settings : List Setting) (network base journal from from_base : List ℕ) (left : Option (List ℕ)) → are_among (codes "network" ∷ codes "base" ∷ codes "journal" ∷ codes "from" ∷ codes "from-base" ∷ codes "left" ∷ []) settings ≡ true
+    → values_under (codes "network") settings ≡ network ∷ [] → values_under (codes "base") settings ≡ base ∷ [] → values_under (codes "journal") settings ≡ journal ∷ [] → values_under (codes "from") settings ≡ from ∷ []
+    → values_under (codes "from-base") settings ≡ from_base ∷ [] → values_under (codes "left") settings ≡ at_most_one left → Agree settings (settings_of (Carry network base journal from from_base left))
+carry_agrees settings network base journal from from_base left among of_network of_base of_journal of_from of_from_base of_left =
+    agree_by (codes "network" ∷ codes "base" ∷ codes "journal" ∷ codes "from" ∷ codes "from-base" ∷ codes "left" ∷ []) settings (settings_of (Carry network base journal from from_base left)) among (carry_among network base journal from from_base left) (
+      of_network ∙ sym (carry_network network base journal from from_base left),
+      (
+        of_base ∙ sym (carry_base network base journal from from_base left),
+        (
+          of_journal ∙ sym (carry_journal network base journal from from_base left),
+          (
+            of_from ∙ sym (carry_from network base journal from from_base left),
+            (of_from_base ∙ sym (carry_from_base network base journal from from_base left), (of_left ∙ sym (carry_left network base journal from from_base left), tt)),
+          ),
+        ),
       ),
     )

@@ -12,7 +12,7 @@ use Rattle.rule_words.specs.declared.reading.RuleWord.{RuleWord}
 use Rattle.batch_words.specs.Workers.{IsBatch}
 use Rattle.command_words.specs.declared.orders.TheConstants.{MAX_DEMO_NUMBER}
 use Rattle.command_words.specs.declared.orders.Order.{Order}
-use Rattle.command_words.specs.declared.orders.Order.TheVariants.{Tables, Init, Stairs, Capacity, Serve, Demo, Check, Batch}
+use Rattle.command_words.specs.declared.orders.Order.TheVariants.{Tables, Init, Stairs, Capacity, Serve, Demo, Check, Carry, Batch}
 
 -- the command word of an order
 abbrev pub command_of : Order → Word
@@ -23,6 +23,7 @@ command_of (Capacity network base journal first last from to out) = codes "capac
 command_of (Serve network trains base journal clients proofs rules) = codes "serve"
 command_of (Demo number out) = codes "demo"
 command_of (Check network trains base journal proof) = codes "check"
+command_of (Carry network base journal from from_base left) = codes "carry"
 command_of (Batch network trains base journal client workers rules) = codes "batch"
 
 -- an option that may be left out
@@ -76,6 +77,10 @@ settings_of (Check network trains base journal proof) =
     setting (codes "network") network ∷ setting (codes "trains") trains
     ∷ setting (codes "base") base ∷ setting (codes "journal") journal
     ∷ setting (codes "proof") proof ∷ []
+settings_of (Carry network base journal from from_base left) =
+    setting (codes "network") network ∷ setting (codes "base") base
+    ∷ setting (codes "journal") journal ∷ setting (codes "from") from
+    ∷ setting (codes "from-base") from_base ∷ if_given (codes "left") left
 settings_of (Batch network trains base journal client workers rules) =
     setting (codes "network") network ∷ setting (codes "trains") trains
     ∷ setting (codes "base") base ∷ setting (codes "journal") journal
@@ -103,6 +108,7 @@ IsWithinLimits (Serve network trains base journal clients proofs rules) =
     AreClients clients × AreProofs clients proofs × AreRulesOf clients rules
 IsWithinLimits (Demo number out) = number ≤ MAX_DEMO_NUMBER
 IsWithinLimits (Check network trains base journal proof) = ⊤
+IsWithinLimits (Carry network base journal from from_base left) = ⊤
 IsWithinLimits (Batch network trains base journal client workers rules) =
     IsBatch client workers rules
 
@@ -134,6 +140,7 @@ rules_of (Capacity network base journal first last from to out) = []
 rules_of (Serve network trains base journal clients proofs rules) = rules
 rules_of (Demo number out) = []
 rules_of (Check network trains base journal proof) = []
+rules_of (Carry network base journal from from_base left) = []
 rules_of (Batch network trains base journal client workers rules) = rules
 
 -- the words spell an order, and these are its rules

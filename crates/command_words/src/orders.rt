@@ -74,6 +74,17 @@ pub enum Order {
         journal: Text,
         proof: Text,
     },
+    /// Carry the live holds and grants of an old journal into a new one: the names of the network's and the base
+    /// timetable's file, of the new journal, of the old one and of the base timetable's file to which it belongs, and of
+    /// the file for the lines of entries that are left out, where such may be.
+    Carry {
+        network: Text,
+        base: Text,
+        journal: Text,
+        from: Text,
+        from_base: Text,
+        left: Option<Text>,
+    },
     /// Answer one list of asks by several workers: the names of the network's, the trains', the base timetable's and the
     /// journal's file, the client whose list it is, with a name of at most `MAX_BATCH_NAME_BYTES`, how many workers there
     /// are, 1 to `MAX_WORKERS`, and the rules by which paths may be denied to each of them.
