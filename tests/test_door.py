@@ -441,7 +441,7 @@ def sigterm_ends_in_order(program: Path) -> None:
         want(status == 0, f"the door ended with {status}")
         want(not Path(f"/proc/{server}").exists(), "the server stands")
         want(os.listdir(world.sockets) == [], str(os.listdir(world.sockets)))
-        want(not reader.wrong and reader.reads > 50, f"{reader.reads} reads: {reader.wrong!r}")
+        want(not reader.wrong and reader.reads > 5, f"{reader.reads} reads: {reader.wrong!r}")
         want("end input" in world.log() and "ended with" not in world.log(), world.log())
         entries = read_journal(world.journal).entries
         told = [f"held {entry.number} entry {entry.at} at {entry.at + 1}" for entry in entries]
