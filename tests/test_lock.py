@@ -4,6 +4,7 @@
 A command that may write a journal (`serve`, `batch`, `init`) has it alone from opening it until
 it is put back: another such command is refused by `open: NAME` or `disk: NAME`, and writes
 nothing. `stairs`, `capacity` and `check` read it beside a server. A killed server holds nothing.
+What `carry` holds is tried by tests/test_carry.py.
 
     tests/test_lock.py --program crates/stdcm/out/stdcm
 """

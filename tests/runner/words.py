@@ -6,6 +6,7 @@ from .texts import BASE, JOURNAL, NETWORK, TRAINS
 #: The options of each command in the order of docs/FORMATS.md.
 OPTIONS = {
     "init": ["network", "base", "journal", "from"],
+    "carry": ["network", "base", "journal", "from", "from-base", "left"],
     "serve": ["network", "trains", "base", "journal", "client", "rule", "proof"],
     "list": ["network", "out"],
     "stairs": ["network", "base", "journal", "entry", "out"],

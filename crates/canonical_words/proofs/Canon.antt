@@ -3,7 +3,7 @@ use Rattle.std.proofs.Common.{◌≡◌, ℕ, List, [], ◌∷◌, Some, true, r
 use Rattle.command_line.specs.Spelling.{joined, setting, Word}
 use Rattle.clap.specs.Words.{first_of, matches_of, takes}
 use Rattle.clap.proofs.OnLiterals.{clap_on_literals}
-use Rattle.canonical_words.specs.Canonical.{batch_app, canonical_batch, canonical_capacity, capacity_app, check_app, demo_app, init_app, list_app, move_app, serve_app, stairs_app}
+use Rattle.canonical_words.specs.Canonical.{batch_app, canonical_batch, canonical_capacity, canonical_carry, capacity_app, carry_app, check_app, demo_app, init_app, left_app, list_app, move_app, serve_app, stairs_app}
 
 -- the canonical words of `list`
 abbrev pub list_words : List ℕ → List ℕ → List Word
@@ -229,3 +229,39 @@ batch_client network base journal trains client workers = refl
 pub batch_workers : (network base journal trains client workers : List ℕ) → first_of (codes "workers") (matches_of batch_app (canonical_batch network base journal trains client workers)) ≡ Some workers
 unfolding clap_on_literals
 batch_workers network base journal trains client workers = refl
+
+pub carry_taken : (network base journal from from_base : List ℕ) → takes carry_app (canonical_carry network base journal from from_base) ≡ true
+unfolding clap_on_literals
+carry_taken network base journal from from_base = refl
+
+pub carry_network : (network base journal from from_base : List ℕ) → first_of (codes "network") (matches_of carry_app (canonical_carry network base journal from from_base)) ≡ Some network
+unfolding clap_on_literals
+carry_network network base journal from from_base = refl
+
+pub carry_base : (network base journal from from_base : List ℕ) → first_of (codes "base") (matches_of carry_app (canonical_carry network base journal from from_base)) ≡ Some base
+unfolding clap_on_literals
+carry_base network base journal from from_base = refl
+
+pub carry_journal : (network base journal from from_base : List ℕ) → first_of (codes "journal") (matches_of carry_app (canonical_carry network base journal from from_base)) ≡ Some journal
+unfolding clap_on_literals
+carry_journal network base journal from from_base = refl
+
+pub carry_from : (network base journal from from_base : List ℕ) → first_of (codes "from") (matches_of carry_app (canonical_carry network base journal from from_base)) ≡ Some from
+unfolding clap_on_literals
+carry_from network base journal from from_base = refl
+
+pub carry_from_base : (network base journal from from_base : List ℕ) → first_of (codes "from-base") (matches_of carry_app (canonical_carry network base journal from from_base)) ≡ Some from_base
+unfolding clap_on_literals
+carry_from_base network base journal from from_base = refl
+
+-- the canonical words of `carry` with the option that may be left out alone
+abbrev pub left_words : List ℕ → List Word
+left_words left = codes "carry" ∷ joined (setting (codes "left") left) ∷ []
+
+pub left_taken : (left : List ℕ) → takes left_app (left_words left) ≡ true
+unfolding clap_on_literals
+left_taken left = refl
+
+pub left_left : (left : List ℕ) → first_of (codes "left") (matches_of left_app (left_words left)) ≡ Some left
+unfolding clap_on_literals
+left_left left = refl

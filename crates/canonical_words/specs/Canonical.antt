@@ -89,3 +89,20 @@ canonical_batch network base journal trains client workers =
     ∷ joined (setting (codes "base") base) ∷ joined (setting (codes "journal") journal)
     ∷ joined (setting (codes "trains") trains) ∷ joined (setting (codes "client") client)
     ∷ joined (setting (codes "workers") workers) ∷ []
+
+-- the command `carry`, without the option that may be left out
+abbrev pub carry_app : App
+carry_app =
+    with_rule (with_rule (journal_app (codes "carry")) (required_rule (codes "from")))
+    (required_rule (codes "from-base"))
+
+-- its canonical words: each option in one word, in one order
+abbrev pub canonical_carry : (network base journal from from_base : List ℕ) → List Word
+canonical_carry network base journal from from_base =
+    codes "carry" ∷ joined (setting (codes "network") network)
+    ∷ joined (setting (codes "base") base) ∷ joined (setting (codes "journal") journal)
+    ∷ joined (setting (codes "from") from) ∷ joined (setting (codes "from-base") from_base) ∷ []
+
+-- the command `carry` with the option that may be left out alone
+abbrev pub left_app : App
+left_app = with_rule (bare_app (codes "carry")) (required_rule (codes "left"))

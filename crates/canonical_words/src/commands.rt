@@ -3,7 +3,8 @@
 ghost use Rattle.std.specs.Prelude.{◌≡◌, IfOk, map, string_bytes};
 ghost use Rattle.clap.specs.Words.{app_of};
 ghost use Rattle.canonical_words.specs.Canonical.{batch_app, canonical_batch, canonical_capacity};
-ghost use Rattle.canonical_words.specs.Canonical.{capacity_app, check_app, demo_app, journal_app};
+ghost use Rattle.canonical_words.specs.Canonical.{canonical_carry, capacity_app, carry_app};
+ghost use Rattle.canonical_words.specs.Canonical.{check_app, demo_app, journal_app, left_app};
 ghost use Rattle.canonical_words.specs.Canonical.{list_app, move_app, serve_app, stairs_app};
 
 use crate::names::{FileNames, StretchWords};
@@ -390,6 +391,76 @@ fn batch_words(
     ])
 }
 
+/// The values of the options of `carry`, without that of `left`.
+#[derive(Debug, Drop)]
+pub struct CarryTexts {
+    pub network: Text,
+    pub base: Text,
+    pub journal: Text,
+    pub from: Text,
+    pub from_base: Text,
+}
+
+/// Hands `carry` with these options to `clap`, and takes its values back.
+pub fn parse_carry(
+    alloc: Global,
+    names: &FileNames<'_>,
+    from: &str,
+    from_base: &str,
+) -> Result<CarryTexts, NoMemory>
+    ensures network { IfOk result (λ texts. texts.network ≡ names.now.network.now) }
+    ensures base { IfOk result (λ texts. texts.base ≡ names.now.base.now) }
+    ensures journal { IfOk result (λ texts. texts.journal ≡ names.now.journal.now) }
+    ensures from { IfOk result (λ texts. texts.from ≡ from.now) }
+    ensures from_base { IfOk result (λ texts. texts.from_base ≡ from_base.now) }
+{
+    let command = carry_command(alloc)?;
+    let words = carry_words(alloc, names, from, from_base)?;
+    let matches = parse(command, words.as_slice())?;
+    Ok(CarryTexts {
+        network: value_of(alloc, &matches, "network")?,
+        base: value_of(alloc, &matches, "base")?,
+        journal: value_of(alloc, &matches, "journal")?,
+        from: value_of(alloc, &matches, "from")?,
+        from_base: value_of(alloc, &matches, "from-base")?,
+    })
+}
+
+// The canonical words of `carry`.
+fn carry_words(
+    alloc: Global,
+    names: &FileNames<'_>,
+    from: &str,
+    from_base: &str,
+) -> Result<[String; 6], NoMemory>
+    ensures { IfOk result (λ words. map string_bytes words ≡ canonical_carry
+        names.now.network.now names.now.base.now names.now.journal.now from.now from_base.now) }
+{
+    Ok([
+        String::from_str(alloc, "carry")?,
+        joined(alloc, "network", names.network)?,
+        joined(alloc, "base", names.base)?,
+        joined(alloc, "journal", names.journal)?,
+        joined(alloc, "from", from)?,
+        joined(alloc, "from-base", from_base)?,
+    ])
+}
+
+/// Hands `carry` with `left` alone, which not all its words have, to `clap`, and takes its value
+/// back.
+pub fn parse_left(alloc: Global, left: &str) -> Result<Text, NoMemory>
+    ensures { IfOk result (λ text. text ≡ left.now) }
+{
+    let command = left_command(alloc)?;
+    let words = [
+        String::from_str(alloc, "carry")?,
+        joined(alloc, "left", left)?,
+    ];
+    let matches = parse(command, words.as_slice())?;
+    let text = value_of(alloc, &matches, "left")?;
+    Ok(text)
+}
+
 // The command `list`.
 fn list_command<'a>(alloc: Global) -> Result<Command<'a>, NoMemory>
     ensures { IfOk result (λ command. app_of command ≡ list_app) }
@@ -498,5 +569,26 @@ fn batch_command<'a>(alloc: Global) -> Result<Command<'a>, NoMemory>
         .arg(trains)?
         .arg(client)?
         .arg(workers)?;
+    Ok(command)
+}
+
+// The command `carry`, without the option that may be left out.
+fn carry_command<'a>(alloc: Global) -> Result<Command<'a>, NoMemory>
+    ensures { IfOk result (λ command. app_of command ≡ carry_app) }
+{
+    let from = required(alloc, "from");
+    let from_base = required(alloc, "from-base");
+    let command = journal_command(alloc, "carry")?.arg(from)?.arg(from_base)?;
+    Ok(command)
+}
+
+// The command `carry` with the option that may be left out alone.
+fn left_command<'a>(alloc: Global) -> Result<Command<'a>, NoMemory>
+    ensures { IfOk result (λ command. app_of command ≡ left_app) }
+{
+    let left = required(alloc, "left");
+    let command = Command::new(alloc, "carry")
+        .disable_help_flag(true)
+        .arg(left)?;
     Ok(command)
 }

@@ -7,8 +7,8 @@ mod names;
 mod parsing;
 
 pub use commands::{
-    BatchTexts, CapacityTexts, CheckTexts, DemoTexts, InitTexts, ListTexts, MoveTexts, ServeTexts,
-    StairsTexts, parse_batch, parse_capacity, parse_check, parse_demo, parse_init, parse_list,
-    parse_move, parse_serve, parse_stairs,
+    BatchTexts, CapacityTexts, CarryTexts, CheckTexts, DemoTexts, InitTexts, ListTexts, MoveTexts,
+    ServeTexts, StairsTexts, parse_batch, parse_capacity, parse_carry, parse_check, parse_demo,
+    parse_init, parse_left, parse_list, parse_move, parse_serve, parse_stairs,
 };
 pub use names::{FileNames, StretchWords};

@@ -6,7 +6,7 @@ use Rattle.command_line.specs.declared.proof_words.proofs.ProofWord.{ProofWord}
 use Rattle.command_line.specs.declared.rule_words.reading.RuleWord.{RuleWord}
 use Rattle.command_words.specs.Orders.{Agree, Asks, IsWithinLimits, settings_of}
 use Rattle.command_words.specs.declared.orders.Order.{Order}
-use Rattle.command_words.specs.declared.orders.Order.TheVariants.{Tables, Init, Stairs, Capacity, Serve, Demo, Check, Batch}
+use Rattle.command_words.specs.declared.orders.Order.TheVariants.{Tables, Init, Stairs, Capacity, Serve, Demo, Check, Batch, Carry}
 use Rattle.command_words.proofs.Agreeing.{agree_by, differ}
 
 pub list_order : (settings : List Setting) (order : Order) → Asks (codes "list") settings order → (network : List ℕ) × (out : List ℕ) × Agree settings (settings_of (Tables network out))
@@ -18,6 +18,7 @@ list_order settings (Serve network trains base journal clients proofs rules) ask
 list_order settings (Demo number out) asks = absurd (differ (codes "list") (codes "demo") refl asks.command_is)
 list_order settings (Check network trains base journal proof) asks = absurd (differ (codes "list") (codes "check") refl asks.command_is)
 list_order settings (Batch network trains base journal client workers rules) asks = absurd (differ (codes "list") (codes "batch") refl asks.command_is)
+list_order settings (Carry network base journal from from_base left) asks = absurd (differ (codes "list") (codes "carry") refl asks.command_is)
 
 -- the parts of an order to begin a journal
 pub record IsInit (settings : List Setting) : Type 0 where
@@ -42,6 +43,7 @@ init_order settings (Serve network trains base journal clients proofs rules) ask
 init_order settings (Demo number out) asks = absurd (differ (codes "init") (codes "demo") refl asks.command_is)
 init_order settings (Check network trains base journal proof) asks = absurd (differ (codes "init") (codes "check") refl asks.command_is)
 init_order settings (Batch network trains base journal client workers rules) asks = absurd (differ (codes "init") (codes "batch") refl asks.command_is)
+init_order settings (Carry network base journal from from_base left) asks = absurd (differ (codes "init") (codes "carry") refl asks.command_is)
 
 -- the parts of an order to write a stairway
 pub record IsStairs (settings : List Setting) : Type 0 where
@@ -70,6 +72,7 @@ stairs_order settings (Serve network trains base journal clients proofs rules) a
 stairs_order settings (Demo number out) asks = absurd (differ (codes "stairs") (codes "demo") refl asks.command_is)
 stairs_order settings (Check network trains base journal proof) asks = absurd (differ (codes "stairs") (codes "check") refl asks.command_is)
 stairs_order settings (Batch network trains base journal client workers rules) asks = absurd (differ (codes "stairs") (codes "batch") refl asks.command_is)
+stairs_order settings (Carry network base journal from from_base left) asks = absurd (differ (codes "stairs") (codes "carry") refl asks.command_is)
 
 -- the parts of an order to write a capacity
 pub record IsCapacity (settings : List Setting) : Type 0 where
@@ -104,6 +107,7 @@ capacity_order settings (Serve network trains base journal clients proofs rules)
 capacity_order settings (Demo number out) asks = absurd (differ (codes "capacity") (codes "demo") refl asks.command_is)
 capacity_order settings (Check network trains base journal proof) asks = absurd (differ (codes "capacity") (codes "check") refl asks.command_is)
 capacity_order settings (Batch network trains base journal client workers rules) asks = absurd (differ (codes "capacity") (codes "batch") refl asks.command_is)
+capacity_order settings (Carry network base journal from from_base left) asks = absurd (differ (codes "capacity") (codes "carry") refl asks.command_is)
 
 -- the parts of an order to serve clients
 pub record IsServe (settings : List Setting) : Type 0 where
@@ -136,6 +140,7 @@ serve_order settings (Serve network trains base journal clients proofs rules) as
 serve_order settings (Demo number out) asks = absurd (differ (codes "serve") (codes "demo") refl asks.command_is)
 serve_order settings (Check network trains base journal proof) asks = absurd (differ (codes "serve") (codes "check") refl asks.command_is)
 serve_order settings (Batch network trains base journal client workers rules) asks = absurd (differ (codes "serve") (codes "batch") refl asks.command_is)
+serve_order settings (Carry network base journal from from_base left) asks = absurd (differ (codes "serve") (codes "carry") refl asks.command_is)
 
 -- the parts of an order to demonstrate
 pub record IsDemo (settings : List Setting) : Type 0 where
@@ -158,6 +163,7 @@ demo_order settings (Demo number out) asks = record {
 }
 demo_order settings (Check network trains base journal proof) asks = absurd (differ (codes "demo") (codes "check") refl asks.command_is)
 demo_order settings (Batch network trains base journal client workers rules) asks = absurd (differ (codes "demo") (codes "batch") refl asks.command_is)
+demo_order settings (Carry network base journal from from_base left) asks = absurd (differ (codes "demo") (codes "carry") refl asks.command_is)
 
 -- the parts of an order to check proofs
 pub record IsCheck (settings : List Setting) : Type 0 where
@@ -184,6 +190,7 @@ check_order settings (Check network trains base journal proof) asks = record {
   agree = asks.agree;
 }
 check_order settings (Batch network trains base journal client workers rules) asks = absurd (differ (codes "check") (codes "batch") refl asks.command_is)
+check_order settings (Carry network base journal from from_base left) asks = absurd (differ (codes "check") (codes "carry") refl asks.command_is)
 
 -- the parts of an order to answer a list of asks
 pub record IsBatchOrder (settings : List Setting) : Type 0 where
@@ -213,6 +220,38 @@ batch_order settings (Batch network trains base journal client workers rules) as
   client = client;
   workers = workers;
   rules = rules;
+  agree = asks.agree;
+  limits = asks.limits;
+}
+batch_order settings (Carry network base journal from from_base left) asks = absurd (differ (codes "batch") (codes "carry") refl asks.command_is)
+
+-- the parts of an order to carry a journal
+pub record IsCarry (settings : List Setting) : Type 0 where
+  pub network : List ℕ
+  pub base : List ℕ
+  pub journal : List ℕ
+  pub from : List ℕ
+  pub from_base : List ℕ
+  pub left : Option (List ℕ)
+  pub agree : Agree settings (settings_of (Carry network base journal from from_base left))
+  pub limits : IsWithinLimits (Carry network base journal from from_base left)
+
+pub carry_order : (settings : List Setting) (order : Order) → Asks (codes "carry") settings order → IsCarry settings
+carry_order settings (Tables network out) asks = absurd (differ (codes "carry") (codes "list") refl asks.command_is)
+carry_order settings (Init network base journal from) asks = absurd (differ (codes "carry") (codes "init") refl asks.command_is)
+carry_order settings (Stairs network base journal entry out) asks = absurd (differ (codes "carry") (codes "stairs") refl asks.command_is)
+carry_order settings (Capacity network base journal first last from to out) asks = absurd (differ (codes "carry") (codes "capacity") refl asks.command_is)
+carry_order settings (Serve network trains base journal clients proofs rules) asks = absurd (differ (codes "carry") (codes "serve") refl asks.command_is)
+carry_order settings (Demo number out) asks = absurd (differ (codes "carry") (codes "demo") refl asks.command_is)
+carry_order settings (Check network trains base journal proof) asks = absurd (differ (codes "carry") (codes "check") refl asks.command_is)
+carry_order settings (Batch network trains base journal client workers rules) asks = absurd (differ (codes "carry") (codes "batch") refl asks.command_is)
+carry_order settings (Carry network base journal from from_base left) asks = record {
+  network = network;
+  base = base;
+  journal = journal;
+  from = from;
+  from_base = from_base;
+  left = left;
   agree = asks.agree;
   limits = asks.limits;
 }

@@ -1,6 +1,6 @@
 -- The orders that words spell.
-use Rattle.std.specs.Prelude.{◌≡◌, ⊤, ℕ, ◌^◌, ◌<◌, ◌≤◌, pos, List, [], ◌∷◌, ◌++◌, Option, None}
-use Rattle.std.specs.Prelude.{Some, codes, decimal, map}
+use Rattle.std.specs.Prelude.{◌≡◌, ◌≢◌, ⊤, ℕ, ◌^◌, ◌<◌, ◌≤◌, pos, List, [], ◌∷◌, ◌++◌, Option}
+use Rattle.std.specs.Prelude.{None, Some, IfSome, codes, decimal, map}
 use Rattle.rail_types.specs.Limits.{IsTick}
 use Rattle.rail_types.specs.declared.limits.TheConstants.{MAX_NUMBER}
 use Rattle.command_line.specs.Spelling.{Setting, setting, Spell, values_under, Word}
@@ -14,7 +14,7 @@ use Rattle.command_line.specs.Workers.{IsBatch}
 use Rattle.command_words.specs.declared.orders.TheConstants.{MAX_DEMO_NUMBER}
 use Rattle.command_words.specs.declared.orders.Order.{Order}
 use Rattle.command_words.specs.declared.orders.Order.TheVariants.{Tables, Init, Stairs, Capacity}
-use Rattle.command_words.specs.declared.orders.Order.TheVariants.{Serve, Demo, Check, Batch}
+use Rattle.command_words.specs.declared.orders.Order.TheVariants.{Serve, Demo, Check, Batch, Carry}
 
 -- the command word of an order
 abbrev pub command_of : Order → Word
@@ -26,6 +26,7 @@ command_of (Serve network trains base journal clients proofs rules) = codes "ser
 command_of (Demo number out) = codes "demo"
 command_of (Check network trains base journal proof) = codes "check"
 command_of (Batch network trains base journal client workers rules) = codes "batch"
+command_of (Carry network base journal from from_base left) = codes "carry"
 
 -- an option that may be left out
 abbrev pub if_given : List ℕ → Option (List ℕ) → List Setting
@@ -82,6 +83,10 @@ settings_of (Batch network trains base journal client workers rules) =
     setting (codes "network") network ∷ setting (codes "trains") trains
     ∷ setting (codes "base") base ∷ setting (codes "journal") journal
     ∷ client_setting client ∷ numbered (codes "workers") workers ∷ map rule_setting rules
+settings_of (Carry network base journal from from_base left) =
+    setting (codes "network") network ∷ setting (codes "base") base
+    ∷ setting (codes "journal") journal ∷ setting (codes "from") from
+    ∷ setting (codes "from-base") from_base ∷ if_given (codes "left") left
 
 -- zones, the first to the last, each of 32 bits
 pub record AreZones (first last : ℕ) : Type 0 where
@@ -93,8 +98,24 @@ pub record AreTicks (from to : ℕ) : Type 0 where
   pub ordered : from < to
   pub within : IsTick (pos to)
 
+-- a file for lines that is none of the other five files of `carry`, which lines would destroy
+pub record IsOfItsOwn (network base journal from from_base left : List ℕ) : Type 0 where
+  pub not_network : left ≢ network
+  pub not_base : left ≢ base
+  pub not_journal : left ≢ journal
+  pub not_from : left ≢ from
+  pub not_from_base : left ≢ from_base
+
+-- the old journal is not the new one, and the file for lines, where there is one, is none of the
+-- others
+pub record AreApart (network base journal from from_base : List ℕ) (left : Option (List ℕ))
+    : Type 0 where
+  pub journals : from ≢ journal
+  pub lines : IfSome left (IsOfItsOwn network base journal from from_base)
+
 -- the numbers, the clients, the proofs and the rules of an order are within their limits; each
--- proof is of one of the clients, each rule of one of the clients, or of one of the workers
+-- proof is of one of the clients, each rule of one of the clients, or of one of the workers; the
+-- files of `carry` are apart
 abbrev pub IsWithinLimits : Order → Type 0
 IsWithinLimits (Tables network out) = ⊤
 IsWithinLimits (Init network base journal from) = ⊤
@@ -107,6 +128,8 @@ IsWithinLimits (Demo number out) = number ≤ MAX_DEMO_NUMBER
 IsWithinLimits (Check network trains base journal proof) = ⊤
 IsWithinLimits (Batch network trains base journal client workers rules) =
     IsBatch client workers rules
+IsWithinLimits (Carry network base journal from from_base left) =
+    AreApart network base journal from from_base left
 
 -- each option has the same values in the same order
 abbrev pub Agree : List Setting → List Setting → Type 0
@@ -138,6 +161,7 @@ rules_of (Serve network trains base journal clients proofs rules) = rules
 rules_of (Demo number out) = []
 rules_of (Check network trains base journal proof) = []
 rules_of (Batch network trains base journal client workers rules) = rules
+rules_of (Carry network base journal from from_base left) = []
 
 -- the words spell an order, and these are its rules
 pub record AskRules (words : List Word) (rules : List RuleWord) : Type 0 where

@@ -3,6 +3,7 @@
 
 mod batches;
 mod capacities;
+mod carries;
 mod checks;
 mod demos;
 mod file_names;

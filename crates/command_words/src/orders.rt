@@ -91,4 +91,18 @@ pub enum Order {
         workers: u32,
         rules: List<RuleWord>,
     },
+    /// Carry what is live in an old journal into a new one: the names of the network's and the base
+    /// timetable's file that the new one is for, of the new journal, of the old one, and of the
+    /// base timetable's file that the old one is for; and of the file for the lines of entries that
+    /// are left out, where any may be. Each is a value of the words, so it is not empty and has no
+    /// dash in front. The old journal is not the new one, and the file for lines is none of the
+    /// other five: the definition `AreApart`; the rule is that of names in docs/FORMATS.md.
+    Carry {
+        network: Text,
+        base: Text,
+        journal: Text,
+        from: Text,
+        from_base: Text,
+        left: Option<Text>,
+    },
 }

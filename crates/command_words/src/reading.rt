@@ -6,6 +6,7 @@ ghost use Rattle.command_words.specs.declared.orders.Order.{Order as order_type}
 
 use crate::batches::read_batch;
 use crate::capacities::read_capacity;
+use crate::carries::read_carry;
 use crate::checks::read_check;
 use crate::demos::read_demo;
 use crate::grants::read_stairs;
@@ -86,6 +87,9 @@ fn read_order(alloc: Global, command: &str, settings: &[Setting<'_>]) -> Result<
     }
     if command == "batch" {
         return read_batch(alloc, settings);
+    }
+    if command == "carry" {
+        return read_carry(alloc, settings);
     }
     Err(WordsFault::NotUnderstood)
 }

@@ -189,7 +189,7 @@ module _ {Src Snk Dsk : Type 0} (source : Sources Src) (sink : Sinks Snk) (disk 
 
   -- ---- a file is read
 
-  file_wants : {A : Type 0} (kind : FileKind) (Means : List ℕ → A → Type 0) (HasFault : List ℕ → List ℕ → Type 0)
+  pub file_wants : {A : Type 0} (kind : FileKind) (Means : List ℕ → A → Type 0) (HasFault : List ℕ → List ℕ → Type 0)
       (now between : Scene Src Snk Dsk) (name bytes : List ℕ) (calls : List Opening)
       → Awaits now (source_at name ∷ calls) → IsRight kind source HasFault old name bytes → Stays between
       → (refusal : Refusal) → FileSays kind source name Means HasFault now between (Err refusal)
@@ -222,7 +222,7 @@ module _ {Src Snk Dsk : Type 0} (source : Sources Src) (sink : Sinks Snk) (disk 
       (subst (λ o. Consumes o (source.left so.0) faulty.bytes) is.2 so.2.gave) so.2.at_end in
       absurd (right.right faulty.faulty.text (subst (λ b. HasFault b faulty.faulty.text) (sym all) faulty.faulty.has))
 
-  file_means : {A : Type 0} (kind : FileKind) (Means : List ℕ → A → Type 0) (HasFault : List ℕ → List ℕ → Type 0)
+  pub file_means : {A : Type 0} (kind : FileKind) (Means : List ℕ → A → Type 0) (HasFault : List ℕ → List ℕ → Type 0)
       (now next : Scene Src Snk Dsk) (name bytes : List ℕ) (calls : List Opening)
       → Awaits now (source_at name ∷ calls) → IsRight kind source HasFault old name bytes
       → (value : A) → FileSays kind source name Means HasFault now next (Ok value) → Means bytes value
@@ -322,7 +322,7 @@ module _ {Src Snk Dsk : Type 0} (source : Sources Src) (sink : Sinks Snk) (disk 
 
   -- ---- a journal is begun
 
-  init_never : (fault : InitFault) (before after : ℕ) → IsNotEmpty fault []
+  pub init_never : (fault : InitFault) (before after : ℕ) → IsNotEmpty fault []
       → HasInitCause {T = Unit {0}} before after (Err fault) → ¬ Rose before after → ⊥
   init_never (init.NotEmpty len) before after filled cause quiet = absurd (filled.1 refl)
   init_never init.Fault before after filled cause quiet = quiet cause

@@ -8,6 +8,9 @@ use Rattle.batch_command.specs.Works.{ReadsBase as BatchBase, ReadsNetwork as Ba
 use Rattle.batch_command.specs.Ends.{report_text as batch_text}
 use Rattle.capacity_406.specs.declared.trains.Stretch.{Stretch}
 use Rattle.print_commands.specs.Capacities.{TellsCapacity, stretch_of}
+use Rattle.carry_command.specs.Names.{Names as CarryNames}
+use Rattle.carry_command.specs.Runs.{EndsReport as EndsCarry, EndsRun as CarryEnds, RunsCarry}
+use Rattle.carry_command.specs.Works.{ReadsNetwork as CarryNetwork}
 use Rattle.check_command.specs.Checks.{TellsProofs}
 use Rattle.check_command.specs.Files.{ProofFileSays, ProofFileStep, too_long_line}
 use Rattle.check_command.specs.Runs.{EndsReport, EndsRun as CheckEnds}
@@ -29,7 +32,7 @@ use Rattle.command_reports.specs.Works.{Follows, KeepsTo, Makes}
 use Rattle.command_reports.specs.declared.refusals.Refusal.{Refusal}
 use Rattle.command_reports.specs.declared.refusals.Refusal.TheVariants.{Memory}
 use Rattle.command_words.specs.declared.orders.Order.{Order}
-use Rattle.command_words.specs.declared.orders.Order.TheVariants.{Tables, Init, Stairs, Capacity, Serve, Demo, Check, Batch}
+use Rattle.command_words.specs.declared.orders.Order.TheVariants.{Tables, Init, Stairs, Capacity, Serve, Demo, Check, Batch, Carry}
 use Rattle.demo_command.specs.Sessions.{IsDemo}
 use Rattle.demo_command.specs.Works.{DemoWorks, demo_calls}
 use Rattle.command_reports.specs.declared.exit_status.Status.{Status}
@@ -69,10 +72,12 @@ use Rattle.request_server.specs.ServedJournals.{TellsOpen}
 use Rattle.request_server.specs.Rounds.{IsHalted, IsJournalRefused, IsNotOpened}
 use Rattle.print_commands.specs.Tables.{TellsStairs, no_grant_line}
 use Rattle.stairway_print.specs.Networks.{network_text}
-use Rattle.osrd_stdcm.specs.Complete.{AreRightWithJournal, IsAnswered, IsUnhindered}
+use Rattle.osrd_stdcm.specs.Carries.{carry_names}
+use Rattle.osrd_stdcm.specs.Complete.{AreRightWithJournal, IsAnswered, IsCarryUnhindered, IsUnhindered, once_each}
 use Rattle.osrd_stdcm.specs.Orders.{OrderSays}
 use Rattle.osrd_stdcm.specs.Ready.{AreReady, AreRight, HasJournal, HasLines, HasOldJournal, HasOldJournalOf, HasTrains, IsEmptyDisk, IsQuietAt, IsRight, IsThere}
 use Rattle.osrd_stdcm.proofs.Ready.{Awaits, IsDoneAt, IsGood, IsSame, Stays, awaits_all, begins, behind_nothing, follows, journal_wants, makes, own_no, quiet_disk, reads, reads_history, replaced, reported, runs_good, told_whole, wanted, writes}
+use Rattle.osrd_stdcm.proofs.Carries.{carries}
 use Rattle.osrd_stdcm.proofs.Sessions.{IsFine, all_fine, come_well, list_refused, list_written, none_faulty}
 
 module _ {Src Snk Dsk : Type 0} (source : Sources Src) (sink : Sinks Snk) (disk : Disks Dsk)
@@ -294,6 +299,26 @@ module _ {Src Snk Dsk : Type 0} (source : Sources Src) (sink : Sinks Snk) (disk 
   check_ends network trains base journal proof ready good between (Err refusal) status works keeps ends =
       subst IsAnswered (sym ends.status_is)
       (good.stops between (reported source sink disk old new between ends.reports.only) refusal works)
+
+  -- ---- carry
+
+  carry_ends : (names : CarryNames) → IsCarryUnhindered source sink disk old new names → (status : Status)
+      → RunsCarry source sink disk names old new status → IsAnswered status
+  carry_ends names un status runs = by_outcome runs.outcome runs.works runs.ends
+    where
+      by_report : (line : List ℕ) (written : Result (Unit {0}) OutFault) → ReportSays sink line runs.between new written
+          → EndsCarry written status → IsAnswered status
+      by_report line (Ok whole) says is = inl is
+      by_report line (Err fault) says is =
+          absurd (whole_report (once_each names) un.ready runs.between line runs.keeps.keeps.standing runs.keeps.keeps.report fault says)
+
+      by_outcome : (outcome : Result (List ℕ) Refusal) → CarryNetwork source sink disk names old runs.between outcome
+          → CarryEnds sink runs.between new outcome status → IsAnswered status
+      by_outcome (Ok line) works ends = by_report line ends.written ends.says ends.ends
+      by_outcome (Err refusal) works ends =
+          subst IsAnswered (sym ends.status_is)
+          ((carries source sink disk old new names un).stops runs.between
+          (reported source sink disk old new runs.between ends.reports.only) refusal works)
 
   -- ---- a journal that is served
 
@@ -616,3 +641,5 @@ answered source sink disk kind handed old new status (Batch network trains base 
     (BatchNetwork source sink disk kind network trains base journal client workers handed)
     (lists source sink disk old new kind journal client workers handed network trains base u.0 u.1 u.2 u.3)
     runs.between runs.outcome status runs.works runs.keeps runs.ends
+answered source sink disk kind handed old new status (Carry network base journal from from_base left) u runs =
+    carry_ends source sink disk old new (carry_names network base journal from from_base left) u status runs

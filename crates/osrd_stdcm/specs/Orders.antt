@@ -9,17 +9,19 @@ use Rattle.outside_io.specs.declared.sources.Source.{Ghosts as Sources}
 use Rattle.command_reports.specs.Scenes.{Scene}
 use Rattle.command_words.specs.declared.orders.Order.{Order}
 use Rattle.command_words.specs.declared.orders.Order.TheVariants.{Tables, Init, Stairs, Capacity}
-use Rattle.command_words.specs.declared.orders.Order.TheVariants.{Serve, Demo, Check, Batch}
+use Rattle.command_words.specs.declared.orders.Order.TheVariants.{Serve, Demo, Check, Batch, Carry}
 use Rattle.command_reports.specs.Works.{Runs}
 use Rattle.batch_command.specs.Runs.{IsBatchDone, IsRefusedList, RunsBatch}
 use Rattle.print_commands.specs.Capacities.{HasNoCapacity, stretch_of, TellsCapacity}
+use Rattle.carry_command.specs.Runs.{IsCarried, RunsCarry}
 use Rattle.check_command.specs.Runs.{IsChecked, IsRefused, RunsCheck}
 use Rattle.demo_command.specs.Works.{demo_calls, DemoWorks, IsShown}
 use Rattle.init_command.specs.Works.{BeginOver, init_calls, IsDone, move_calls, MoveOver, ReadsBoth}
-use Rattle.print_commands.specs.Steps.{IsPrinted, print_calls, Prints}
+use Rattle.print_commands.specs.Steps.{IsPrinted, print_calls, Prints, WasOnlyRead}
 use Rattle.print_commands.specs.Works.{IsListed, list_calls, ListWorks}
 use Rattle.request_server.specs.ServeRuns.{IsServed, RunsServe}
 use Rattle.print_commands.specs.Tables.{HasNoGrant, TellsStairs}
+use Rattle.osrd_stdcm.specs.Carries.{carry_names, IsNotCarriedOver, LeavesCarry}
 
 -- an order was carried out, step by step, with these rules of clients
 abbrev pub OrderSays : {Src Snk Dsk L : Type 0} → Sources Src → Sinks Snk → Disks Dsk → Rules L
@@ -52,6 +54,9 @@ OrderSays source sink disk kind handed (Batch network trains base journal client
     old new status =
     RunsBatch source sink disk kind network trains base journal client workers handed old new
     status
+OrderSays source sink disk kind handed (Carry network base journal from from_base left)
+    old new status =
+    RunsCarry source sink disk (carry_names network base journal from from_base left) old new status
 
 -- all that an order asks for was done, with these rules of clients
 abbrev pub OrderIsDone : {Src Snk Dsk L : Type 0} → Sources Src → Sinks Snk → Disks Dsk → Rules L
@@ -77,23 +82,47 @@ OrderIsDone source sink disk kind handed (Check network trains base journal proo
 OrderIsDone source sink disk kind handed (Batch network trains base journal client workers rules)
     old new =
     IsBatchDone source sink disk kind network trains base journal client workers handed old new
+OrderIsDone source sink disk kind handed (Carry network base journal from from_base left)
+    old new =
+    IsCarried source sink disk (carry_names network base journal from from_base left) old new
 
--- why an order was answered with its command's own no; only stairways,
--- capacities, proofs and batches have one
-abbrev pub OrderIsRefused : {Src Snk Dsk : Type 0} → Sources Src → Disks Dsk → Order
-    → Scene Src Snk Dsk → Type 0
-OrderIsRefused source disk (Tables network out) old = ⊥
-OrderIsRefused source disk (Init network base journal from) old = ⊥
-OrderIsRefused source disk (Stairs network base journal entry out) old =
+-- why an order was answered with its command's own no; only stairways, capacities, proofs, batches
+-- and journals that are carried have one
+abbrev pub OrderIsRefused : {Src Snk Dsk : Type 0} → Sources Src → Sinks Snk → Disks Dsk → Order
+    → Scene Src Snk Dsk → Scene Src Snk Dsk → Type 0
+OrderIsRefused source sink disk (Tables network out) old new = ⊥
+OrderIsRefused source sink disk (Init network base journal from) old new = ⊥
+OrderIsRefused source sink disk (Stairs network base journal entry out) old new =
     HasNoGrant source disk network base journal entry old
-OrderIsRefused source disk (Capacity network base journal first last from to out) old =
+OrderIsRefused source sink disk (Capacity network base journal first last from to out) old new =
     HasNoCapacity source disk network base journal (stretch_of first last from to) old
-OrderIsRefused source disk (Serve network trains base journal clients proofs rules) old = ⊥
-OrderIsRefused source disk (Demo number out) old = ⊥
-OrderIsRefused source disk (Check network trains base journal proof) old =
+OrderIsRefused source sink disk (Serve network trains base journal clients proofs rules) old new = ⊥
+OrderIsRefused source sink disk (Demo number out) old new = ⊥
+OrderIsRefused source sink disk (Check network trains base journal proof) old new =
     IsRefused source disk network trains base journal proof old
-OrderIsRefused source disk (Batch network trains base journal client workers rules) old =
+OrderIsRefused source sink disk (Batch network trains base journal client workers rules) old new =
     IsRefusedList source disk network trains base journal client workers old
+OrderIsRefused source sink disk (Carry network base journal from from_base left) old new =
+    IsNotCarriedOver source sink disk (carry_names network base journal from from_base left) old new
+
+-- What an order left under names, whatever the status. Where a journal is only read, it was; where
+-- one is carried, both disks and the sinks are told, at each moment. Of the others `OrderSays`
+-- tells all.
+abbrev pub OrderLeaves : {Src Snk Dsk : Type 0} → Sources Src → Disks Dsk → Order
+    → Scene Src Snk Dsk → Scene Src Snk Dsk → Type 0
+OrderLeaves source disk (Tables network out) old new = ⊤
+OrderLeaves source disk (Init network base journal from) old new = ⊤
+OrderLeaves source disk (Stairs network base journal entry out) old new =
+    WasOnlyRead disk (old.disks journal) (new.disks journal)
+OrderLeaves source disk (Capacity network base journal first last from to out) old new =
+    WasOnlyRead disk (old.disks journal) (new.disks journal)
+OrderLeaves source disk (Serve network trains base journal clients proofs rules) old new = ⊤
+OrderLeaves source disk (Demo number out) old new = ⊤
+OrderLeaves source disk (Check network trains base journal proof) old new =
+    WasOnlyRead disk (old.disks journal) (new.disks journal)
+OrderLeaves source disk (Batch network trains base journal client workers rules) old new = ⊤
+OrderLeaves source disk (Carry network base journal from from_base left) old new =
+    LeavesCarry source disk (carry_names network base journal from from_base left) old new
 
 -- the order has no disk of this name
 abbrev pub NamesNoDisk : Order → List ℕ → Type 0
@@ -106,6 +135,8 @@ NamesNoDisk (Serve network trains base journal clients proofs rules) name = name
 NamesNoDisk (Demo number out) name = ⊤
 NamesNoDisk (Check network trains base journal proof) name = name ≢ journal
 NamesNoDisk (Batch network trains base journal client workers rules) name = name ≢ journal
+NamesNoDisk (Carry network base journal from from_base left) name =
+    (name ≢ journal) × (name ≢ from)
 
 -- the order serves no clients
 abbrev pub HasNoClients : Order → Type 0
@@ -117,3 +148,16 @@ HasNoClients (Serve network trains base journal clients proofs rules) = ⊥
 HasNoClients (Demo number out) = ⊤
 HasNoClients (Check network trains base journal proof) = ⊤
 HasNoClients (Batch network trains base journal client workers rules) = ⊥
+HasNoClients (Carry network base journal from from_base left) = ⊤
+
+-- the order has no file of this name for lines of entries that are left out
+abbrev pub NamesNoLeft : Order → List ℕ → Type 0
+NamesNoLeft (Tables network out) name = ⊤
+NamesNoLeft (Init network base journal from) name = ⊤
+NamesNoLeft (Stairs network base journal entry out) name = ⊤
+NamesNoLeft (Capacity network base journal first last from to out) name = ⊤
+NamesNoLeft (Serve network trains base journal clients proofs rules) name = ⊤
+NamesNoLeft (Demo number out) name = ⊤
+NamesNoLeft (Check network trains base journal proof) name = ⊤
+NamesNoLeft (Batch network trains base journal client workers rules) name = ⊤
+NamesNoLeft (Carry network base journal from from_base left) name = left ≢ Some name

@@ -10,13 +10,13 @@ use Rattle.outside_io.specs.declared.sources.Source.{Ghosts as Sources}
 use Rattle.command_line.specs.Spelling.{Word}
 use Rattle.command_words.specs.Orders.{AreWords}
 use Rattle.command_words.specs.declared.orders.Order.{Order}
-use Rattle.command_reports.specs.Scenes.{Scene}
+use Rattle.command_reports.specs.Scenes.{ChangesOnlyReport, Scene}
 use Rattle.command_reports.specs.Refusals.{IsTold, line_with}
 use Rattle.command_reports.specs.Reports.{TellsRefusal}
 use Rattle.command_reports.specs.declared.refusals.Refusal.{Refusal}
 use Rattle.command_reports.specs.declared.refusals.Refusal.TheVariants.{Memory}
-use Rattle.osrd_stdcm.specs.Orders.{HasNoClients, NamesNoDisk, OrderIsDone, OrderIsRefused}
-use Rattle.osrd_stdcm.specs.Orders.{OrderSays}
+use Rattle.osrd_stdcm.specs.Orders.{HasNoClients, NamesNoDisk, NamesNoLeft, OrderIsDone}
+use Rattle.osrd_stdcm.specs.Orders.{OrderIsRefused, OrderLeaves, OrderSays}
 
 -- words that spell no order
 abbrev pub AskNothing : List Word → Type 0
@@ -29,6 +29,10 @@ AskNoDisk words name = (order : Order) → AreWords words order → NamesNoDisk 
 -- words of which no order serves clients
 abbrev pub AskNoClients : List Word → Type 0
 AskNoClients words = (order : Order) → AreWords words order → HasNoClients order
+
+-- words of which no order has a file of this name for lines of entries that are left out
+abbrev pub AskNoLeft : List Word → List ℕ → Type 0
+AskNoLeft words name = (order : Order) → AreWords words order → NamesNoLeft order name
 
 -- the words spell an order, and it was carried out with these rules of clients
 pub record Obeys {Src Snk Dsk L : Type 0} (source : Sources Src) (sink : Sinks Snk)
@@ -67,8 +71,21 @@ pub record IsDone {Src Snk Dsk L : Type 0} (source : Sources Src) (sink : Sinks 
   pub done : OrderIsDone source sink disk kind handed order old new
 
 -- the words spell an order, and its command's own no was answered, for this reason
-pub record IsRefused {Src Snk Dsk : Type 0} (source : Sources Src) (disk : Disks Dsk)
-    (words : List Word) (old : Scene Src Snk Dsk) : Type 0 where
+pub record IsRefused {Src Snk Dsk : Type 0} (source : Sources Src) (sink : Sinks Snk)
+    (disk : Disks Dsk) (words : List Word) (old new : Scene Src Snk Dsk) : Type 0 where
   pub order : Order
   pub asked : AreWords words order
-  pub refused : OrderIsRefused source disk order old
+  pub refused : OrderIsRefused source sink disk order old new
+
+-- the words spell an order, and this is what it left under names
+pub record Leaves {Src Snk Dsk : Type 0} (source : Sources Src) (disk : Disks Dsk)
+    (words : List Word) (old new : Scene Src Snk Dsk) : Type 0 where
+  pub order : Order
+  pub asked : AreWords words order
+  pub leaves : OrderLeaves source disk order old new
+
+-- what a run left: nothing changed but the report; or what the order of the words left
+abbrev pub RunLeaves : {Src Snk Dsk : Type 0} → Sources Src → Disks Dsk → List Word
+    → Scene Src Snk Dsk → Scene Src Snk Dsk → Type 0
+RunLeaves source disk words old new =
+    ChangesOnlyReport old new ⊎ Leaves source disk words old new

@@ -1,19 +1,20 @@
 //! Orders, carried out.
 
-ghost use Rattle.std.specs.Prelude.{◌≡◌, ◌≢◌, ℕ, List};
+ghost use Rattle.std.specs.Prelude.{◌≡◌, ◌≢◌, ℕ, List, option_map};
 ghost use Rattle.outside_io.specs.Openings.{Undisturbed};
-ghost use Rattle.outside_io.specs.Places.{Untouched};
 ghost use Rattle.command_words.specs.Orders.{IsWithinLimits};
 ghost use Rattle.command_reports.specs.Scenes.{scene};
-ghost use Rattle.osrd_stdcm.specs.Orders.{HasNoClients, NamesNoDisk, OrderIsDone, OrderIsRefused};
-ghost use Rattle.osrd_stdcm.specs.Orders.{OrderSays};
+ghost use Rattle.osrd_stdcm.specs.Carries.{carry_names};
+ghost use Rattle.osrd_stdcm.specs.Orders.{HasNoClients, NamesNoDisk, NamesNoLeft, OrderIsDone};
+ghost use Rattle.osrd_stdcm.specs.Orders.{OrderIsRefused, OrderLeaves, OrderSays};
 
 use admission_rules::Rule;
 use admission_rules::client_rules::ClientRules;
 use batch_command::run_batch;
+use carry_command::{CarryNames, run_carry};
 use check_command::run_check;
 use command_reports::exit_status::Status;
-use command_words::Order;
+use command_words::{Order, Text};
 use demo_command::run_demo;
 use init_command::{run_init, run_move};
 use outside_io::Outside;
@@ -37,12 +38,16 @@ pub(crate) fn obey<R: AllocGlobal + Threads + Wait + Sync, O: Outside, L: Rule +
         (scene O.Outside outside.old) (scene O.Outside outside.new) result }
     ensures done { result ≡ Status.Done → OrderIsDone O.Src.Source O.Snk.Sink O.Dsk.Disk L.Rule
         rules.items order (scene O.Outside outside.old) (scene O.Outside outside.new) }
-    ensures no { result ≡ Status.No → OrderIsRefused O.Src.Source O.Dsk.Disk order
-        (scene O.Outside outside.old) }
-    ensures clean { HasNoClients order → result ≢ Status.Done → result ≢ Status.Report
-        → Untouched (O.sinks outside.old) (O.sinks outside.new) }
-    ensures refused { result ≢ Status.Done → result ≢ Status.ClientEnd → result ≢ Status.Report
-        → result ≢ Status.Memory → Untouched (O.sinks outside.old) (O.sinks outside.new) }
+    ensures no { result ≡ Status.No → OrderIsRefused O.Src.Source O.Snk.Sink O.Dsk.Disk order
+        (scene O.Outside outside.old) (scene O.Outside outside.new) }
+    ensures leaves { OrderLeaves O.Src.Source O.Dsk.Disk order (scene O.Outside outside.old)
+        (scene O.Outside outside.new) }
+    ensures clean { (name : List ℕ) → NamesNoLeft order name → HasNoClients order
+        → result ≢ Status.Done → result ≢ Status.Report
+        → O.sinks outside.new name ≡ O.sinks outside.old name }
+    ensures refused { (name : List ℕ) → NamesNoLeft order name → result ≢ Status.Done
+        → result ≢ Status.ClientEnd → result ≢ Status.Report → result ≢ Status.Memory
+        → O.sinks outside.new name ≡ O.sinks outside.old name }
     ensures words { result ≢ Status.Words }
     ensures back { Undisturbed (O.standing outside.old) (O.standing outside.new) }
     ensures disks { (name : List ℕ) → NamesNoDisk order name
@@ -163,5 +168,48 @@ pub(crate) fn obey<R: AllocGlobal + Threads + Wait + Sync, O: Outside, L: Rule +
             rules,
             outside,
         ),
+        Order::Carry {
+            network,
+            base,
+            journal,
+            from,
+            from_base,
+            left,
+        } => {
+            let names = names_of(&network, &base, &journal, &from, &from_base, &left);
+            run_carry(alloc, &names, outside)
+        }
+    }
+}
+
+// The names of an order to carry.
+fn names_of<'a>(
+    network: &'a Text,
+    base: &'a Text,
+    journal: &'a Text,
+    from: &'a Text,
+    from_base: &'a Text,
+    left: &'a Option<Text>,
+) -> CarryNames<'a>
+    ensures { result ≡ carry_names network.now base.now journal.now from.now from_base.now
+        left.now }
+{
+    CarryNames::new(
+        network.as_str(),
+        base.as_str(),
+        journal.as_str(),
+        from.as_str(),
+        from_base.as_str(),
+        name_in(left),
+    )
+}
+
+// A name that may be left out.
+fn name_in(name: &Option<Text>) -> Option<&str>
+    ensures { option_map (λ text. text.now) result ≡ name.now }
+{
+    match name {
+        Some(text) => Some(text.as_str()),
+        None => None,
     }
 }

@@ -2,11 +2,10 @@
 
 ghost use Rattle.std.specs.Prelude.{◌≡◌, ◌≢◌, ◌⊎◌, ℕ, List, map, string_bytes};
 ghost use Rattle.outside_io.specs.Openings.{Undisturbed};
-ghost use Rattle.outside_io.specs.Places.{Untouched};
 ghost use Rattle.command_reports.specs.Scenes.{scene};
 ghost use Rattle.osrd_stdcm.specs.Complete.{AreUnhindered, IsAnswered};
-ghost use Rattle.osrd_stdcm.specs.Runs.{AskNoClients, AskNoDisk, AskNothing, IsDone, IsRefused};
-ghost use Rattle.osrd_stdcm.specs.Runs.{RunSays, TellsWords};
+ghost use Rattle.osrd_stdcm.specs.Runs.{AskNoClients, AskNoDisk, AskNoLeft, AskNothing, IsDone};
+ghost use Rattle.osrd_stdcm.specs.Runs.{IsRefused, RunLeaves, RunSays, TellsWords};
 
 use crate::orders::obey;
 use admission_rules::Rule;
@@ -51,6 +50,12 @@ use std::thread::Threads;
 /// which are made and handed in as those of `serve` are. A list with a line that does not ask, or
 /// with a number that stands twice, is refused as a whole.
 ///
+/// `carry --network F --base F --journal F --from G --from-base H` carries the live holds and
+/// grants of an old journal, which is one of the network and the base timetable of H, into a new
+/// one, on an empty disk. Each is judged by the new timetable and by those carried before it.
+/// Where one cannot stand there, nothing is carried, and the first such one is reported; with
+/// `--left L` it is left out, and its line written to L before the new journal is.
+///
 /// `demo --number N --out F` asks a thousand times on a railway of its own, and
 /// writes how many asks were granted.
 ///
@@ -75,19 +80,26 @@ pub fn run<R: AllocGlobal + Threads + Wait + Sync, O: Outside, L: Rule + Send>(
         rules.items (map string_bytes words.now) (scene O.Outside outside.old)
         (scene O.Outside outside.new) }
     // At No the command's own no was answered, for a reason that it has.
-    ensures no { result ≡ Status.No → IsRefused O.Src.Source O.Dsk.Disk
-        (map string_bytes words.now) (scene O.Outside outside.old) }
+    ensures no { result ≡ Status.No → IsRefused O.Src.Source O.Snk.Sink O.Dsk.Disk
+        (map string_bytes words.now) (scene O.Outside outside.old) (scene O.Outside outside.new) }
     // Where nothing hinders what the words ask for, it is done, or the command's own no is
     // answered, but for want of memory.
     ensures complete { AreUnhindered O.Src.Source O.Snk.Sink O.Dsk.Disk
         (scene O.Outside outside.old) (scene O.Outside outside.new) (map string_bytes words.now)
         → IsAnswered result }
-    // At a refusal no sink gained anything: whatever the words, and at want of memory too
-    // where they serve no clients.
-    ensures refused { result ≢ Status.Done → result ≢ Status.ClientEnd → result ≢ Status.Report
-        → result ≢ Status.Memory → Untouched (O.sinks outside.old) (O.sinks outside.new) }
-    ensures clean { AskNoClients (map string_bytes words.now) → result ≢ Status.Done
-        → result ≢ Status.Report → Untouched (O.sinks outside.old) (O.sinks outside.new) }
+    // At a refusal no sink gained anything, but for a file for the lines of entries that are left
+    // out: whatever the words, and at want of memory too where they serve no clients.
+    ensures refused { (name : List ℕ) → AskNoLeft (map string_bytes words.now) name
+        → result ≢ Status.Done → result ≢ Status.ClientEnd → result ≢ Status.Report
+        → result ≢ Status.Memory → O.sinks outside.new name ≡ O.sinks outside.old name }
+    ensures clean { (name : List ℕ) → AskNoLeft (map string_bytes words.now) name
+        → AskNoClients (map string_bytes words.now) → result ≢ Status.Done
+        → result ≢ Status.Report → O.sinks outside.new name ≡ O.sinks outside.old name }
+    // Whatever the status, a journal that is only to be read was only read. Where one is carried,
+    // a crash at each moment leaves a new disk that is empty, refused, or has the whole journal,
+    // and no sink gained anything but that of the lines, once all was read and worked out.
+    ensures leaves { RunLeaves O.Src.Source O.Dsk.Disk (map string_bytes words.now)
+        (scene O.Outside outside.old) (scene O.Outside outside.new) }
     // Whatever the status, all that was opened is put back, and no disk is touched
     // but those that the words name.
     ensures back { Undisturbed (O.standing outside.old) (O.standing outside.new) }

@@ -21,3 +21,13 @@ returns-in-Ok-clause-complete g c u =
 pub returns-in-Err-NotUnderstood-clause-complete : goal.returns-in-Err-NotUnderstood-clause-complete
 returns-in-Err-NotUnderstood-clause-complete g c u =
     absurd (c.in-Err-NotUnderstood.ensures.refused (search rules) u.order u.asked)
+
+pub returns-in-Ok-clause-leaves : goal.returns-in-Ok-clause-leaves
+returns-in-Ok-clause-leaves g c = inr (record {
+  order = c.in-Ok.order;
+  asked = c.in-Ok.ensures.understood;
+  leaves = c.obey.ensures.leaves;
+})
+
+pub returns-in-Err-NotUnderstood-clause-leaves : goal.returns-in-Err-NotUnderstood-clause-leaves
+returns-in-Err-NotUnderstood-clause-leaves g c = inl c.refuse_words.ensures.tells.reports.only

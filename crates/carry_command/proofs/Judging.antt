@@ -1,0 +1,46 @@
+-- What a hold or a grant with a new number is told.
+use Rattle.std.proofs.Common.{◌≡◌, ◌↔◌, ◌∙◌, ℕ, true, false, List, length, slice_get, Contains, Some, None, sym, ap, arith}
+use Rattle.std.proofs.lemmas.List.Elements.{All-contains}
+use Rattle.std.proofs.lemmas.Option.{slice_get_within}
+use Rattle.grant_log.specs.declared.verdicts.Verdict.{Verdict}
+use Rattle.grant_log.specs.declared.verdicts.Verdict.TheVariants.{Kept, Gone, Other, BreaksRequest, Taken, Unknown, NotYours, AlreadyFreed, Fresh}
+use Rattle.grant_log.specs.Live.{claims_of, freed_by, live_claims}
+use Rattle.grant_log.specs.Meanings.{IsNew, IsNumbered, Says, StandsAt}
+use Rattle.grant_log.specs.Verdict.{takes}
+use Rattle.grant_log.proofs.Slices.{is_contained}
+use Rattle.rail_types.specs.declared.entries.Deed.{Deed}
+use Rattle.rail_types.specs.declared.entries.Deed.TheVariants.{Free}
+use Rattle.rail_types.specs.declared.entries.Entry.{Entry}
+use Rattle.rail_types.specs.declared.entries.Owner.TheVariants.{Base as of_train, Entry as of_entry}
+use Rattle.rail_types.specs.declared.paths.Claim.{Claim}
+use Rattle.rail_types.specs.Timetables.{Timetable}
+use Rattle.carry_command.specs.CarriedInside.{IsToldNew}
+
+-- each claim that is live with an entry as its owner is one of an entry that stands there
+abbrev pub Unfreed : Timetable → List Entry → Type 0
+Unfreed timetable entries =
+    (claim : Claim) (at : ℕ) → Contains (live_claims timetable entries) (claim, of_entry at) ↔
+    ((entry : Entry) × (slice_get entries at ≡ Some entry)
+    × Contains (claims_of timetable entry.deed) claim × (freed_by entries at ≡ None))
+
+not_stands : (entries : List Entry) (entry : Entry) (at : ℕ) (stands : Entry) → IsNew entries entry → StandsAt entries entry at stands → ⊥
+not_stands entries entry at stands new is =
+    All-contains (λ other. ¬ IsNumbered entry.owner entry.number other) entries stands new (is_contained entries at stands is.here) is.numbered
+
+not_free : (deed : Deed) (at : ℕ) → takes deed ≡ true → deed ≡ Free at → ⊥
+not_free deed at takes_zones is = let wrong : false ≡ true = sym (ap takes is) ∙ takes_zones in absurd cc
+
+pub told_new : (timetable : Timetable) (entries : List Entry) (entry : Entry) (verdict : Verdict) (count : ℕ) → takes entry.deed ≡ true → IsNew entries entry → count ≡ length entries → Unfreed timetable entries → Says timetable entries entry verdict → IsToldNew count verdict
+told_new timetable entries entry (Kept at) count takes_zones new same law says = absurd (not_stands entries entry at says.0.0 new says.0.1)
+told_new timetable entries entry (Gone at freer) count takes_zones new same law says = absurd (not_stands entries entry at says.0.0 new says.0.1)
+told_new timetable entries entry (Other at) count takes_zones new same law says = absurd (not_stands entries entry at says.0 new says.1)
+told_new timetable entries entry (BreaksRequest rule) count takes_zones new same law says = tt
+told_new timetable entries entry (Taken claim (of_train train)) count takes_zones new same law says = tt
+told_new timetable entries entry (Taken claim (of_entry place)) count takes_zones new same law says =
+    let stands = (law claim place).0 says.1.first.is_held in
+    let within = slice_get_within entries place stands.0 stands.1 in
+    omega (arith, within, same)
+told_new timetable entries entry Unknown count takes_zones new same law says = absurd (not_free entry.deed says.1.0 takes_zones says.1.1)
+told_new timetable entries entry (NotYours owner) count takes_zones new same law says = absurd (not_free entry.deed says.1.0 takes_zones says.1.2.frees)
+told_new timetable entries entry (AlreadyFreed freer) count takes_zones new same law says = absurd (not_free entry.deed says.1.0 takes_zones says.1.2.frees)
+told_new timetable entries entry Fresh count takes_zones new same law says = tt

@@ -1,0 +1,14 @@
+pub mod Parts
+pub mod Judging
+pub mod Steps
+pub mod Whole
+pub mod Spelled
+pub mod Places
+pub mod Holding
+pub mod Stepping
+pub mod Refused
+pub mod Reaching
+pub mod Ending
+pub mod Moments
+pub mod Unfinished
+pub mod Again

@@ -1,0 +1,13 @@
+pub mod Unfinished
+pub mod Carried
+pub mod CarriedInside
+pub mod Names
+pub mod Before
+pub mod Lent
+pub mod Disks
+pub mod Lines
+pub mod Prepared
+pub mod Inside
+pub mod Olds
+pub mod Works
+pub mod Runs
