@@ -1,5 +1,6 @@
 pub mod Alike
 pub mod Copies
+pub mod Courses
 pub mod Judged
 pub mod Searching
 pub mod Short

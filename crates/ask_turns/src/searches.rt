@@ -14,10 +14,11 @@ use client_lines::Known;
 use client_lines::reply_texts::reply_room;
 use no_memory::NoMemory;
 use path_labels::certificates::{Certified, certificates_can_be_told, seek_certified};
-use path_labels::find;
+use path_labels::find_along;
 use proof_texts::{Proof, proof_text};
 use rail_types::{Deed, Entry, MAX_NUMBER, Path, Settings, Wanted};
 use std::alloc::Global;
+use tail_states::windows_change_no_places;
 
 // Searches a path beside the client's copy, and makes room for the reply that tells it. None where
 // no path can be granted there. The buffer of the proof is emptied before, and where one is wanted
@@ -77,17 +78,18 @@ fn seek_path(
     ensures bare { proves ≡ false → proof.new.held ≡ [] }
 {
     certificates_can_be_told();
+    windows_change_no_places();
     proof.clear();
     let railway = known.railway();
     let net = &railway.network;
     if !proves {
-        return find(
+        return find_along(
             alloc,
             net,
             settings,
             client.copy(),
             &ask.request,
-            &ask.places,
+            &ask.course,
         );
     }
     let found = seek_certified(
@@ -96,7 +98,7 @@ fn seek_path(
         settings,
         client.copy(),
         &ask.request,
-        &ask.places,
+        ask.course.places(),
     )?;
     let Certified {
         path,

@@ -16,9 +16,11 @@ use Rattle.rail_types.specs.declared.limits.TheConstants.{MAX_PLACES}
 use Rattle.rail_types.specs.declared.paths.Path.{Path}
 use Rattle.rail_types.specs.declared.paths.Run.{Run}
 use Rattle.rail_types.specs.declared.trains.Request.{Request}
+use Rattle.rail_types.specs.Timetables.{Timetable}
 use Rattle.client_lines.specs.declared.reply_texts.replies.Reply.{Reply}
 use Rattle.client_lines.specs.declared.reply_texts.replies.Reply.TheVariants as reply
-use Rattle.tail_states.specs.Listed.{HasMoreThan, Listed}
+use Rattle.path_labels.specs.declared.course_searches.Course.{Course}
+use Rattle.tail_states.specs.Listed.{HasMoreThan}
 use Rattle.ask_turns.specs.declared.client_turns.halts.Halt.{Halt}
 use Rattle.ask_turns.specs.declared.client_turns.halts.Halt.TheVariants as halt
 use Rattle.ask_turns.specs.declared.client_turns.told.Entered.{Entered as Became}
@@ -35,7 +37,7 @@ use Rattle.ask_turns.specs.Searched.{AreMissed, IsMissed}
 use Rattle.ask_turns.specs.Tries.{HasSearched, HasStopped, HaveMissed, IsJudged, IsOfNumber, IsTheFront, Stops}
 use Rattle.ask_turns.specs.Tries.{SoFar as Searched}
 use Rattle.line_answers.specs.Answers.{Adds, Caller, GivesLine, IsAllowed, IsEntryOf, IsNarrow, IsNarrowLine, IsReached, IsSearched, Leaves, entry_of}
-use Rattle.line_answers.specs.Asked.{TellsAsk, asking}
+use Rattle.line_answers.specs.Asked.{IsOutcomeTold, TellsAsk, asking}
 use Rattle.line_answers.specs.Callers.{AnswersLine}
 use Rattle.line_answers.specs.Calls.{AnswersBetween, HasTurns, IsOf, IsSettled, Settle, TakesOneTurn}
 use Rattle.line_answers.specs.Points.{added}
@@ -98,6 +100,13 @@ by_repeat entries deed at (refusal.Other verdict.Fresh) is =
 pub of_number : (entries : List Entry) (owner : List ℕ) (number : ℕ) (deed : Deed) (told : Refusal)
     → IsFoundAgain entries owner number deed (Some told) → IsOfNumber told
 of_number entries owner number deed told found = by_repeat entries deed found.0 told found.2
+
+-- what comes of an ask refuses it by its number alone
+pub outcome_told : (timetable : Timetable) (owner : List ℕ) (ask : Ask) (told : Outcome) (u w : Sight)
+    → HasSearched timetable owner ask told u w → IsOutcomeTold told
+outcome_told timetable owner ask (outcome.Entered told runs) u w is = is.2.by_number
+outcome_told timetable owner ask outcome.NoPath u w is = tt
+outcome_told timetable owner ask (outcome.Again at front) u w is = tt
 
 module _ (caller : Caller) (number : ℕ) (request : Request) (after : Option ℕ) where
   abbrev line : Line
@@ -198,9 +207,9 @@ module _ (caller : Caller) (number : ℕ) (request : Request) (after : Option �
     want_line bytes read =
         looked caller bytes v u reply.NoMemory looks looks.same refl tt (λ ts all. all) (λ ts some. tt)
 
-    module _ (narrow : IsNarrow caller request) (places : Listed) where
+    module _ (narrow : IsNarrow caller request) (course : Course) where
       abbrev its_ask : Ask
-      its_ask = record { number = number; line = caller.line_number; request = request; places = places }
+      its_ask = record { number = number; line = caller.line_number; request = request; course = course }
 
       so : (bytes : List ℕ) → SoFar caller bytes v u u.found.list (u.found.list ∷ [])
       so bytes = first_look caller bytes v u looks

@@ -1,12 +1,15 @@
 //! A path that is sought: what its number stands for, and then its searches.
-ghost use Rattle.std.specs.Prelude.{◌≡◌, ◌+◌, ◌⊎◌, ◌≤◌, IfOk};
+ghost use Rattle.std.specs.Prelude.{◌≡◌, ◌+◌, ◌⊎◌, ◌≤◌, IfErr, IfOk, IfSome};
 ghost use Rattle.book_gate.specs.Passes.{turns_left, view};
 ghost use Rattle.client_lines.specs.Within.{IsAskWithin};
 ghost use Rattle.client_lines.specs.declared.asks.Ask.TheVariants.{Path as path_of};
-ghost use Rattle.rail_types.specs.Limits.{IsClientName};
+ghost use Rattle.path_labels.specs.Courses.{IsCourse};
+ghost use Rattle.rail_types.specs.Limits.{IsClientName, IsRequestWithinLimits};
 ghost use Rattle.rail_types.specs.declared.entries.Deed.TheVariants.{Grant};
 ghost use Rattle.rail_types.specs.declared.entries.Wanted.TheVariants.{Asked};
+ghost use Rattle.rail_types.specs.declared.limits.TheConstants.{MAX_PLACES};
 ghost use Rattle.rail_types.specs.declared.paths.Path.{Path as path_type};
+ghost use Rattle.tail_states.specs.Listed.{HasMoreThan, Refuses};
 ghost use Rattle.client_lines.specs.Rooms.{room_for};
 ghost use Rattle.ask_turns.specs.Clients.{IsCopyOf, Knows};
 ghost use Rattle.ask_turns.specs.Turns.{IsReady, timetable_at};
@@ -26,11 +29,12 @@ use client_lines::reply_texts::Reply;
 use no_memory::NoMemory;
 use outside_io::{Between, Disk};
 use path_commit::Book;
+use path_labels::Course;
 use proof_texts::asks_can_be_told;
 use rail_types::{Deed, List, Network, Path, Request, Wanted};
 use std::alloc::Global;
 use std::sync::Wait;
-use tail_states::{PlacesFault, places, sound_networks_are_asked};
+use tail_states::{PlacesFault, places, sound_networks_are_asked, windows_change_no_places};
 
 // Seeks a path.
 pub(crate) fn ask<R: Wait, D: Disk, B: Between>(
@@ -137,10 +141,9 @@ fn seek_path<R: Wait, D: Disk, B: Between>(
     ensures room { HasRoomIn text.new result ⊎ AddsNothing result }
 {
     asks_can_be_told();
-    sound_networks_are_asked();
-    let net = network_of(shared);
-    let places = match places(alloc, net, &shared.followers, &request) {
-        Ok(places) => places,
+    let kept = client.take_course(&request);
+    let course = match course_of(alloc, shared, kept, &request) {
+        Ok(course) => course,
         Err(PlacesFault::Wide { count: _count }) => {
             return Reply::Wide {
                 number,
@@ -153,9 +156,9 @@ fn seek_path<R: Wait, D: Disk, B: Between>(
         number,
         line: line_number,
         request,
-        places,
+        course,
     };
-    match try_searches(
+    let searched = try_searches(
         rt,
         alloc,
         &shared.gate,
@@ -168,10 +171,40 @@ fn seek_path<R: Wait, D: Disk, B: Between>(
         proves,
         proof,
         between,
-    ) {
+    );
+    client.keep_course(ask.course);
+    match searched {
         Ok(outcome) => ask_told(number, outcome, client.front()),
         Err(halt) => halted(halt),
     }
+}
+
+// The course of a request: the one that was kept for it, or else it is worked out.
+fn course_of<D: Disk>(
+    alloc: Global,
+    shared: &Shared<D>,
+    kept: Option<Course>,
+    request: &Request,
+) -> Result<Course, PlacesFault>
+    requires shared { IsShared shared.now }
+    requires request { IsRequestWithinLimits request.now }
+    requires kept { IfSome kept (IsCourse (timetable_at shared.now.gate).net
+        (timetable_at shared.now.gate).settings request.now) }
+    ensures course { IfOk result (IsCourse (timetable_at shared.now.gate).net
+        (timetable_at shared.now.gate).settings request.now) }
+    ensures narrow { IfOk result (λ _.
+        ¬ HasMoreThan MAX_PLACES (timetable_at shared.now.gate).net request.now) }
+    ensures wide { IfErr result (Refuses (timetable_at shared.now.gate).net request.now) }
+{
+    sound_networks_are_asked();
+    windows_change_no_places();
+    if let Some(course) = kept {
+        return Ok(course);
+    }
+    let net = network_of(shared);
+    let places = places(alloc, net, &shared.followers, request)?;
+    let course = Course::of(alloc, net, &shared.settings, request, places)?;
+    Ok(course)
 }
 
 // The network of the book.

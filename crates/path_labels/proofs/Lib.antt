@@ -9,3 +9,4 @@ pub mod Passing
 pub mod Places
 pub mod PlanningPlaces
 pub mod Searching
+pub mod Keeping

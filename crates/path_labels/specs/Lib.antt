@@ -4,3 +4,4 @@ pub mod Certified
 pub mod Laws
 pub mod Plans
 pub mod Searched
+pub mod Courses

@@ -1,4 +1,4 @@
-use Rattle.std.proofs.Common.{◌++◌, ◌≤◌, ℕ, List, ap, ◌∙◌, subst, length, arith}
+use Rattle.std.proofs.Common.{◌++◌, ◌≤◌, ℕ, List, ap, sym, ◌∙◌, subst, length, arith}
 use Rattle.path_labels.specs.Certified.{IsCertified}
 use Rattle.rail_types.specs.declared.named_network.Named.{Named}
 use Rattle.occupation_book.specs.Zones.{Zone}
@@ -6,9 +6,25 @@ use Rattle.path_labels.specs.Answers.{claims_held}
 use Rattle.proof_texts.specs.declared.refusals.Proof.{Proof}
 use Rattle.proof_texts.specs.Texts.{proof_text}
 use Rattle.rail_types.specs.declared.limits.TheConstants.{MAX_NUMBER}
+use Rattle.tail_states.specs.Listed.{AreTheMoves, AreThePlaces, Listed}
 use Rattle.ask_turns.specs.Shown.{IsShown}
+use Rattle.ask_turns.proofs.Courses.{its_moves, its_places}
 use Rattle.ask_turns.proofs.Showing.{is_shown}
 use Rattle.ask_turns.proofs.searches.seek_path.Goals as goal
+
+pub seek_certified-requires-clause-places : goal.seek_certified-requires-clause-places
+seek_certified-requires-clause-places c =
+    let net = c.args.known.now.railway.network in let settings = c.args.settings.now in let ask = c.args.ask.now in
+    let its = its_places net settings ask.request ask.course c.requires.may.course c.windows_change_no_places.ensures in
+    subst (λ (places : Listed). AreThePlaces c.railway-railway.result.now.network ask.request places.members) (sym c.places.ensures)
+    (subst (λ (railway : Named). AreThePlaces railway.network ask.request ask.course.places.members) (sym c.railway-railway.ensures) its)
+
+pub seek_certified-requires-clause-moves : goal.seek_certified-requires-clause-moves
+seek_certified-requires-clause-moves c =
+    let net = c.args.known.now.railway.network in let settings = c.args.settings.now in let ask = c.args.ask.now in
+    let its = its_moves net settings ask.request ask.course c.requires.may.course c.windows_change_no_places.ensures in
+    subst (λ (places : Listed). AreTheMoves c.railway-railway.result.now.network ask.request places) (sym c.places.ensures)
+    (subst (λ (railway : Named). AreTheMoves railway.network ask.request ask.course.places) (sym c.railway-railway.ensures) its)
 
 pub returns-clause-shown : goal.returns-clause-shown
 returns-clause-shown c proved =
@@ -16,10 +32,12 @@ returns-clause-shown c proved =
     let copy : List Zone = c.args.client.now.copy in let found = c.in_ok-found.found in
     let front : ℕ = c.front-at.result in let text : List ℕ = c.proof_text.new.to.held in
     let written : Proof = record { at = front; number = ask.number; request = found.excluded; closed = found.closed } in
-    let certified = subst (λ (railway : Named). IsCertified railway.network settings (claims_held copy) ask.request ask.places found)
+    let listed = subst (λ (places : Listed). IsCertified c.railway-railway.result.now.network settings
+    (claims_held c.copy-2.result.now) ask.request places found) c.places.ensures c.in_ok-found.ensures in
+    let certified = subst (λ (railway : Named). IsCertified railway.network settings (claims_held copy) ask.request ask.course.places found)
     c.railway-railway.ensures
-    (subst (λ (book : List Zone). IsCertified c.railway-railway.result.now.network settings (claims_held book) ask.request ask.places found)
-    c.copy-2.ensures c.in_ok-found.ensures) in
+    (subst (λ (book : List Zone). IsCertified c.railway-railway.result.now.network settings (claims_held book) ask.request ask.course.places found)
+    c.copy-2.ensures listed) in
     let early : front ≤ MAX_NUMBER = let not_more = c.if-at-gt-MAX_NUMBER.false in omega arith in
     let few : length found.closed.members ≤ MAX_NUMBER =
     let not_more = c.if-len-gt-MAX_NUMBER.false in let long = c.len.ensures in omega arith in
