@@ -11,6 +11,7 @@ ghost use Rattle.osrd_stdcm.specs.Orders.{OrderSays};
 use admission_rules::Rule;
 use admission_rules::client_rules::ClientRules;
 use batch_command::run_batch;
+use capacity_406::Stretch;
 use check_command::run_check;
 use command_reports::exit_status::Status;
 use command_words::Order;
@@ -20,6 +21,7 @@ use outside_io::Outside;
 use print_commands::capacity_command::run_capacity;
 use print_commands::list_command::run_list;
 use print_commands::stairs_command::run_stairs;
+use request_server::RunNames;
 use request_server::serve_command::run_serve;
 use std::alloc::AllocGlobal;
 use std::sync::Wait;
@@ -97,18 +99,23 @@ pub(crate) fn obey<R: AllocGlobal + Threads + Wait + Sync, O: Outside, L: Rule +
             from,
             to,
             out,
-        } => run_capacity(
-            alloc,
-            network.as_str(),
-            base.as_str(),
-            journal.as_str(),
-            first,
-            last,
-            from,
-            to,
-            out.as_str(),
-            outside,
-        ),
+        } => {
+            let stretch = Stretch {
+                first,
+                last,
+                from,
+                to,
+            };
+            run_capacity(
+                alloc,
+                network.as_str(),
+                base.as_str(),
+                journal.as_str(),
+                &stretch,
+                out.as_str(),
+                outside,
+            )
+        }
         Order::Serve {
             network,
             trains,
@@ -117,17 +124,22 @@ pub(crate) fn obey<R: AllocGlobal + Threads + Wait + Sync, O: Outside, L: Rule +
             clients,
             proofs,
             ..
-        } => run_serve(
-            rt,
-            network.as_str(),
-            trains.as_str(),
-            base.as_str(),
-            journal.as_str(),
-            clients.as_slice(),
-            proofs.as_slice(),
-            rules,
-            outside,
-        ),
+        } => {
+            let names = RunNames {
+                network: network.as_str(),
+                trains: trains.as_str(),
+                base: base.as_str(),
+                journal: journal.as_str(),
+            };
+            run_serve(
+                rt,
+                &names,
+                clients.as_slice(),
+                proofs.as_slice(),
+                rules,
+                outside,
+            )
+        }
         Order::Demo { number, out } => run_demo(rt, number, out.as_str(), outside),
         Order::Check {
             network,
@@ -152,16 +164,14 @@ pub(crate) fn obey<R: AllocGlobal + Threads + Wait + Sync, O: Outside, L: Rule +
             client,
             workers,
             ..
-        } => run_batch(
-            rt,
-            network.as_str(),
-            trains.as_str(),
-            base.as_str(),
-            journal.as_str(),
-            &client,
-            workers,
-            rules,
-            outside,
-        ),
+        } => {
+            let names = RunNames {
+                network: network.as_str(),
+                trains: trains.as_str(),
+                base: base.as_str(),
+                journal: journal.as_str(),
+            };
+            run_batch(rt, &names, &client, workers, rules, outside)
+        }
     }
 }

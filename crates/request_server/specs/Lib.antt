@@ -10,6 +10,9 @@ pub mod Tellings
 pub mod StreamClients
 pub mod Lending
 pub mod Refusing
+pub mod Kinds
+pub mod GivenNames
+pub mod Clienteles
 pub mod ServeRuns
 pub mod Works
 pub mod ServeJournals

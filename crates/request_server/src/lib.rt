@@ -7,6 +7,7 @@ pub mod client_seats;
 pub mod client_streams;
 mod clients;
 mod plans;
+mod run_names;
 mod runs;
 pub mod serve_command;
 pub mod serve_reports;
@@ -14,4 +15,5 @@ pub mod served_journals;
 
 pub use clients::serve_client;
 pub use plans::{Plan, Session};
+pub use run_names::RunNames;
 pub use runs::serve_clients;
