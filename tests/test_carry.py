@@ -27,7 +27,7 @@ sys.dont_write_bytecode = True
 REPOSITORY = Path(__file__).resolve().parent.parent
 sys.path[:0] = [str(REPOSITORY / name) for name in ("tools", "tests")]
 
-from cases import Cases, program_of  # noqa: E402
+from cases import Cases, World, program_of  # noqa: E402
 from journal_file import Claim, Entry, read_journal  # noqa: E402
 
 EXAMPLES = REPOSITORY / "examples"
@@ -59,14 +59,8 @@ class Told:
 
 
 @dataclass(frozen=True)
-class Site:
+class Site(World):
     """A folder with the files of a line of three blocks, and the program over them."""
-
-    program: Path
-    folder: Path
-
-    def path(self, name: str) -> Path:
-        return self.folder / name
 
     def held(self, name: str) -> bytes:
         """The bytes of a file, none where it is not there."""
@@ -74,7 +68,7 @@ class Site:
 
     def base(self, name: str, **settings: object) -> None:
         """Writes a base file with these settings in the place of the usual ones."""
-        self.path(name).write_text(json.dumps(SETTINGS | settings))
+        self.write(name, SETTINGS | settings)
 
     def words(self, command: str, names: dict[str, str], *more: str) -> list[str]:
         return [str(self.program), command,

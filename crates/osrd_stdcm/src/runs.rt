@@ -96,8 +96,9 @@ pub fn run<R: AllocGlobal + Threads + Wait + Sync, O: Outside, L: Rule + Send>(
         → AskNoClients (map string_bytes words.now) → result ≢ Status.Done
         → result ≢ Status.Report → O.sinks outside.new name ≡ O.sinks outside.old name }
     // Whatever the status, a journal that is only to be read was only read. Where one is carried,
-    // a crash at each moment leaves a new disk that is empty, refused, or has the whole journal,
-    // and no sink gained anything but that of the lines, once all was read and worked out.
+    // a crash at each moment leaves of the new disk what it would have left before, or the whole
+    // journal, or bytes that are opened as none; and no sink gained anything but that of the lines,
+    // once all was read and worked out.
     ensures leaves { RunLeaves O.Src.Source O.Dsk.Disk (map string_bytes words.now)
         (scene O.Outside outside.old) (scene O.Outside outside.new) }
     // Whatever the status, all that was opened is put back, and no disk is touched
