@@ -1,7 +1,7 @@
 -- Members that pass the check pass it beside the same claims, in whatever order they are held.
 use Rattle.std.proofs.Common.{List}
 use Rattle.std.specs.Prelude.{ℤ, ◌+ℤ◌, pos}
-use Rattle.path_labels.specs.Certified.{Passes}
+use Rattle.ask_turns.specs.Certified.{Passes}
 use Rattle.rail_types.specs.declared.entries.Settings.{Settings}
 use Rattle.rail_types.specs.declared.tracks.Network.{Network}
 use Rattle.rail_types.specs.declared.trains.Request.{Request}

@@ -1,4 +1,6 @@
 pub mod Alike
+pub mod CertificatePlaces
+pub mod Passing
 pub mod Copies
 pub mod Judged
 pub mod Searching

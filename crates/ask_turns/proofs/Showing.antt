@@ -1,8 +1,8 @@
 -- The text of what shows an answer.
 use Rattle.std.proofs.Common.{◌≡◌, ℕ, ◌≤◌, List, Option, None, Some, length, sym, ◌∙◌, subst, refl}
-use Rattle.path_labels.specs.declared.certificates.searches.Certified.{Certified}
-use Rattle.path_labels.specs.Certified.{IsCertified, Passes, excluded}
-use Rattle.path_labels.specs.Laws.{CertificatesCanBeTold}
+use Rattle.ask_turns.specs.declared.certificates.searches.Certified.{Certified}
+use Rattle.ask_turns.specs.Certified.{IsCertified, Passes, excluded}
+use Rattle.ask_turns.specs.CertificateLaws.{CertificatesCanBeTold}
 use Rattle.client_lines.specs.Names.{Names}
 use Rattle.grant_log.specs.Live.{live_claims}
 use Rattle.occupation_book.specs.Held.{held}

@@ -1,3 +1,5 @@
+pub mod CertificateLaws
+pub mod Certified
 pub mod Finds
 pub mod Laws
 pub mod Searched

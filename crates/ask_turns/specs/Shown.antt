@@ -1,6 +1,6 @@
 -- What the text of a proof shows beside an ask.
 use Rattle.std.specs.Prelude.{◌≡◌, ℕ, List, Option, None, Some, length}
-use Rattle.path_labels.specs.Certified.{Passes, excluded}
+use Rattle.ask_turns.specs.Certified.{Passes, excluded}
 use Rattle.client_lines.specs.Names.{Names}
 use Rattle.path_labels.specs.Answers.{claims_held}
 use Rattle.proof_texts.specs.declared.refusals.Proof.{Proof}

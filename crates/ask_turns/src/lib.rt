@@ -3,6 +3,7 @@
 #![tactic(auto)]
 
 mod asks;
+pub mod certificates;
 pub mod client_turns;
 mod laws;
 mod searches;

@@ -7,13 +7,13 @@ ghost use Rattle.ask_turns.specs.Finds.{HasRoom, IsFoundBeside, MayBeSearched, e
 ghost use Rattle.ask_turns.specs.Shown.{IsShown, ShowsBeside};
 
 use crate::asks::{Ask, Found};
+use crate::certificates::{Certified, certificates_can_be_told, seek_certified};
 use crate::client_turns::Client;
 use crate::laws::found_paths_are_short;
 use byte_fields::Buffer;
 use client_lines::Known;
 use client_lines::reply_texts::reply_room;
 use no_memory::NoMemory;
-use path_labels::certificates::{Certified, certificates_can_be_told, seek_certified};
 use path_labels::find;
 use proof_texts::{Proof, proof_text};
 use rail_types::{Deed, Entry, MAX_NUMBER, Path, Settings, Wanted};

@@ -4,7 +4,7 @@ use Rattle.admission_rules.specs.declared.rules.Rule.{Ghosts as Rules}
 use Rattle.batch_pool.specs.Batches.{Leads}
 use Rattle.batch_command.specs.Clerks.{Answers, told_of}
 use Rattle.batch_command.specs.declared.batch_server.clerks.Clerk.{Clerk}
-use Rattle.request_server.specs.Seats.{AnswersAt}
+use Rattle.served_clients.specs.Seats.{AnswersAt}
 use Rattle.line_sessions.specs.Told.{AreAnswered, Told}
 use Rattle.client_lines.specs.declared.reply_texts.replies.Reply.{Reply}
 

@@ -13,22 +13,22 @@ use Rattle.command_reports.specs.Scenes.{Scene}
 use Rattle.client_lines.specs.Names.{Names}
 use Rattle.admission_rules.specs.declared.rules.Rule.{Ghosts as Rules}
 use Rattle.admission_rules.specs.declared.client_rules.clients.ClientRules.{ClientRules}
-use Rattle.request_server.specs.StreamClients.{pair_calls}
-use Rattle.request_server.proofs.StreamStops.{opens_moved_all}
-use Rattle.request_server.proofs.Uses.{exchanged_at}
+use Rattle.served_clients.specs.StreamClients.{pair_calls}
+use Rattle.served_clients.proofs.StreamStops.{opens_moved_all}
+use Rattle.served_clients.proofs.Uses.{exchanged_at}
 use Rattle.command_line.specs.declared.client_words.clients.ClientWord.{ClientWord}
 use Rattle.command_reports.specs.Refusals.{IsTold, line_with}
 use Rattle.command_reports.specs.Works.{KeepsTo, Misses}
 use Rattle.command_reports.specs.declared.refusals.Refusal.{Refusal}
 use Rattle.path_commit.specs.Ledgers.{Ledger}
-use Rattle.request_server.specs.declared.serve_reports.ends.Ends.{Ends}
-use Rattle.request_server.specs.Files.{known_by}
-use Rattle.request_server.specs.ServedJournals.{IsFound}
-use Rattle.request_server.specs.Rounds.{DiskHalts, DiskRefuses}
-use Rattle.request_server.specs.declared.served_journals.files.Files.{Files}
-use Rattle.request_server.proofs.Remains.{remains_by}
-use Rattle.request_server.proofs.Halts.{halted_round, halted_sinks, halted_sources}
-use Rattle.request_server.proofs.JournalRounds.{disk_open, DiskIsRefused, exchanged, IsRound, other_stands, refused_round, round_only, same_sinks, same_sources, unopened_only, unopened_unready}
+use Rattle.served_clients.specs.declared.serve_reports.ends.Ends.{Ends}
+use Rattle.served_clients.specs.Files.{known_by}
+use Rattle.served_clients.specs.ServedJournals.{IsFound}
+use Rattle.served_clients.specs.Rounds.{DiskHalts, DiskRefuses}
+use Rattle.served_clients.specs.declared.served_journals.files.Files.{Files}
+use Rattle.served_clients.proofs.Remains.{remains_by}
+use Rattle.served_clients.proofs.Halts.{halted_round, halted_sinks, halted_sources}
+use Rattle.served_clients.proofs.JournalRounds.{disk_open, DiskIsRefused, exchanged, IsRound, other_stands, refused_round, round_only, same_sinks, same_sources, unopened_only, unopened_unready}
 use Rattle.batch_command.specs.Books.{Answers, BookSays, Declines, HadPair}
 use Rattle.batch_command.specs.Journals.{BatchSays, BatchStep, DiskDeclines, DiskSays, Refuses, Stops}
 

@@ -28,15 +28,15 @@ use Rattle.batch_command.specs.Ends.{IsEnds, report_text}
 use Rattle.batch_command.specs.Flaws.{TellsStop}
 use Rattle.batch_command.specs.declared.batch_server.members.Worked.{Worked}
 use Rattle.admission_rules.specs.declared.client_rules.clients.ClientRules.{ClientRules}
-use Rattle.request_server.specs.StreamClients.{pair_calls}
-use Rattle.request_server.specs.Refusing.{AreMade, WhyStopped}
+use Rattle.served_clients.specs.StreamClients.{pair_calls}
+use Rattle.served_clients.specs.Refusing.{AreMade, WhyStopped}
 use Rattle.command_line.specs.declared.client_words.clients.ClientWord.{ClientWord}
-use Rattle.request_server.specs.Ends.{EndsSay, is_faulty, is_wanting}
-use Rattle.request_server.specs.declared.serve_reports.ends.Ends.{Ends}
-use Rattle.request_server.proofs.ReportStatuses.{AtEnd, other_end, said_at, said_done}
-use Rattle.request_server.specs.Files.{files_of, known_by}
-use Rattle.request_server.specs.declared.served_journals.files.Files.{Files}
-use Rattle.request_server.proofs.JournalStatuses.{IsNoJournals, open_other}
+use Rattle.served_clients.specs.Ends.{EndsSay, is_faulty, is_wanting}
+use Rattle.served_clients.specs.declared.serve_reports.ends.Ends.{Ends}
+use Rattle.served_clients.proofs.ReportStatuses.{AtEnd, other_end, said_at, said_done}
+use Rattle.served_clients.specs.Files.{files_of, known_by}
+use Rattle.served_clients.specs.declared.served_journals.files.Files.{Files}
+use Rattle.served_clients.proofs.JournalStatuses.{IsNoJournals, open_other}
 use Rattle.batch_command.specs.Asked.{HasFlaw}
 use Rattle.batch_command.specs.Journals.{BatchSays, BatchStep, Refuses, Stops}
 use Rattle.batch_command.specs.Lists.{IsFlawed}

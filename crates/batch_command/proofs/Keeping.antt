@@ -8,8 +8,8 @@ use Rattle.admission_rules.specs.declared.rules.Rule.{Ghosts as Rules}
 use Rattle.batch_command.specs.Batches.{is_of, line_at}
 use Rattle.batch_command.specs.Clerks.{Answers, answers_by, EachWent, IsSound, lines_left, told_of, Went}
 use Rattle.batch_command.specs.declared.batch_server.clerks.Clerk.{Clerk}
-use Rattle.request_server.specs.Seats.{AnswersAt}
-use Rattle.request_server.proofs.Owned.{filter-append}
+use Rattle.served_clients.specs.Seats.{AnswersAt}
+use Rattle.served_clients.proofs.Owned.{filter-append}
 use Rattle.line_sessions.specs.Told.{AreAnswered}
 use Rattle.client_lines.specs.declared.reply_texts.replies.Reply.{Reply}
 use Rattle.batch_command.proofs.Clerking.{answered_append, length_told, told_append}

@@ -6,10 +6,10 @@ use Rattle.batch_command.specs.Seating.{HaveLeft}
 use Rattle.batch_command.specs.declared.batch_server.clerks.Clerk.{Clerk}
 use Rattle.book_gate.specs.Passes.{view}
 use Rattle.book_gate.specs.Views.{StartsWith}
-use Rattle.request_server.specs.Joins.{AreJoined}
-use Rattle.request_server.specs.Seats.{IsDone}
-use Rattle.request_server.specs.Talks.{Talk}
-use Rattle.request_server.proofs.Joins.{joined_none}
+use Rattle.served_clients.specs.Joins.{AreJoined}
+use Rattle.served_clients.specs.Seats.{IsDone}
+use Rattle.served_clients.specs.Talks.{Talk}
+use Rattle.served_clients.proofs.Joins.{joined_none}
 use Rattle.ask_turns.specs.Turns.{Sight}
 use Rattle.line_answers.specs.declared.shared.Shared.{Shared}
 use Rattle.rail_types.specs.declared.entries.Entry.{Entry}

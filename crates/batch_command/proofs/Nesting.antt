@@ -8,18 +8,18 @@ use Rattle.command_reports.specs.Scenes.{Scene}
 use Rattle.admission_rules.specs.declared.rules.Rule.{Ghosts as Rules}
 use Rattle.client_lines.specs.Names.{Names}
 use Rattle.admission_rules.specs.declared.client_rules.clients.ClientRules.{ClientRules}
-use Rattle.request_server.specs.StreamClients.{pair_calls, pair_loans}
-use Rattle.request_server.specs.Lending.{AreIn, AreOut}
-use Rattle.request_server.specs.Refusing.{IsStopped}
-use Rattle.request_server.proofs.StreamLoans.{as_before, in_calls, in_quiet, out_calls, out_quiet}
-use Rattle.request_server.proofs.StreamStops.{outs_open}
-use Rattle.request_server.proofs.Uses.{Apart, nested_keeps, NestKeeps, sink_used, source_used}
+use Rattle.served_clients.specs.StreamClients.{pair_calls, pair_loans}
+use Rattle.served_clients.specs.Lending.{AreIn, AreOut}
+use Rattle.served_clients.specs.Refusing.{IsStopped}
+use Rattle.served_clients.proofs.StreamLoans.{as_before, in_calls, in_quiet, out_calls, out_quiet}
+use Rattle.served_clients.proofs.StreamStops.{outs_open}
+use Rattle.served_clients.proofs.Uses.{Apart, nested_keeps, NestKeeps, sink_used, source_used}
 use Rattle.command_line.specs.declared.client_words.clients.ClientWord.{ClientWord}
 use Rattle.command_reports.specs.Works.{KeepsTo}
 use Rattle.command_reports.specs.declared.refusals.Refusal.{Refusal}
 use Rattle.path_commit.specs.Ledgers.{Ledger}
-use Rattle.request_server.specs.declared.serve_reports.ends.Ends.{Ends}
-use Rattle.request_server.proofs.Halts.{Unserved, unserved_stopped}
+use Rattle.served_clients.specs.declared.serve_reports.ends.Ends.{Ends}
+use Rattle.served_clients.proofs.Halts.{Unserved, unserved_stopped}
 use Rattle.batch_command.specs.Books.{BookSays, HadPair}
 use Rattle.batch_command.specs.Lists.{ListSays}
 

@@ -13,7 +13,7 @@ use Rattle.batch_command.specs.Outcomes.{HaveAnswered}
 use Rattle.batch_command.specs.Seating.{HaveLeft, IsClerkOf, worked_of}
 use Rattle.batch_command.specs.declared.batch_server.clerks.Clerk.{Clerk}
 use Rattle.batch_command.specs.declared.batch_server.members.Member.{Member}
-use Rattle.request_server.specs.Seats.{IsBack}
+use Rattle.served_clients.specs.Seats.{IsBack}
 use Rattle.ask_turns.specs.Turns.{Sight}
 use Rattle.line_answers.specs.declared.shared.Shared.{Shared}
 use Rattle.batch_command.specs.InOrder.{all_answers, AreInOrder, AreWhole, places, reply_at}

@@ -9,7 +9,7 @@ use Rattle.std.proofs.lemmas.List.Sorted.{IsPermutation-append_right, IsPermutat
 use Rattle.std.specs.List.{range_with_len}
 use Rattle.batch_command.specs.Batches.{is_of, own_places}
 use Rattle.batch_command.specs.Clerks.{free_places, owned_places}
-use Rattle.request_server.proofs.Owned.{All-filtered, filter-alike, filter-append}
+use Rattle.served_clients.proofs.Owned.{All-filtered, filter-alike, filter-append}
 use Rattle.batch_command.specs.InOrder.{places}
 use Rattle.client_lines.specs.declared.reply_texts.replies.Reply.{Reply}
 

@@ -6,8 +6,8 @@ use Rattle.batch_command.specs.declared.batch_server.members.Member.{Member}
 use Rattle.batch_command.specs.declared.batch_server.members.Worked.{Worked}
 use Rattle.client_lines.specs.Names.{Names}
 use Rattle.admission_rules.specs.declared.client_rules.clients.ClientRules.{ClientRules}
-use Rattle.request_server.specs.ClientRuns.{AreMatched}
-use Rattle.request_server.specs.Talks.{Talk}
+use Rattle.served_clients.specs.ClientRuns.{AreMatched}
+use Rattle.served_clients.specs.Talks.{Talk}
 use Rattle.outside_io.specs.declared.betweens.NoBetween.{NoBetween}
 use Rattle.path_commit.specs.Ledgers.{Ledger}
 use Rattle.rail_types.specs.declared.entries.Entry.{Entry}

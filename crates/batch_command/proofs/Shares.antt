@@ -17,12 +17,12 @@ use Rattle.book_gate.specs.Passes.{view}
 use Rattle.book_gate.specs.Views.{StartsWith}
 use Rattle.admission_rules.specs.Ruled.{stand}
 use Rattle.admission_rules.specs.Told.{told_at}
-use Rattle.request_server.specs.ClientRuns.{AreMatched as AreMatched3, owned}
-use Rattle.request_server.specs.Seats.{AnswersAt, callers_at, found_at, IsBack, IsDone}
-use Rattle.request_server.specs.Talks.{printed, Talk}
-use Rattle.request_server.proofs.Done.{seat_done, talk_at}
-use Rattle.request_server.proofs.Histories.{given_within}
-use Rattle.request_server.proofs.Owned.{told_at-longer, told_whole}
+use Rattle.served_clients.specs.ClientRuns.{AreMatched as AreMatched3, owned}
+use Rattle.served_clients.specs.Seats.{AnswersAt, callers_at, found_at, IsBack, IsDone}
+use Rattle.served_clients.specs.Talks.{printed, Talk}
+use Rattle.served_clients.proofs.Done.{seat_done, talk_at}
+use Rattle.served_clients.proofs.Histories.{given_within}
+use Rattle.served_clients.proofs.Owned.{told_at-longer, told_whole}
 use Rattle.line_answers.specs.declared.shared.Shared.{Shared}
 use Rattle.line_sessions.specs.Ends.{Traffic}
 use Rattle.line_sessions.specs.Told.{AreAnswered, lines_told, Told}

@@ -16,11 +16,11 @@ use Rattle.command_files.specs.declared.networks.NetworkFile.{NetworkFile}
 use Rattle.command_files.proofs.Kept.{file_keeps}
 use Rattle.admission_rules.specs.declared.rules.Rule.{Ghosts as Rules}
 use Rattle.admission_rules.specs.declared.client_rules.clients.ClientRules.{ClientRules}
-use Rattle.request_server.specs.StreamClients.{pair_calls}
+use Rattle.served_clients.specs.StreamClients.{pair_calls}
 use Rattle.command_line.specs.declared.client_words.clients.ClientWord.{ClientWord}
 use Rattle.rail_types.specs.declared.trains.Train.{Train}
-use Rattle.request_server.specs.declared.serve_reports.ends.Ends.{Ends}
-use Rattle.request_server.specs.Files.{files_of}
+use Rattle.served_clients.specs.declared.serve_reports.ends.Ends.{Ends}
+use Rattle.served_clients.specs.Files.{files_of}
 use Rattle.batch_command.specs.Journals.{BatchStep}
 use Rattle.batch_command.specs.Runs.{EndsRun, RunsBatch}
 use Rattle.batch_command.specs.Works.{batch_calls, ReadsBase, ReadsNetwork, ReadsTrains}

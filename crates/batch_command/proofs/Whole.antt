@@ -9,7 +9,7 @@ use Rattle.outside_io.specs.declared.disks.Disk.{Ghosts as Disks}
 use Rattle.outside_io.specs.declared.sinks.Sink.{Ghosts as Sinks}
 use Rattle.outside_io.specs.declared.sources.Source.{Ghosts as Sources}
 use Rattle.path_commit.specs.Ledgers.{Ledger}
-use Rattle.request_server.specs.declared.serve_reports.ends.Ends.{Ends}
+use Rattle.served_clients.specs.declared.serve_reports.ends.Ends.{Ends}
 use Rattle.batch_command.specs.Lists.{LinesSay, ListSays}
 
 -- what is said of a list, by what is said of its lines

@@ -8,8 +8,8 @@ use Rattle.batch_command.specs.declared.batch_server.members.Worked.{Worked}
 use Rattle.book_gate.specs.Views.{StartsWith}
 use Rattle.client_lines.specs.Names.{Names}
 use Rattle.admission_rules.specs.Ruled.{stand}
-use Rattle.request_server.specs.ClientRuns.{AreMatched, IsRun, told_own}
-use Rattle.request_server.specs.Talks.{Talk}
+use Rattle.served_clients.specs.ClientRuns.{AreMatched, IsRun, told_own}
+use Rattle.served_clients.specs.Talks.{Talk}
 use Rattle.line_sessions.specs.Told.{lines_told}
 use Rattle.batch_command.specs.InOrder.{reply_at}
 use Rattle.path_commit.specs.Ledgers.{Ledger}

@@ -3,8 +3,8 @@ use Rattle.std.specs.Prelude.{◌≡◌, ◌⊎◌, ℕ, All, List, Result, Ok, 
 use Rattle.admission_rules.specs.declared.rules.Rule.{Ghosts as Rules}
 use Rattle.client_lines.specs.Names.{Names}
 use Rattle.admission_rules.specs.declared.client_rules.clients.ClientRules.{ClientRules}
-use Rattle.request_server.specs.StreamClients.{IsExchanged, pair_calls}
-use Rattle.request_server.specs.Refusing.{IsOpen}
+use Rattle.served_clients.specs.StreamClients.{IsExchanged, pair_calls}
+use Rattle.served_clients.specs.Refusing.{IsOpen}
 use Rattle.command_line.specs.declared.client_words.clients.ClientWord.{ClientWord}
 use Rattle.command_reports.specs.declared.refusals.Refusal.{Refusal}
 use Rattle.command_reports.specs.Scenes.{Scene}
@@ -12,8 +12,8 @@ use Rattle.outside_io.specs.declared.disks.Disk.{Ghosts as Disks}
 use Rattle.outside_io.specs.declared.sinks.Sink.{Ghosts as Sinks}
 use Rattle.outside_io.specs.declared.sources.Source.{Ghosts as Sources}
 use Rattle.path_commit.specs.Ledgers.{Ledger}
-use Rattle.request_server.specs.declared.serve_reports.ends.Ends.{Ends}
-use Rattle.request_server.specs.Rounds.{IsUnserved}
+use Rattle.served_clients.specs.declared.serve_reports.ends.Ends.{Ends}
+use Rattle.served_clients.specs.Rounds.{IsUnserved}
 use Rattle.batch_command.specs.Lists.{IsAnswered, IsRefused}
 
 -- the source and the sink of a client were opened, came to this, and were

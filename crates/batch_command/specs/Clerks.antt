@@ -6,7 +6,7 @@ use Rattle.admission_rules.specs.declared.rules.Rule.{Ghosts as Rules}
 use Rattle.batch_command.specs.Batches.{is_of, line_at}
 use Rattle.batch_command.specs.declared.batch_server.clerks.Clerk.{Clerk}
 use Rattle.book_gate.specs.Passes.{turns_left}
-use Rattle.request_server.specs.Seats.{AnswersAt, IsSeated, IsTaken}
+use Rattle.served_clients.specs.Seats.{AnswersAt, IsSeated, IsTaken}
 use Rattle.line_answers.specs.declared.shared.Shared.{Shared}
 use Rattle.line_sessions.specs.Told.{AreAnswered, Told}
 use Rattle.client_lines.specs.declared.reply_texts.replies.Reply.{Reply}

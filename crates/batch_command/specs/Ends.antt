@@ -5,9 +5,9 @@ use Rattle.batch_command.specs.declared.batch_server.members.Worked.{Worked}
 use Rattle.admission_rules.specs.Ruled.{stand}
 use Rattle.line_sessions.specs.declared.sessions.Ended.{Ended}
 use Rattle.line_sessions.specs.declared.sessions.Why.TheVariants.{Input}
-use Rattle.request_server.specs.Ends.{ComeTo, end_line, status_at}
-use Rattle.request_server.specs.Rules.{rule_lines}
-use Rattle.request_server.specs.declared.serve_reports.ends.Ends.{Ends}
+use Rattle.served_clients.specs.Ends.{ComeTo, end_line, status_at}
+use Rattle.served_clients.specs.Rules.{rule_lines}
+use Rattle.served_clients.specs.declared.serve_reports.ends.Ends.{Ends}
 
 -- the lines of a worker: how many lines it answered, and behind it one for each of its rules
 abbrev pub worker_lines : {L : Type 0} → Rules L → Worked L → List ℕ

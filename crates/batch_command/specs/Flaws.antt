@@ -10,7 +10,7 @@ use Rattle.batch_command.specs.declared.list_lines.lists.ListFault.{ListFault}
 use Rattle.batch_command.specs.declared.list_lines.lists.ListFault.TheVariants.{ReadFault, LongLine}
 use Rattle.batch_command.specs.declared.list_lines.lists.ListFault.TheVariants.{LineCount}
 use Rattle.batch_command.specs.declared.list_lines.lists.ListFault.TheVariants.{Memory}
-use Rattle.request_server.specs.Ends.{end_line}
+use Rattle.served_clients.specs.Ends.{end_line}
 
 -- the line of this number, counted from 1, does not ask for a path
 abbrev pub no_ask_line : ℕ → List ℕ

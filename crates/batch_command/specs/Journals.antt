@@ -2,8 +2,8 @@
 use Rattle.std.specs.Prelude.{◌⊎◌, ℕ, List, ◌∷◌, Result, Ok, Err}
 use Rattle.admission_rules.specs.declared.rules.Rule.{Ghosts as Rules}
 use Rattle.admission_rules.specs.declared.client_rules.clients.ClientRules.{ClientRules}
-use Rattle.request_server.specs.StreamClients.{IsExchanged, pair_calls}
-use Rattle.request_server.specs.Refusing.{IsOpen}
+use Rattle.served_clients.specs.StreamClients.{IsExchanged, pair_calls}
+use Rattle.served_clients.specs.Refusing.{IsOpen}
 use Rattle.command_line.specs.declared.client_words.clients.ClientWord.{ClientWord}
 use Rattle.command_reports.specs.Works.{KeepsTo}
 use Rattle.command_reports.specs.declared.refusals.Refusal.{Refusal}
@@ -14,12 +14,12 @@ use Rattle.outside_io.specs.declared.disks.Disk.{Ghosts as Disks}
 use Rattle.outside_io.specs.declared.sinks.Sink.{Ghosts as Sinks}
 use Rattle.outside_io.specs.declared.sources.Source.{Ghosts as Sources}
 use Rattle.path_commit.specs.Ledgers.{Ledger}
-use Rattle.request_server.specs.declared.serve_reports.ends.Ends.{Ends}
-use Rattle.request_server.specs.Files.{known_by}
-use Rattle.request_server.specs.ServedJournals.{IsFound, Remains}
-use Rattle.request_server.specs.Rounds.{DiskHalts, DiskRefuses, IsHalted, IsJournalRefused}
-use Rattle.request_server.specs.Rounds.{IsNotOpened}
-use Rattle.request_server.specs.declared.served_journals.files.Files.{Files}
+use Rattle.served_clients.specs.declared.serve_reports.ends.Ends.{Ends}
+use Rattle.served_clients.specs.Files.{known_by}
+use Rattle.served_clients.specs.ServedJournals.{IsFound, Remains}
+use Rattle.served_clients.specs.Rounds.{DiskHalts, DiskRefuses, IsHalted, IsJournalRefused}
+use Rattle.served_clients.specs.Rounds.{IsNotOpened}
+use Rattle.served_clients.specs.declared.served_journals.files.Files.{Files}
 use Rattle.batch_command.specs.Books.{Answers, Declines}
 
 -- the journal was opened, and the list was answered over it

@@ -22,8 +22,8 @@ use Rattle.outside_io.specs.declared.sinks.Sink.{Ghosts as Sinks}
 use Rattle.outside_io.specs.declared.sources.Source.{Ghosts as Sources}
 use Rattle.path_commit.specs.Footings.{footing_of}
 use Rattle.path_commit.specs.Ledgers.{Ledger}
-use Rattle.request_server.specs.declared.serve_reports.ends.Ends.{Ends}
-use Rattle.request_server.specs.ServedJournals.{IsClosed}
+use Rattle.served_clients.specs.declared.serve_reports.ends.Ends.{Ends}
+use Rattle.served_clients.specs.ServedJournals.{IsClosed}
 use Rattle.batch_command.specs.Owners.{owners_of}
 use Rattle.batch_command.specs.Asked.{HasFlaw, IsAsked}
 

@@ -5,10 +5,10 @@ use Rattle.batch_command.specs.Batches.{AreShared, AreTexts, HasWorked}
 use Rattle.batch_command.specs.declared.batch_server.members.Member.{Member}
 use Rattle.batch_command.specs.declared.batch_server.members.Worked.{Worked}
 use Rattle.book_gate.specs.Views.{StartsWith}
-use Rattle.request_server.specs.Joins.{AreJoined}
-use Rattle.request_server.specs.ClientRuns.{AreMatched, owned}
-use Rattle.request_server.specs.Seats.{found_at}
-use Rattle.request_server.specs.Talks.{printed, Talk}
+use Rattle.served_clients.specs.Joins.{AreJoined}
+use Rattle.served_clients.specs.ClientRuns.{AreMatched, owned}
+use Rattle.served_clients.specs.Seats.{found_at}
+use Rattle.served_clients.specs.Talks.{printed, Talk}
 use Rattle.ask_turns.specs.Turns.{Sight}
 use Rattle.line_answers.specs.declared.shared.Shared.{Shared}
 use Rattle.rail_types.specs.declared.entries.Entry.{Entry}

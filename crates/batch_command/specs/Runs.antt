@@ -21,11 +21,11 @@ use Rattle.outside_io.specs.declared.sinks.Sink.{Ghosts as Sinks}
 use Rattle.outside_io.specs.declared.sources.Source.{Ghosts as Sources}
 use Rattle.path_commit.specs.Ledgers.{Ledger}
 use Rattle.rail_types.specs.declared.trains.Train.{Train}
-use Rattle.request_server.specs.Ends.{EndsSay}
-use Rattle.request_server.specs.declared.serve_reports.ends.Ends.{Ends}
-use Rattle.request_server.specs.Files.{files_of, known_by}
-use Rattle.request_server.specs.ServedJournals.{IsFound}
-use Rattle.request_server.specs.declared.served_journals.files.Files.{Files}
+use Rattle.served_clients.specs.Ends.{EndsSay}
+use Rattle.served_clients.specs.declared.serve_reports.ends.Ends.{Ends}
+use Rattle.served_clients.specs.Files.{files_of, known_by}
+use Rattle.served_clients.specs.ServedJournals.{IsFound}
+use Rattle.served_clients.specs.declared.served_journals.files.Files.{Files}
 use Rattle.batch_command.specs.Asked.{IsFlaw}
 use Rattle.batch_command.specs.Journals.{Serves}
 use Rattle.batch_command.specs.Works.{batch_calls, ReadsNetwork}

@@ -9,10 +9,10 @@ use Rattle.batch_command.specs.declared.batch_server.members.Worked.{Worked}
 use Rattle.book_gate.specs.Passes.{view}
 use Rattle.book_gate.specs.Views.{StartsWith}
 use Rattle.admission_rules.specs.Ruled.{stand}
-use Rattle.request_server.specs.Joins.{AreJoined}
-use Rattle.request_server.specs.ClientRuns.{told_own}
-use Rattle.request_server.specs.Seats.{found_at, IsDone}
-use Rattle.request_server.specs.Talks.{Talk}
+use Rattle.served_clients.specs.Joins.{AreJoined}
+use Rattle.served_clients.specs.ClientRuns.{told_own}
+use Rattle.served_clients.specs.Seats.{found_at, IsDone}
+use Rattle.served_clients.specs.Talks.{Talk}
 use Rattle.ask_turns.specs.Turns.{Sight}
 use Rattle.line_answers.specs.declared.shared.Shared.{Shared}
 use Rattle.rail_types.specs.declared.entries.Entry.{Entry}

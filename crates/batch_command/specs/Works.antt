@@ -3,7 +3,7 @@
 use Rattle.std.specs.Prelude.{ℕ, List, ◌∷◌, Result}
 use Rattle.admission_rules.specs.declared.rules.Rule.{Ghosts as Rules}
 use Rattle.admission_rules.specs.declared.client_rules.clients.ClientRules.{ClientRules}
-use Rattle.request_server.specs.StreamClients.{pair_calls}
+use Rattle.served_clients.specs.StreamClients.{pair_calls}
 use Rattle.command_line.specs.declared.client_words.clients.ClientWord.{ClientWord}
 use Rattle.command_files.specs.Files.{BaseStep, NetworkStep, TrainStep}
 use Rattle.command_files.specs.declared.bases.BaseFile.{BaseFile}
@@ -16,8 +16,8 @@ use Rattle.outside_io.specs.declared.disks.Disk.{Ghosts as Disks}
 use Rattle.outside_io.specs.declared.sinks.Sink.{Ghosts as Sinks}
 use Rattle.outside_io.specs.declared.sources.Source.{Ghosts as Sources}
 use Rattle.rail_types.specs.declared.trains.Train.{Train}
-use Rattle.request_server.specs.declared.serve_reports.ends.Ends.{Ends}
-use Rattle.request_server.specs.Files.{files_of}
+use Rattle.served_clients.specs.declared.serve_reports.ends.Ends.{Ends}
+use Rattle.served_clients.specs.Files.{files_of}
 use Rattle.batch_command.specs.Journals.{BatchStep}
 
 -- the base timetable is read on the zones of the network, and then the list is answered

@@ -2,10 +2,10 @@
 
 ghost use Rattle.batch_command.specs.Journals.{BatchStep, DiskSays};
 ghost use Rattle.command_line.specs.Workers.{AreWorkers, IsBatchClient};
-ghost use Rattle.request_server.specs.StreamClients.{pair_calls};
+ghost use Rattle.served_clients.specs.StreamClients.{pair_calls};
 ghost use Rattle.command_reports.specs.Works.{KeepsTo};
 ghost use Rattle.command_reports.specs.Scenes.{scene};
-ghost use Rattle.request_server.specs.Files.{AreFiles};
+ghost use Rattle.served_clients.specs.Files.{AreFiles};
 
 use crate::books::serve_book;
 use admission_rules::Rule;
@@ -13,8 +13,8 @@ use admission_rules::client_rules::ClientRules;
 use command_line::client_words::ClientWord;
 use command_reports::Refusal;
 use outside_io::Outside;
-use request_server::serve_reports::Ends;
-use request_server::served_journals::{Files, Opened, not_opened, open_book};
+use served_clients::serve_reports::Ends;
+use served_clients::served_journals::{Files, Opened, not_opened, open_book};
 use std::alloc::AllocGlobal;
 use std::sync::Wait;
 use std::thread::Threads;

@@ -7,7 +7,7 @@ ghost use Rattle.command_line.specs.declared.batch_words.clients.TheConstants.{
   MAX_BATCH_NAME_BYTES,
 };
 ghost use Rattle.client_lines.specs.Within.{AreSound};
-ghost use Rattle.request_server.specs.Lending.{IsUnchanged};
+ghost use Rattle.served_clients.specs.Lending.{IsUnchanged};
 ghost use Rattle.command_reports.specs.Scenes.{scene};
 ghost use Rattle.client_lines.specs.declared.lines.TheConstants.{MAX_LINE_BYTES};
 ghost use Rattle.line_sessions.specs.declared.sessions.TheConstants.{MAX_LINES};
@@ -33,8 +33,8 @@ use no_memory::NoMemory;
 use outside_io::{Disk, Outside, Sink, Source};
 use path_commit::Book;
 use rail_types::{List, Name};
-use request_server::serve_reports::Ends;
-use request_server::served_journals::close_book;
+use served_clients::serve_reports::Ends;
+use served_clients::served_journals::close_book;
 use std::alloc::{AllocGlobal, Global};
 use std::sync::Wait;
 use std::thread::Threads;

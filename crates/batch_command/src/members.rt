@@ -6,7 +6,7 @@ ghost use Rattle.command_line.specs.declared.batch_words.clients.TheConstants.{
   MAX_BATCH_NAME_BYTES,
 };
 ghost use Rattle.command_line.specs.declared.batch_words.clients.TheConstants.{MAX_WORKERS};
-ghost use Rattle.request_server.specs.Lending.{IsUnchanged};
+ghost use Rattle.served_clients.specs.Lending.{IsUnchanged};
 ghost use Rattle.command_reports.specs.Scenes.{scene};
 
 use crate::batch_server::Member;
@@ -16,7 +16,7 @@ use command_line::batch_words::{worker_name, worker_names_differ};
 use no_memory::NoMemory;
 use outside_io::Outside;
 use rail_types::Name;
-use request_server::client_streams::between_of;
+use served_clients::client_streams::between_of;
 use std::alloc::Global;
 
 /// So many workers of a batch, in order, each with what the outside has called

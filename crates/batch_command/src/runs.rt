@@ -14,7 +14,7 @@ use command_line::client_words::ClientWord;
 use command_reports::exit_status::Status;
 use command_reports::{Refusal, finish};
 use outside_io::Outside;
-use request_server::serve_reports::{Ends, tell_ends};
+use served_clients::serve_reports::{Ends, tell_ends};
 use std::alloc::AllocGlobal;
 use std::sync::Wait;
 use std::thread::Threads;

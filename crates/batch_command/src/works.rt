@@ -4,7 +4,7 @@ ghost use Rattle.batch_command.specs.Works.{ReadsBase, ReadsNetwork, ReadsTrains
 ghost use Rattle.command_line.specs.Workers.{AreWorkers, IsBatchClient};
 ghost use Rattle.command_reports.specs.Scenes.{scene};
 ghost use Rattle.rail_types.specs.Limits.{IsTrainWithinLimits};
-ghost use Rattle.request_server.specs.Files.{IsNetworkRead};
+ghost use Rattle.served_clients.specs.Files.{IsNetworkRead};
 ghost use Rattle.std.specs.Prelude.{All};
 
 use crate::journals::serve_files;
@@ -15,8 +15,8 @@ use command_files::{NetworkFile, read_base_file, read_network_file, read_train_f
 use command_line::client_words::ClientWord;
 use command_reports::Refusal;
 use outside_io::Outside;
-use request_server::serve_reports::Ends;
-use request_server::served_journals::Files;
+use served_clients::serve_reports::Ends;
+use served_clients::served_journals::Files;
 use std::alloc::AllocGlobal;
 use std::sync::Wait;
 use std::thread::Threads;

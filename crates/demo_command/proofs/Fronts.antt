@@ -11,8 +11,8 @@ use Rattle.path_commit.specs.Ledgers.{Ledger}
 use Rattle.rail_types.specs.declared.entries.Entry.{Entry}
 use Rattle.client_lines.specs.declared.reply_texts.replies.Reply.{Reply}
 use Rattle.client_lines.specs.declared.reply_texts.replies.Reply.TheVariants as reply
-use Rattle.request_server.specs.ClientRuns.{IsRun, is_owned, owned}
-use Rattle.request_server.specs.Talks.{printed, Talk}
+use Rattle.served_clients.specs.ClientRuns.{IsRun, is_owned, owned}
+use Rattle.served_clients.specs.Talks.{printed, Talk}
 use Rattle.demo_command.specs.Sessions.{count_told, demo_names, IsDecided, is_granted, is_no_path}
 use Rattle.demo_command.proofs.Decided.{counted, flag}
 

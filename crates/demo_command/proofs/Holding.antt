@@ -17,8 +17,8 @@ use Rattle.line_sessions.proofs.SessionSteps.{lines_of-ended}
 use Rattle.outside_io.specs.Memory.{InputInMemory, OutputInMemory}
 use Rattle.outside_io.specs.StoredDisks.{DiskInMemory}
 use Rattle.path_commit.specs.Ledgers.{Ledger}
-use Rattle.request_server.specs.ClientRuns.{AreMatched, IsRun, told_own}
-use Rattle.request_server.specs.Talks.{Talk}
+use Rattle.served_clients.specs.ClientRuns.{AreMatched, IsRun, told_own}
+use Rattle.served_clients.specs.Talks.{Talk}
 use Rattle.line_sessions.specs.Proofs.{is_wanted}
 use Rattle.request_server.specs.Runs.{IsServed, WereServed}
 use Rattle.demo_command.specs.declared.summaries.Counts.{Counts}

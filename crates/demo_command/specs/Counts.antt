@@ -11,8 +11,8 @@ use Rattle.outside_io.specs.Memory.{InputInMemory, OutputInMemory}
 use Rattle.outside_io.specs.StoredDisks.{DiskInMemory}
 use Rattle.outside_io.specs.declared.betweens.NoBetween.{NoBetween}
 use Rattle.path_commit.specs.Ledgers.{Ledger}
-use Rattle.request_server.specs.declared.plans.Plan.{Plan}
-use Rattle.request_server.specs.declared.plans.Session.{Session}
+use Rattle.served_clients.specs.declared.plans.Plan.{Plan}
+use Rattle.served_clients.specs.declared.plans.Session.{Session}
 use Rattle.demo_command.specs.declared.summaries.Counts.{Counts}
 use Rattle.demo_command.specs.Lines.{demo_lines}
 use Rattle.demo_command.specs.Sessions.{client_name, count_told, IsDecided, IsSession, is_granted}

@@ -7,8 +7,8 @@ use Rattle.outside_io.specs.StoredDisks.{DiskInMemory}
 use Rattle.path_commit.specs.Ledgers.{Ledger}
 use Rattle.client_lines.specs.declared.reply_texts.replies.Reply.{Reply}
 use Rattle.client_lines.specs.declared.reply_texts.replies.Reply.TheVariants as reply
-use Rattle.request_server.specs.ClientRuns.{IsRun}
-use Rattle.request_server.specs.Talks.{Talk}
+use Rattle.served_clients.specs.ClientRuns.{IsRun}
+use Rattle.served_clients.specs.Talks.{Talk}
 use Rattle.demo_command.specs.Lines.{demo_lines}
 use Rattle.demo_command.specs.Railways.{demo_railway, demo_timetable, demo_train}
 

@@ -3,7 +3,7 @@ use Rattle.std.specs.Prelude.{◌≡◌, ℕ, ◌≤◌, Bool, true, false, List
 use Rattle.std.specs.Prelude.{Some, None}
 use Rattle.book_gate.specs.declared.views.Turn.{Turn}
 use Rattle.book_gate.specs.Views.{StartsWith}
-use Rattle.path_labels.specs.Certified.{Passes, excluded}
+use Rattle.ask_turns.specs.Certified.{Passes, excluded}
 use Rattle.client_lines.specs.Cuts.{fields_of}
 use Rattle.client_lines.specs.Forms.{Spells}
 use Rattle.client_lines.specs.Lines.{a_line}

@@ -3,8 +3,8 @@ use Rattle.std.proofs.Common.{◌≡◌, ◌≢◌, ℕ, List, [], ◌∷◌, �
 use Rattle.std.proofs.lemmas.List.Elements.{All-cons, All-head, All-nil, All-tail, All-weaker}
 use Rattle.std.proofs.lemmas.List.Kept.{AllPairs-cons}
 use Rattle.outside_io.specs.Openings.{Opening, sink_at, source_at}
-use Rattle.request_server.specs.StreamClients.{AreDistinct, stream_calls}
-use Rattle.request_server.proofs.StreamLists.{pairs_head, pairs_tail}
+use Rattle.served_clients.specs.StreamClients.{AreDistinct, stream_calls}
+use Rattle.served_clients.proofs.StreamLists.{pairs_head, pairs_tail}
 use Rattle.command_line.specs.Clients.{AreApart as are_apart}
 use Rattle.command_line.specs.declared.client_words.clients.ClientWord.{ClientWord}
 use Rattle.command_line.specs.Proofs.{AreApart, IsNoStreamOf, proof_of}

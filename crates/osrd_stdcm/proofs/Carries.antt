@@ -1,7 +1,7 @@
 -- A journal that is carried, where nothing hinders it.
 use Rattle.std.proofs.Common.{◌≡◌, ◌≢◌, inl, inr, ℕ, IfSome, List, [], ◌∷◌, ◌++◌, Option, None, Some, Result, Ok, Err, is_some, slice_index_or, ap, sym, ◌∙◌, subst}
 use Rattle.std.proofs.lemmas.List.Elements.{All-head, All-tail}
-use Rattle.request_server.proofs.StreamLists.{pairs_head, pairs_tail}
+use Rattle.served_clients.proofs.StreamLists.{pairs_head, pairs_tail}
 use Rattle.outside_io.specs.Faults.{Rose}
 use Rattle.outside_io.specs.Openings.{Opening, source_at, sink_at, the_report, disk_at, Undisturbed}
 use Rattle.outside_io.specs.Places.{IsKeptAt, Place, Untouched, kept, place_once_opened, place_once_returned}

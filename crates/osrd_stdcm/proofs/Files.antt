@@ -5,7 +5,7 @@ use Rattle.std.proofs.lemmas.List.Elements.{All-head, All-tail, All-weaker}
 use Rattle.std.proofs.lemmas.Slice.Eq.{bytes_eq-Decides}
 use Rattle.command_line.specs.Proofs.{AreApart, proof_of}
 use Rattle.command_line.specs.declared.proof_words.proofs.ProofWord.{ProofWord}
-use Rattle.request_server.proofs.StreamLists.{pairs_head, pairs_tail}
+use Rattle.served_clients.proofs.StreamLists.{pairs_head, pairs_tail}
 
 -- what holds of the files of all proofs holds of a client's
 file_by : (Holds : List ℕ → Type 0) (hit : Bool) (first file : List ℕ) (others : Option (List ℕ)) → Holds first → (others ≡ Some file → Holds file) → (if hit then Some first else others) ≡ Some file → Holds file

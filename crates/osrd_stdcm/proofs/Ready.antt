@@ -4,8 +4,8 @@ use Rattle.std.proofs.lemmas.List.{append-nil}
 use Rattle.std.proofs.lemmas.List.Elements.{All-head, All-tail, All-weaker}
 use Rattle.std.specs.Io.KnownBytes.{Consumes, IsAtEnd}
 use mathlib.Core.Logic.{⊎_elim}
-use Rattle.request_server.proofs.StreamLists.{pairs_head, pairs_tail}
-use Rattle.request_server.specs.StreamClients.{AreDistinct}
+use Rattle.served_clients.proofs.StreamLists.{pairs_head, pairs_tail}
+use Rattle.served_clients.specs.StreamClients.{AreDistinct}
 use Rattle.command_files.specs.Outs.{OutSays, OutStep}
 use Rattle.command_files.specs.Steps.{FileSays, FileStep}
 use Rattle.command_files.specs.declared.bases.BaseFile.{BaseFile}

@@ -4,9 +4,9 @@ use Rattle.std.proofs.lemmas.List.{length-map}
 use Rattle.std.proofs.lemmas.List.Elements.{All-head, All-tail}
 use Rattle.std.specs.Io.KnownBytes.{Consumes, IsAtEnd}
 use Rattle.request_server.specs.PlannedClients.{client_calls, returned_of, sink_in, streams_of}
-use Rattle.request_server.specs.ClientRuns.{AreMatched}
-use Rattle.request_server.specs.Talks.{Talk}
-use Rattle.request_server.specs.StreamClients.{file_calls, HadProof, HadStreams, IsExchanged}
+use Rattle.served_clients.specs.ClientRuns.{AreMatched}
+use Rattle.served_clients.specs.Talks.{Talk}
+use Rattle.served_clients.specs.StreamClients.{file_calls, HadProof, HadStreams, IsExchanged}
 use Rattle.command_line.specs.declared.client_words.clients.ClientWord.{ClientWord}
 use Rattle.admission_rules.specs.declared.rules.Rule.{Ghosts as Rules}
 use Rattle.batch_command.specs.Asked.{HasFlaw}
@@ -45,11 +45,11 @@ use Rattle.command_line.specs.Proofs.{proof_of}
 use Rattle.command_line.specs.declared.proof_words.proofs.ProofWord.{ProofWord}
 use Rattle.rail_types.specs.declared.entries.Entry.{Entry}
 use Rattle.request_server.specs.Runs.{IsServed}
-use Rattle.request_server.specs.declared.plans.Plan.{Plan}
-use Rattle.request_server.specs.declared.plans.Session.{Session}
+use Rattle.served_clients.specs.declared.plans.Plan.{Plan}
+use Rattle.served_clients.specs.declared.plans.Session.{Session}
 use Rattle.request_server.specs.Serving.{streams_by}
-use Rattle.request_server.specs.Ends.{ComeTo, end_status, has_faulty, is_faulty}
-use Rattle.request_server.specs.declared.serve_reports.ends.Ends.{Ends}
+use Rattle.served_clients.specs.Ends.{ComeTo, end_status, has_faulty, is_faulty}
+use Rattle.served_clients.specs.declared.serve_reports.ends.Ends.{Ends}
 use Rattle.osrd_stdcm.specs.Ready.{HasLines, IsQuietAt, IsThere, IsWithinLines}
 use Rattle.osrd_stdcm.specs.Complete.{IsAnswered}
 use Rattle.osrd_stdcm.proofs.Ready.{IsSame, Stays, own_no, wanted}

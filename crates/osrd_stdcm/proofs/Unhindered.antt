@@ -18,9 +18,9 @@ use Rattle.check_command.specs.Works.{ReadsBase as CheckBase, ReadsJournal as Ch
 use Rattle.client_lines.specs.Names.{Names}
 use Rattle.request_server.specs.PlannedClients.{client_calls}
 use Rattle.admission_rules.specs.declared.client_rules.clients.ClientRules.{ClientRules}
-use Rattle.request_server.proofs.StreamLists.{all_left, all_right, pairs_head}
-use Rattle.request_server.specs.StreamClients.{pair_calls}
-use Rattle.request_server.specs.Refusing.{AreMade, WhyStopped}
+use Rattle.served_clients.proofs.StreamLists.{all_left, all_right, pairs_head}
+use Rattle.served_clients.specs.StreamClients.{pair_calls}
+use Rattle.served_clients.specs.Refusing.{AreMade, WhyStopped}
 use Rattle.command_line.specs.declared.client_words.clients.ClientWord.{ClientWord}
 use Rattle.command_files.specs.Files.{BaseStep, HasBaseFault, HasNetworkFault, HasTrainFault, IsBaseFile, IsNetworkFile, IsTrainFile, NetworkStep, TrainStep}
 use Rattle.command_files.specs.Outs.{OutStep}
@@ -65,11 +65,11 @@ use Rattle.rail_types.specs.Timetables.{Timetable}
 use Rattle.request_server.specs.ServeJournals.{ServeSays, ServeStep}
 use Rattle.request_server.specs.ServeRuns.{EndsRun}
 use Rattle.request_server.specs.Works.{ReadsNetwork, ReadsTrains, serve_calls}
-use Rattle.request_server.specs.Ends.{has_faulty, has_wanting, is_faulty, is_wanting, line_of, report_text, status_behind}
-use Rattle.request_server.specs.declared.serve_reports.ends.Ends.{Ends}
-use Rattle.request_server.specs.Files.{files_of, known_by}
-use Rattle.request_server.specs.ServedJournals.{TellsOpen}
-use Rattle.request_server.specs.Rounds.{IsHalted, IsJournalRefused, IsNotOpened}
+use Rattle.served_clients.specs.Ends.{has_faulty, has_wanting, is_faulty, is_wanting, line_of, report_text, status_behind}
+use Rattle.served_clients.specs.declared.serve_reports.ends.Ends.{Ends}
+use Rattle.served_clients.specs.Files.{files_of, known_by}
+use Rattle.served_clients.specs.ServedJournals.{TellsOpen}
+use Rattle.served_clients.specs.Rounds.{IsHalted, IsJournalRefused, IsNotOpened}
 use Rattle.print_commands.specs.Tables.{TellsStairs, no_grant_line}
 use Rattle.stairway_print.specs.Networks.{network_text}
 use Rattle.osrd_stdcm.specs.Carries.{carry_names}

@@ -1,7 +1,7 @@
 -- What stands in the way of nothing: names that are ready, files without a fault, a
 -- journal that stands, and no fault.
 use Rattle.std.specs.Prelude.{◌≡◌, ◌≤◌, ℕ, List, [], ◌++◌, All, Some, length}
-use Rattle.request_server.specs.StreamClients.{AreDistinct}
+use Rattle.served_clients.specs.StreamClients.{AreDistinct}
 use Rattle.command_line.specs.declared.client_words.clients.ClientWord.{ClientWord}
 use Rattle.command_files.specs.Files.{HasBaseFault, HasNetworkFault, HasTrainFault, IsBaseFile}
 use Rattle.command_files.specs.Files.{IsNetworkFile}

@@ -5,7 +5,5 @@ pub mod Granting
 pub mod Planning
 pub mod Telling
 pub mod Steps
-pub mod Passing
-pub mod Places
 pub mod PlanningPlaces
 pub mod Searching

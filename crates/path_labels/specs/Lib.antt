@@ -1,6 +1,4 @@
 pub mod Answers
 pub mod Joining
-pub mod Certified
-pub mod Laws
 pub mod Plans
 pub mod Searched

@@ -2,7 +2,6 @@
 #![tactic(auto)]
 
 mod answers;
-pub mod certificates;
 mod laws;
 mod members;
 mod paths;

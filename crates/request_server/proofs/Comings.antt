@@ -3,10 +3,10 @@ use Rattle.std.proofs.Common.{◌≡◌, ◌≤◌, ◌<◌, ◌∙◌, ◌++◌
 use Rattle.std.proofs.lemmas.List.{append-nil, append_assoc}
 use Rattle.command_reports.specs.Scenes.{Scene}
 use Rattle.request_server.specs.PlannedClients.{client_loans}
-use Rattle.request_server.specs.StreamClients.{stream_loans}
-use Rattle.request_server.specs.Lending.{AreIn, Loan}
-use Rattle.request_server.specs.declared.client_streams.streams.ClientStreams.{ClientStreams}
-use Rattle.request_server.proofs.StreamLoans.{in_both}
+use Rattle.served_clients.specs.StreamClients.{stream_loans}
+use Rattle.served_clients.specs.Lending.{AreIn, Loan}
+use Rattle.served_clients.specs.declared.client_streams.streams.ClientStreams.{ClientStreams}
+use Rattle.served_clients.proofs.StreamLoans.{in_both}
 use Rattle.command_line.specs.declared.client_words.clients.ClientWord.{ClientWord}
 use Rattle.command_line.specs.Proofs.{proof_of}
 use Rattle.command_line.specs.declared.proof_words.proofs.ProofWord.{ProofWord}

@@ -10,28 +10,28 @@ use Rattle.command_reports.specs.Scenes.{Scene}
 use Rattle.client_lines.specs.Names.{Names}
 use Rattle.admission_rules.specs.declared.rules.Rule.{Ghosts as Rules}
 use Rattle.admission_rules.specs.declared.client_rules.clients.ClientRules.{ClientRules}
-use Rattle.request_server.specs.ClientRuns.{AreMatched}
+use Rattle.served_clients.specs.ClientRuns.{AreMatched}
 use Rattle.request_server.specs.PlannedClients.{client_calls, returned_of, streams_of}
-use Rattle.request_server.specs.StreamClients.{HadStreams, stream_calls}
+use Rattle.served_clients.specs.StreamClients.{HadStreams, stream_calls}
 use Rattle.command_line.specs.declared.client_words.clients.ClientWord.{ClientWord}
 use Rattle.command_line.specs.Proofs.{proof_of}
 use Rattle.command_line.specs.declared.proof_words.proofs.ProofWord.{ProofWord}
-use Rattle.request_server.proofs.StreamStops.{opens_moved_all}
+use Rattle.served_clients.proofs.StreamStops.{opens_moved_all}
 use Rattle.command_reports.specs.Refusals.{IsTold, line_with}
 use Rattle.command_reports.specs.Works.{KeepsTo, Misses}
 use Rattle.command_reports.specs.declared.refusals.Refusal.{Refusal}
 use Rattle.path_commit.specs.Ledgers.{Ledger}
 use Rattle.outside_io.specs.declared.betweens.NoBetween.{NoBetween}
-use Rattle.request_server.specs.declared.plans.Plan.{Plan}
-use Rattle.request_server.specs.declared.plans.Session.{Session}
-use Rattle.request_server.specs.declared.serve_reports.ends.Ends.{Ends}
-use Rattle.request_server.specs.Files.{known_by}
-use Rattle.request_server.specs.ServedJournals.{IsFound}
-use Rattle.request_server.specs.Rounds.{DiskHalts, DiskRefuses}
-use Rattle.request_server.specs.declared.served_journals.files.Files.{Files}
-use Rattle.request_server.proofs.Remains.{remains_by}
-use Rattle.request_server.proofs.Halts.{halted_round, halted_sinks, halted_sources}
-use Rattle.request_server.proofs.JournalRounds.{disk_open, DiskIsRefused, exchanged, had_round, IsRound, other_stands, refused_round, round_only, same_sinks, same_sources, unopened_only, unopened_unready}
+use Rattle.served_clients.specs.declared.plans.Plan.{Plan}
+use Rattle.served_clients.specs.declared.plans.Session.{Session}
+use Rattle.served_clients.specs.declared.serve_reports.ends.Ends.{Ends}
+use Rattle.served_clients.specs.Files.{known_by}
+use Rattle.served_clients.specs.ServedJournals.{IsFound}
+use Rattle.served_clients.specs.Rounds.{DiskHalts, DiskRefuses}
+use Rattle.served_clients.specs.declared.served_journals.files.Files.{Files}
+use Rattle.served_clients.proofs.Remains.{remains_by}
+use Rattle.served_clients.proofs.Halts.{halted_round, halted_sinks, halted_sources}
+use Rattle.served_clients.proofs.JournalRounds.{disk_open, DiskIsRefused, exchanged, had_round, IsRound, other_stands, refused_round, round_only, same_sinks, same_sources, unopened_only, unopened_unready}
 use Rattle.request_server.specs.ServeJournals.{DiskSays, Refuses, ServeStep}
 use Rattle.request_server.specs.Serving.{BookSays, IsServing}
 

@@ -21,23 +21,23 @@ use Rattle.command_files.specs.declared.files.FileKind.TheVariants as kind
 use Rattle.command_files.specs.declared.networks.NetworkFile.{NetworkFile}
 use Rattle.command_files.proofs.Refused.{file_other, memory_other, told_other}
 use Rattle.rail_types.specs.declared.trains.Train.{Train}
-use Rattle.request_server.specs.declared.plans.Session.{Session}
+use Rattle.served_clients.specs.declared.plans.Session.{Session}
 use Rattle.admission_rules.specs.declared.rules.Rule.{Ghosts as Rules}
 use Rattle.admission_rules.specs.declared.client_rules.clients.ClientRules.{ClientRules}
 use Rattle.request_server.specs.PlannedClients.{client_calls}
-use Rattle.request_server.specs.Refusing.{AreMade, WhyStopped}
+use Rattle.served_clients.specs.Refusing.{AreMade, WhyStopped}
 use Rattle.command_line.specs.declared.client_words.clients.ClientWord.{ClientWord}
 use Rattle.command_line.specs.declared.proof_words.proofs.ProofWord.{ProofWord}
-use Rattle.request_server.specs.Ends.{EndsSay, has_faulty, has_wanting, IsEnds, is_faulty, is_wanting, report_text}
-use Rattle.request_server.specs.declared.serve_reports.ends.Ends.{Ends}
+use Rattle.served_clients.specs.Ends.{EndsSay, has_faulty, has_wanting, IsEnds, is_faulty, is_wanting, report_text}
+use Rattle.served_clients.specs.declared.serve_reports.ends.Ends.{Ends}
 use Rattle.request_server.specs.ServeJournals.{Refuses, ServeStep}
 use Rattle.request_server.proofs.Disks.{disk_missed}
 use Rattle.request_server.specs.ServeRuns.{EndsRun, IsServed, RunsServe}
 use Rattle.request_server.specs.Works.{ReadsBase, ReadsNetwork, ReadsTrains}
-use Rattle.request_server.proofs.ReportStatuses.{AtEnd, not_words, other_end, said_at, said_done}
-use Rattle.request_server.specs.Files.{files_of}
-use Rattle.request_server.specs.declared.served_journals.files.Files.{Files}
-use Rattle.request_server.proofs.JournalStatuses.{IsNoJournals, open_other}
+use Rattle.served_clients.proofs.ReportStatuses.{AtEnd, not_words, other_end, said_at, said_done}
+use Rattle.served_clients.specs.Files.{files_of}
+use Rattle.served_clients.specs.declared.served_journals.files.Files.{Files}
+use Rattle.served_clients.proofs.JournalStatuses.{IsNoJournals, open_other}
 
 -- ---- which statuses a refusal cannot have
 

@@ -8,22 +8,22 @@ use Rattle.book_gate.specs.Passes.{view}
 use Rattle.book_gate.specs.Views.{StartsWith}
 use Rattle.admission_rules.specs.Ruled.{stand}
 use Rattle.admission_rules.specs.Told.{told_at}
-use Rattle.request_server.specs.Joins.{AreJoined}
-use Rattle.request_server.specs.ClientRuns.{AreMatched, owned}
-use Rattle.request_server.specs.Seats.{callers_at, found_at, IsDone}
-use Rattle.request_server.specs.Talks.{printed, Talk}
-use Rattle.request_server.proofs.Done.{seat_done}
-use Rattle.request_server.proofs.Histories.{given_within}
-use Rattle.request_server.proofs.Joins.{joined_none}
-use Rattle.request_server.proofs.Owned.{told_at-longer, told_whole}
+use Rattle.served_clients.specs.Joins.{AreJoined}
+use Rattle.served_clients.specs.ClientRuns.{AreMatched, owned}
+use Rattle.served_clients.specs.Seats.{callers_at, found_at, IsDone}
+use Rattle.served_clients.specs.Talks.{printed, Talk}
+use Rattle.served_clients.proofs.Done.{seat_done}
+use Rattle.served_clients.proofs.Histories.{given_within}
+use Rattle.served_clients.proofs.Joins.{joined_none}
+use Rattle.served_clients.proofs.Owned.{told_at-longer, told_whole}
 use Rattle.ask_turns.specs.Turns.{Sight}
 use Rattle.line_answers.specs.declared.shared.Shared.{Shared}
 use Rattle.line_sessions.specs.Ends.{Streams}
 use Rattle.line_sessions.specs.Told.{Told}
 use Rattle.rail_types.specs.declared.entries.Entry.{Entry}
-use Rattle.request_server.specs.declared.plans.Job.{Job}
-use Rattle.request_server.specs.declared.plans.Plan.{Plan}
-use Rattle.request_server.specs.declared.plans.Session.{Session}
+use Rattle.request_server.specs.declared.jobs.Job.{Job}
+use Rattle.served_clients.specs.declared.plans.Plan.{Plan}
+use Rattle.served_clients.specs.declared.plans.Session.{Session}
 use Rattle.request_server.specs.Jobs.{Begun, begun, begun_of, HasPassed, IsDoneJob, IsReadyJob, session_of, WasServed}
 use Rattle.request_server.specs.Runs.{IsServed}
 

@@ -9,14 +9,14 @@ use Rattle.command_reports.specs.declared.refusals.Refusal.TheVariants.{Memory}
 use Rattle.request_server.specs.PlannedClients.{AreClients, AreFit, client_calls, client_loans, returned_of, sink_in, streams_of}
 use Rattle.request_server.proofs.PlanLoans.{loan_calls}
 use Rattle.request_server.proofs.PlanRounds.{all_keep, AllKeep, matched_parts}
-use Rattle.request_server.specs.StreamClients.{HadStreams, IsFit}
-use Rattle.request_server.specs.Lending.{AreIn, AreOut, Loan}
-use Rattle.request_server.specs.Refusing.{IsOpen, IsStopped}
-use Rattle.request_server.specs.declared.client_streams.streams.ClientStreams.{ClientStreams}
-use Rattle.request_server.proofs.StreamLists.{front_taken}
-use Rattle.request_server.proofs.StreamLoans.{as_before, in_calls, in_quiet, nested_same, out_calls, out_quiet}
-use Rattle.request_server.proofs.StreamStops.{outs_open}
-use Rattle.request_server.proofs.Uses.{Apart, apart_of}
+use Rattle.served_clients.specs.StreamClients.{HadStreams, IsFit}
+use Rattle.served_clients.specs.Lending.{AreIn, AreOut, Loan}
+use Rattle.served_clients.specs.Refusing.{IsOpen, IsStopped}
+use Rattle.served_clients.specs.declared.client_streams.streams.ClientStreams.{ClientStreams}
+use Rattle.served_clients.proofs.StreamLists.{front_taken}
+use Rattle.served_clients.proofs.StreamLoans.{as_before, in_calls, in_quiet, nested_same, out_calls, out_quiet}
+use Rattle.served_clients.proofs.StreamStops.{outs_open}
+use Rattle.served_clients.proofs.Uses.{Apart, apart_of}
 use Rattle.command_line.specs.declared.client_words.clients.ClientWord.{ClientWord}
 use Rattle.line_sessions.specs.Proofs.{is_wanted}
 use Rattle.line_sessions.specs.declared.proofs.Proofs.{Proofs}
@@ -24,11 +24,11 @@ use Rattle.line_sessions.specs.declared.proofs.Proofs.TheVariants.{Unwanted, To}
 use Rattle.path_commit.specs.Ledgers.{Ledger}
 use Rattle.command_line.specs.Proofs.{proof_of}
 use Rattle.command_line.specs.declared.proof_words.proofs.ProofWord.{ProofWord}
-use Rattle.request_server.specs.ClientRuns.{AreMatched}
-use Rattle.request_server.specs.declared.plans.Plan.{Plan}
-use Rattle.request_server.specs.declared.plans.Session.{Session}
-use Rattle.request_server.specs.declared.serve_reports.ends.Ends.{Ends}
-use Rattle.request_server.proofs.Halts.{same_keeps, Unserved, unserved_at_once, unserved_stopped}
+use Rattle.served_clients.specs.ClientRuns.{AreMatched}
+use Rattle.served_clients.specs.declared.plans.Plan.{Plan}
+use Rattle.served_clients.specs.declared.plans.Session.{Session}
+use Rattle.served_clients.specs.declared.serve_reports.ends.Ends.{Ends}
+use Rattle.served_clients.proofs.Halts.{same_keeps, Unserved, unserved_at_once, unserved_stopped}
 
 -- memory was wanted at once
 pub served_not : {Src Snk Dsk : Type 0} (calls : List Opening) (found : Ledger Dsk) (after : Dsk) (s : Scene Src Snk Dsk) → after ≡ found.disk → Unserved Ends calls found after s s Memory

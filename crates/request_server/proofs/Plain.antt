@@ -3,9 +3,9 @@ use Rattle.std.proofs.Common.{◌≡◌, ◌∙◌, ℕ, List, [], ◌∷◌, ma
 use Rattle.admission_rules.specs.declared.rules.Rule.{Ghosts as Rules}
 use Rattle.client_lines.specs.Names.{Names}
 use Rattle.request_server.specs.PlannedClients.{returned_of, streams_of}
-use Rattle.request_server.specs.ClientRuns.{AreMatched}
-use Rattle.request_server.specs.Talks.{Talk}
-use Rattle.request_server.specs.StreamClients.{HadStreams}
+use Rattle.served_clients.specs.ClientRuns.{AreMatched}
+use Rattle.served_clients.specs.Talks.{Talk}
+use Rattle.served_clients.specs.StreamClients.{HadStreams}
 use Rattle.command_line.specs.declared.client_words.clients.ClientWord.{ClientWord}
 use Rattle.command_reports.specs.Scenes.{Scene}
 use Rattle.line_sessions.specs.Ends.{Streams}
@@ -15,8 +15,8 @@ use Rattle.command_line.specs.Proofs.{proof_of}
 use Rattle.command_line.specs.declared.proof_words.proofs.ProofWord.{ProofWord}
 use Rattle.rail_types.specs.declared.entries.Entry.{Entry}
 use Rattle.request_server.specs.Runs.{IsServed, WereServed}
-use Rattle.request_server.specs.declared.plans.Plan.{Plan}
-use Rattle.request_server.specs.declared.plans.Session.{Session}
+use Rattle.served_clients.specs.declared.plans.Plan.{Plan}
+use Rattle.served_clients.specs.declared.plans.Session.{Session}
 
 -- a plan without what happens between searches
 abbrev pub plain : {Src Snk Btw L : Type 0} → Plan Src Snk Btw L → Plan Src Snk NoBetween L

@@ -2,11 +2,11 @@
 use Rattle.std.proofs.Common.{◌≡◌, ◌≢◌, ◌≤◌, ◌∙◌, ◌++◌, ℕ, zero, suc, List, [], ◌∷◌, AllPairs, length, map, take, refl, sym, ap, subst, arith}
 use Rattle.std.proofs.lemmas.List.{append_assoc, append-nil, map-append}
 use Rattle.outside_io.specs.Openings.{Opening}
-use Rattle.request_server.specs.StreamClients.{AreDistinct, IsFit, stream_calls, stream_loans}
-use Rattle.request_server.specs.Lending.{call_of, Loan}
-use Rattle.request_server.specs.declared.client_streams.streams.ClientStreams.{ClientStreams}
+use Rattle.served_clients.specs.StreamClients.{AreDistinct, IsFit, stream_calls, stream_loans}
+use Rattle.served_clients.specs.Lending.{call_of, Loan}
+use Rattle.served_clients.specs.declared.client_streams.streams.ClientStreams.{ClientStreams}
 use Rattle.request_server.proofs.StreamedClients.{stream_calls_are}
-use Rattle.request_server.proofs.StreamLists.{pairs_front, pairs_tail}
+use Rattle.served_clients.proofs.StreamLists.{pairs_front, pairs_tail}
 use Rattle.command_line.specs.declared.client_words.clients.ClientWord.{ClientWord}
 use Rattle.request_server.specs.PlannedClients.{AreFit, client_calls, client_loans}
 use Rattle.command_line.specs.Proofs.{proof_of}

@@ -5,12 +5,12 @@ use Rattle.outside_io.specs.Openings.{Opening}
 use Rattle.command_reports.specs.Scenes.{Scene}
 use Rattle.command_reports.specs.Works.{Keeps}
 use Rattle.request_server.specs.PlannedClients.{AreFit, client_calls, client_loans}
-use Rattle.request_server.specs.ClientRuns.{AreMatched}
-use Rattle.request_server.specs.StreamClients.{AreDistinct, HadStreams, stream_calls, stream_loans}
-use Rattle.request_server.specs.Lending.{AreIn, AreOut, IsAsBefore, Loan}
-use Rattle.request_server.specs.declared.client_streams.streams.ClientStreams.{ClientStreams}
+use Rattle.served_clients.specs.ClientRuns.{AreMatched}
+use Rattle.served_clients.specs.StreamClients.{AreDistinct, HadStreams, stream_calls, stream_loans}
+use Rattle.served_clients.specs.Lending.{AreIn, AreOut, IsAsBefore, Loan}
+use Rattle.served_clients.specs.declared.client_streams.streams.ClientStreams.{ClientStreams}
 use Rattle.request_server.proofs.StreamedClients.{stream_uses, streams_had, streams_lent, streams_returned, streams_used}
-use Rattle.request_server.proofs.Uses.{Apart, apart_of, lent, nested_keeps, NestKeeps, returned, Use, use_call, WereUsed}
+use Rattle.served_clients.proofs.Uses.{Apart, apart_of, lent, nested_keeps, NestKeeps, returned, Use, use_call, WereUsed}
 use Rattle.command_line.specs.declared.client_words.clients.ClientWord.{ClientWord}
 use Rattle.command_line.specs.Proofs.{proof_of}
 use Rattle.command_line.specs.declared.proof_words.proofs.ProofWord.{ProofWord}

@@ -5,12 +5,12 @@ use Rattle.outside_io.specs.Openings.{Opening}
 use Rattle.command_reports.specs.Scenes.{Scene}
 use Rattle.command_reports.specs.declared.refusals.Refusal.{Refusal}
 use Rattle.request_server.specs.PlannedClients.{AreFit, client_calls, client_loans}
-use Rattle.request_server.specs.StreamClients.{AreDistinct, stream_calls}
-use Rattle.request_server.specs.Lending.{AreIn, AreOut, call_of, Loan}
-use Rattle.request_server.specs.Refusing.{IsStopped}
-use Rattle.request_server.specs.declared.client_streams.streams.ClientStreams.{ClientStreams}
-use Rattle.request_server.proofs.StreamStops.{stops_before, stops_behind_all}
-use Rattle.request_server.proofs.Uses.{Apart, apart_first, apart_of}
+use Rattle.served_clients.specs.StreamClients.{AreDistinct, stream_calls}
+use Rattle.served_clients.specs.Lending.{AreIn, AreOut, call_of, Loan}
+use Rattle.served_clients.specs.Refusing.{IsStopped}
+use Rattle.served_clients.specs.declared.client_streams.streams.ClientStreams.{ClientStreams}
+use Rattle.served_clients.proofs.StreamStops.{stops_before, stops_behind_all}
+use Rattle.served_clients.proofs.Uses.{Apart, apart_first, apart_of}
 use Rattle.command_line.specs.declared.client_words.clients.ClientWord.{ClientWord}
 use Rattle.request_server.proofs.PlanLoans.{calls_append, loan_calls}
 use Rattle.command_line.specs.Proofs.{proof_of}

@@ -3,8 +3,8 @@ use Rattle.std.proofs.Common.{◌≡◌, ◌≢◌, ◌∙◌, ℕ, suc, List, [
 use Rattle.std.proofs.lemmas.List.{length-map}
 use Rattle.std.proofs.lemmas.List.Elements.{All-cons, All-head, All-nil, All-tail}
 use Rattle.std.proofs.lemmas.List.Kept.{AllPairs-cons}
-use Rattle.request_server.specs.ClientRuns.{AreMatched}
-use Rattle.request_server.proofs.StreamLists.{pairs_head, pairs_tail}
+use Rattle.served_clients.specs.ClientRuns.{AreMatched}
+use Rattle.served_clients.proofs.StreamLists.{pairs_head, pairs_tail}
 
 module _ {X Y : Type 0} (f : X → List ℕ) (g : Y → List ℕ) where
   -- what holds of the names of one list holds of those of the other

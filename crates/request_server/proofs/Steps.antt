@@ -20,11 +20,11 @@ use Rattle.request_server.specs.PlannedClients.{client_calls}
 use Rattle.command_line.specs.declared.client_words.clients.ClientWord.{ClientWord}
 use Rattle.command_line.specs.declared.proof_words.proofs.ProofWord.{ProofWord}
 use Rattle.rail_types.specs.declared.trains.Train.{Train}
-use Rattle.request_server.specs.declared.serve_reports.ends.Ends.{Ends}
+use Rattle.served_clients.specs.declared.serve_reports.ends.Ends.{Ends}
 use Rattle.request_server.specs.ServeJournals.{ServeStep}
 use Rattle.request_server.specs.ServeRuns.{EndsRun, RunsServe}
 use Rattle.request_server.specs.Works.{ReadsBase, ReadsNetwork, ReadsTrains, serve_calls}
-use Rattle.request_server.specs.Files.{files_of}
+use Rattle.served_clients.specs.Files.{files_of}
 
 module _ {Src Snk Dsk L : Type 0} (source : Sources Src) (sink : Sinks Snk) (disk : Disks Dsk) (rule_kind : Rules L) (journal : List ℕ) (clients : List ClientWord) (proofs : List ProofWord) (rules : List (ClientRules L)) where
   trains_keep : (trains : List ℕ) (network : NetworkFile) (base : BaseFile) (old new : Scene Src Snk Dsk) (result : Result Ends Refusal) → ReadsTrains source sink disk rule_kind trains journal clients proofs rules network base old new result

@@ -2,10 +2,10 @@
 use Rattle.std.proofs.Common.{◌≡◌, ℕ, List, [], ◌∷◌, Option, None, Some, map, refl, ap}
 use Rattle.outside_io.specs.Openings.{Opening, source_at, sink_at}
 use Rattle.command_reports.specs.Scenes.{Scene}
-use Rattle.request_server.specs.StreamClients.{file_calls, file_loans, HadProof, HadStreams, IsFit, stream_calls, stream_loans}
-use Rattle.request_server.specs.Lending.{call_of, Loan, sink_of, source_of}
-use Rattle.request_server.specs.declared.client_streams.streams.ClientStreams.{ClientStreams}
-use Rattle.request_server.proofs.Uses.{lent, returned, sink_used, source_used, Use, use_call, WereUsed}
+use Rattle.served_clients.specs.StreamClients.{file_calls, file_loans, HadProof, HadStreams, IsFit, stream_calls, stream_loans}
+use Rattle.served_clients.specs.Lending.{call_of, Loan, sink_of, source_of}
+use Rattle.served_clients.specs.declared.client_streams.streams.ClientStreams.{ClientStreams}
+use Rattle.served_clients.proofs.Uses.{lent, returned, sink_used, source_used, Use, use_call, WereUsed}
 use Rattle.command_line.specs.declared.client_words.clients.ClientWord.{ClientWord}
 
 -- the file of proofs in use

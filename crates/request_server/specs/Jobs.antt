@@ -4,17 +4,17 @@ use Rattle.admission_rules.specs.declared.rules.Rule.{Ghosts as Rules}
 use Rattle.book_gate.specs.Passes.{view}
 use Rattle.admission_rules.specs.Ruled.{Ruled, stand}
 use Rattle.admission_rules.specs.Told.{told_at}
-use Rattle.request_server.specs.ClientRuns.{told_own}
-use Rattle.request_server.specs.Seats.{AnswersAt, IsDone, IsSeated, IsTaken}
-use Rattle.request_server.specs.Talks.{printed, Talk}
+use Rattle.served_clients.specs.ClientRuns.{told_own}
+use Rattle.served_clients.specs.Seats.{AnswersAt, IsDone, IsSeated, IsTaken}
+use Rattle.served_clients.specs.Talks.{printed, Talk}
 use Rattle.line_answers.specs.declared.shared.Shared.{Shared}
 use Rattle.line_sessions.specs.Ends.{Ends, Passes, scene, Streams}
 use Rattle.line_sessions.specs.Proofs.{is_wanted}
 use Rattle.line_sessions.specs.declared.proofs.Proofs.{Proofs}
 use Rattle.rail_types.specs.declared.entries.Entry.{Entry}
-use Rattle.request_server.specs.declared.plans.Job.{Job}
-use Rattle.request_server.specs.declared.plans.Plan.{Plan}
-use Rattle.request_server.specs.declared.plans.Session.{Session}
+use Rattle.request_server.specs.declared.jobs.Job.{Job}
+use Rattle.served_clients.specs.declared.plans.Plan.{Plan}
+use Rattle.served_clients.specs.declared.plans.Session.{Session}
 
 -- a client whose rules were told its entries of the history found: its name, its streams, where its
 -- proofs go, what happens between its searches, and its rules as they stand

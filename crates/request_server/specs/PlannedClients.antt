@@ -3,16 +3,16 @@ use Rattle.std.specs.Prelude.{◌≢◌, ◌≤◌, ⊤, List, [], ◌∷◌, �
 use Rattle.std.specs.Prelude.{Some}
 use Rattle.outside_io.specs.Openings.{Opening}
 use Rattle.rail_types.specs.Limits.{IsClientName}
-use Rattle.request_server.specs.StreamClients.{AreDistinct, IsFit, stream_calls, stream_loans}
-use Rattle.request_server.specs.Lending.{Loan}
-use Rattle.request_server.specs.declared.client_streams.streams.ClientStreams.{ClientStreams}
+use Rattle.served_clients.specs.StreamClients.{AreDistinct, IsFit, stream_calls, stream_loans}
+use Rattle.served_clients.specs.Lending.{Loan}
+use Rattle.served_clients.specs.declared.client_streams.streams.ClientStreams.{ClientStreams}
 use Rattle.command_line.specs.declared.client_words.clients.ClientWord.{ClientWord}
 use Rattle.line_sessions.specs.declared.proofs.Proofs.{Proofs}
 use Rattle.line_sessions.specs.declared.proofs.Proofs.TheVariants.{Unwanted, To}
 use Rattle.command_line.specs.Proofs.{proof_of}
 use Rattle.command_line.specs.declared.proof_words.proofs.ProofWord.{ProofWord}
-use Rattle.request_server.specs.declared.plans.Plan.{Plan}
-use Rattle.request_server.specs.declared.plans.Session.{Session}
+use Rattle.served_clients.specs.declared.plans.Plan.{Plan}
+use Rattle.served_clients.specs.declared.plans.Session.{Session}
 
 -- the opening calls of clients, in order: of each its source, then its sink, and then the
 -- file of its proofs if it has one

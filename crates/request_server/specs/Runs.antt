@@ -3,10 +3,10 @@ use Rattle.std.specs.Prelude.{◌≡◌, ℕ, List}
 use Rattle.admission_rules.specs.declared.rules.Rule.{Ghosts as Rules}
 use Rattle.client_lines.specs.Names.{Names}
 use Rattle.admission_rules.specs.Ruled.{stand}
-use Rattle.request_server.specs.ClientRuns.{AreMatched, IsRun, told_own}
-use Rattle.request_server.specs.Seats.{IsDone}
-use Rattle.request_server.specs.Talks.{Talk}
-use Rattle.request_server.specs.declared.client_seats.seats.Seat.{Seat}
+use Rattle.served_clients.specs.ClientRuns.{AreMatched, IsRun, told_own}
+use Rattle.served_clients.specs.Seats.{IsDone}
+use Rattle.served_clients.specs.Talks.{Talk}
+use Rattle.served_clients.specs.declared.client_seats.seats.Seat.{Seat}
 use Rattle.line_answers.specs.declared.shared.Shared.{Shared}
 use Rattle.line_sessions.specs.Ends.{Passes, Streams}
 use Rattle.line_sessions.specs.Proofs.{is_wanted}
@@ -14,8 +14,8 @@ use Rattle.line_sessions.specs.declared.proofs.Proofs.{Proofs}
 use Rattle.line_sessions.specs.declared.sessions.Ended.{Ended}
 use Rattle.path_commit.specs.Ledgers.{Ledger}
 use Rattle.rail_types.specs.declared.entries.Entry.{Entry}
-use Rattle.request_server.specs.declared.plans.Plan.{Plan}
-use Rattle.request_server.specs.declared.plans.Session.{Session}
+use Rattle.served_clients.specs.declared.plans.Plan.{Plan}
+use Rattle.served_clients.specs.declared.plans.Session.{Session}
 
 -- One client was served at its seat: this passed in its session, whose end its streams show. It is
 -- the client of the seat, by the rules that stood there. By what the pass of the seat has seen at

@@ -18,10 +18,10 @@ use Rattle.outside_io.specs.declared.disks.Disk.{Ghosts as Disks}
 use Rattle.outside_io.specs.declared.sinks.Sink.{Ghosts as Sinks}
 use Rattle.outside_io.specs.declared.sources.Source.{Ghosts as Sources}
 use Rattle.rail_types.specs.declared.trains.Train.{Train}
-use Rattle.request_server.specs.Ends.{EndsSay, report_text}
-use Rattle.request_server.specs.declared.serve_reports.ends.Ends.{Ends}
+use Rattle.served_clients.specs.Ends.{EndsSay, report_text}
+use Rattle.served_clients.specs.declared.serve_reports.ends.Ends.{Ends}
 use Rattle.request_server.specs.Works.{ReadsNetwork, serve_calls}
-use Rattle.request_server.specs.Files.{files_of}
+use Rattle.served_clients.specs.Files.{files_of}
 use Rattle.request_server.specs.ServeJournals.{Serves}
 
 -- what is reported at the end: the ends of the clients, or what refused

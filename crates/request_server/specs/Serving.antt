@@ -5,8 +5,8 @@ use Rattle.client_lines.specs.Names.{Names}
 use Rattle.admission_rules.specs.Clients.{rules_named}
 use Rattle.admission_rules.specs.declared.client_rules.clients.ClientRules.{ClientRules}
 use Rattle.request_server.specs.PlannedClients.{client_calls, returned_of, streams_of}
-use Rattle.request_server.specs.StreamClients.{HadStreams}
-use Rattle.request_server.specs.Refusing.{IsOpen}
+use Rattle.served_clients.specs.StreamClients.{HadStreams}
+use Rattle.served_clients.specs.Refusing.{IsOpen}
 use Rattle.command_line.specs.declared.client_words.clients.ClientWord.{ClientWord}
 use Rattle.command_line.specs.Proofs.{proof_of}
 use Rattle.command_line.specs.declared.proof_words.proofs.ProofWord.{ProofWord}
@@ -18,15 +18,15 @@ use Rattle.outside_io.specs.declared.sinks.Sink.{Ghosts as Sinks}
 use Rattle.outside_io.specs.declared.sources.Source.{Ghosts as Sources}
 use Rattle.path_commit.specs.Footings.{footing_of}
 use Rattle.path_commit.specs.Ledgers.{Ledger}
-use Rattle.request_server.specs.ClientRuns.{AreMatched}
+use Rattle.served_clients.specs.ClientRuns.{AreMatched}
 use Rattle.request_server.specs.Runs.{WereServed}
 use Rattle.outside_io.specs.declared.betweens.NoBetween.{NoBetween}
-use Rattle.request_server.specs.declared.plans.Plan.{Plan}
-use Rattle.request_server.specs.declared.plans.Session.{Session}
-use Rattle.request_server.specs.Ends.{IsEnds}
-use Rattle.request_server.specs.declared.serve_reports.ends.Ends.{Ends}
-use Rattle.request_server.specs.ServedJournals.{IsClosed}
-use Rattle.request_server.specs.Rounds.{IsUnserved}
+use Rattle.served_clients.specs.declared.plans.Plan.{Plan}
+use Rattle.served_clients.specs.declared.plans.Session.{Session}
+use Rattle.served_clients.specs.Ends.{IsEnds}
+use Rattle.served_clients.specs.declared.serve_reports.ends.Ends.{Ends}
+use Rattle.served_clients.specs.ServedJournals.{IsClosed}
+use Rattle.served_clients.specs.Rounds.{IsUnserved}
 
 -- what is told of sources and sinks
 abbrev pub streams_by : {Src Snk : Type 0} → Sources Src → Sinks Snk → Streams Src Snk

@@ -1,16 +1,16 @@
 //! One client at its seat.
 
 ghost use Rattle.std.specs.Prelude.{◌≡◌};
-ghost use Rattle.request_server.specs.Seats.{AnswersAt, IsSeated, IsTaken};
+ghost use Rattle.served_clients.specs.Seats.{AnswersAt, IsSeated, IsTaken};
 ghost use Rattle.line_sessions.specs.Ends.{Ends, scene, streams};
 ghost use Rattle.line_sessions.specs.Proofs.{is_wanted};
 ghost use Rattle.request_server.specs.Runs.{IsSession};
 
-use crate::client_seats::Seat;
 use admission_rules::Rule;
 use line_answers::Shared;
 use line_sessions::{Ended, Proofs, serve_lines};
 use outside_io::{Between, Disk, Sink, Source};
+use served_clients::client_seats::Seat;
 use std::alloc::Global;
 use std::sync::Wait;
 

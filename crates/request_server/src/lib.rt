@@ -3,15 +3,10 @@
 #![tactic(auto)]
 
 pub mod client_plans;
-pub mod client_seats;
-pub mod client_streams;
 mod clients;
-mod plans;
+mod jobs;
 mod runs;
 pub mod serve_command;
-pub mod serve_reports;
-pub mod served_journals;
 
 pub use clients::serve_client;
-pub use plans::{Plan, Session};
 pub use runs::serve_clients;

@@ -8,7 +8,7 @@ use admission_rules::Rule;
 use line_sessions::Ended;
 use no_memory::NoMemory;
 use rail_types::{List, Name};
-use request_server::serve_reports::{Ends, status_at, status_untold};
+use served_clients::serve_reports::{Ends, status_at, status_untold};
 use std::alloc::Global;
 
 /// The end of a batch: the status is `ClientEnd` where the sink failed, `Memory` where

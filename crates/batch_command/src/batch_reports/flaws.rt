@@ -14,7 +14,7 @@ use itoa::Buffer as Digits;
 use line_sessions::{Ended, Why};
 use no_memory::NoMemory;
 use rail_types::{List, Name};
-use request_server::serve_reports::push_end;
+use served_clients::serve_reports::push_end;
 use std::alloc::Global;
 
 /// A line of the list, by its number from 1, does not ask for a path.

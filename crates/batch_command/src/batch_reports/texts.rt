@@ -9,7 +9,7 @@ use byte_fields::Buffer;
 use line_sessions::{Ended, Why};
 use no_memory::NoMemory;
 use rail_types::Name;
-use request_server::serve_reports::{push_end, push_rule_lines};
+use served_clients::serve_reports::{push_end, push_rule_lines};
 use std::alloc::Global;
 
 /// The line of a batch, and behind it the lines of its workers.

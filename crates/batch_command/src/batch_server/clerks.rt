@@ -11,7 +11,7 @@ use line_sessions::Desk;
 use no_memory::NoMemory;
 use outside_io::{Between, Disk};
 use rail_types::Name;
-use request_server::client_seats::Seat;
+use served_clients::client_seats::Seat;
 use std::alloc::Global;
 use std::sync::Wait;
 

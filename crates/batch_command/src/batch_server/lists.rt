@@ -20,7 +20,7 @@ use no_memory::NoMemory;
 use outside_io::{Between, Disk};
 use path_commit::Book;
 use rail_types::{List, Name};
-use request_server::client_seats::{close_gate, open_gate};
+use served_clients::client_seats::{close_gate, open_gate};
 use std::alloc::Global;
 use std::sync::Wait;
 use std::thread::Threads;

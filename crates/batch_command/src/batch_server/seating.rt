@@ -6,10 +6,10 @@ ghost use Rattle.batch_pool.specs.Batches.{AreMatched};
 ghost use Rattle.batch_command.specs.Seating.{HaveLeft, IsClerkOf, worked_of};
 ghost use Rattle.book_gate.specs.Passes.{view};
 ghost use Rattle.book_gate.specs.Views.{StartsWith};
-ghost use Rattle.request_server.specs.Gates.{IsHost, IsNewcomer};
-ghost use Rattle.request_server.specs.Joins.{AreJoined};
-ghost use Rattle.request_server.specs.Seats.{found_at, IsBack, IsDone};
-ghost use Rattle.request_server.specs.Talks.{Talk as talk_type};
+ghost use Rattle.served_clients.specs.Gates.{IsHost, IsNewcomer};
+ghost use Rattle.served_clients.specs.Joins.{AreJoined};
+ghost use Rattle.served_clients.specs.Seats.{found_at, IsBack, IsDone};
+ghost use Rattle.served_clients.specs.Talks.{Talk as talk_type};
 ghost use Rattle.ask_turns.specs.Turns.{IsReady, timetable_at};
 ghost use Rattle.line_answers.specs.Sharing.{IsShared};
 ghost use Rattle.rail_types.specs.Limits.{IsClientName};
@@ -27,7 +27,7 @@ use no_memory::NoMemory;
 use outside_io::{Between, Disk};
 use path_commit::Book;
 use rail_types::List;
-use request_server::client_seats::{Newcomer, leave_seat, take_seat};
+use served_clients::client_seats::{Newcomer, leave_seat, take_seat};
 use std::alloc::Global;
 
 /// A client for each worker, which knows the book as it stands.

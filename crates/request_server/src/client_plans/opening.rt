@@ -6,22 +6,22 @@ ghost use Rattle.request_server.specs.PlannedClients.{AreClients, AreFit, client
 ghost use Rattle.request_server.specs.PlannedClients.{client_loans};
 ghost use Rattle.request_server.specs.PlannedClients.{sink_in, streams_of};
 ghost use Rattle.admission_rules.specs.Clients.{rules_named};
-ghost use Rattle.request_server.specs.StreamClients.{AreDistinct, IsFit, stream_calls};
-ghost use Rattle.request_server.specs.StreamClients.{stream_loans};
-ghost use Rattle.request_server.specs.Lending.{AreOut};
-ghost use Rattle.request_server.specs.Refusing.{IsStopped};
+ghost use Rattle.served_clients.specs.StreamClients.{AreDistinct, IsFit, stream_calls};
+ghost use Rattle.served_clients.specs.StreamClients.{stream_loans};
+ghost use Rattle.served_clients.specs.Lending.{AreOut};
+ghost use Rattle.served_clients.specs.Refusing.{IsStopped};
 ghost use Rattle.command_line.specs.Proofs.{proof_of as file_of};
 
-use crate::Plan;
 use crate::client_plans::proofs::proofs_to;
 use crate::client_plans::returning::put_back_plans;
-use crate::client_streams::{ClientStreams, between_of, open_served};
 use admission_rules::Rule;
 use admission_rules::client_rules::{ClientRules, take_rules};
 use command_line::client_words::ClientWord;
 use command_line::proof_words::{ProofWord, proof_of};
 use command_reports::Refusal;
 use outside_io::Outside;
+use served_clients::Plan;
+use served_clients::client_streams::{ClientStreams, between_of, open_served};
 use std::alloc::Global;
 
 /// Opens the source and the sink of each client, and the file of its proofs if it has one, in the

@@ -3,17 +3,17 @@
 ghost use Rattle.std.specs.Prelude.{◌≤◌, length, map};
 ghost use Rattle.command_reports.specs.Scenes.{scene};
 ghost use Rattle.request_server.specs.PlannedClients.{client_loans, returned_of, streams_of};
-ghost use Rattle.request_server.specs.StreamClients.{stream_loans};
-ghost use Rattle.request_server.specs.Lending.{AreIn};
+ghost use Rattle.served_clients.specs.StreamClients.{stream_loans};
+ghost use Rattle.served_clients.specs.Lending.{AreIn};
 ghost use Rattle.command_line.specs.Proofs.{proof_of as file_of};
 
 use crate::client_plans::proofs::sink_of;
-use crate::client_streams::{ClientStreams, put_back_served};
-use crate::{Plan, Session};
 use admission_rules::Rule;
 use command_line::client_words::ClientWord;
 use command_line::proof_words::{ProofWord, proof_of};
 use outside_io::Outside;
+use served_clients::client_streams::{ClientStreams, put_back_served};
+use served_clients::{Plan, Session};
 
 /// Puts back the streams of the first clients, so many as there are plans, the last of them first.
 pub fn put_back_plans<O: Outside, L: Rule>(

@@ -8,7 +8,6 @@ ghost use Rattle.outside_io.specs.Places.{Untouched};
 ghost use Rattle.request_server.specs.ServeRuns.{EndsRun, IsServed, RunsServe};
 
 use crate::serve_command::works::serve;
-use crate::serve_reports::{Ends, tell_ends};
 use admission_rules::Rule;
 use admission_rules::client_rules::ClientRules;
 use command_line::client_words::ClientWord;
@@ -16,6 +15,7 @@ use command_line::proof_words::ProofWord;
 use command_reports::exit_status::Status;
 use command_reports::{Refusal, finish};
 use outside_io::Outside;
+use served_clients::serve_reports::{Ends, tell_ends};
 use std::alloc::AllocGlobal;
 use std::sync::Wait;
 use std::thread::Threads;

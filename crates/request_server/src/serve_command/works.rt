@@ -3,11 +3,9 @@
 ghost use Rattle.request_server.specs.PlannedClients.{AreClients};
 ghost use Rattle.command_reports.specs.Scenes.{scene};
 ghost use Rattle.request_server.specs.Works.{ReadsBase, ReadsNetwork, ReadsTrains};
-ghost use Rattle.request_server.specs.Files.{IsBaseRead, IsNetworkRead};
+ghost use Rattle.served_clients.specs.Files.{IsBaseRead, IsNetworkRead};
 
 use crate::serve_command::journals::serve_files;
-use crate::serve_reports::Ends;
-use crate::served_journals::Files;
 use admission_rules::Rule;
 use admission_rules::client_rules::ClientRules;
 use base_file::bases_make_timetables;
@@ -16,6 +14,8 @@ use command_line::client_words::ClientWord;
 use command_line::proof_words::ProofWord;
 use command_reports::Refusal;
 use outside_io::Outside;
+use served_clients::serve_reports::Ends;
+use served_clients::served_journals::Files;
 use std::alloc::AllocGlobal;
 use std::sync::Wait;
 use std::thread::Threads;

@@ -1,5 +1,5 @@
 use Rattle.std.proofs.Common.{◌++◌, ◌≤◌, ℕ, List, ap, ◌∙◌, subst, length, arith}
-use Rattle.path_labels.specs.Certified.{IsCertified}
+use Rattle.ask_turns.specs.Certified.{IsCertified}
 use Rattle.rail_types.specs.declared.named_network.Named.{Named}
 use Rattle.occupation_book.specs.Zones.{Zone}
 use Rattle.path_labels.specs.Answers.{claims_held}

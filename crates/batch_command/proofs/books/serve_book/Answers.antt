@@ -1,12 +1,12 @@
 use Rattle.std.proofs.Common.{[], ◌∷◌, subst}
 use Rattle.client_lines.specs.Names.{Names}
-use Rattle.request_server.specs.Lending.{sink_of, source_of}
-use Rattle.request_server.proofs.StreamLoans.{out_unchanged}
+use Rattle.served_clients.specs.Lending.{sink_of, source_of}
+use Rattle.served_clients.proofs.StreamLoans.{out_unchanged}
 use Rattle.command_line.specs.declared.client_words.clients.ClientWord.{ClientWord}
 use Rattle.command_reports.specs.Scenes.{Scene, scene}
 use Rattle.path_commit.specs.Ledgers.{Ledger}
-use Rattle.request_server.specs.Files.{names_of}
-use Rattle.request_server.proofs.Names.{known_same}
+use Rattle.served_clients.specs.Files.{names_of}
+use Rattle.served_clients.proofs.Names.{known_same}
 use Rattle.batch_command.specs.Lists.{ListSays}
 use Rattle.batch_command.proofs.Nesting.{book_by, not_opened, pair_keeps}
 use Rattle.batch_command.proofs.books.serve_book.Goals as goal

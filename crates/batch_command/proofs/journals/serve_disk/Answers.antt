@@ -1,7 +1,7 @@
 use Rattle.std.proofs.Common.{subst}
 use Rattle.client_lines.specs.Names.{Names}
 use Rattle.command_reports.specs.Scenes.{scene}
-use Rattle.request_server.proofs.Names.{known_both}
+use Rattle.served_clients.proofs.Names.{known_both}
 use Rattle.batch_command.specs.Books.{BookSays}
 use Rattle.batch_command.proofs.Disks.{disk_by}
 use Rattle.batch_command.proofs.journals.serve_disk.Goals as goal

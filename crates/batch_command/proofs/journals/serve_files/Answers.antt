@@ -1,5 +1,5 @@
 use Rattle.command_reports.specs.Scenes.{Scene, scene}
-use Rattle.request_server.proofs.JournalRounds.{DiskIsRefused, IsRound}
+use Rattle.served_clients.proofs.JournalRounds.{DiskIsRefused, IsRound}
 use Rattle.batch_command.proofs.Disks.{step_by, unopened_step}
 use Rattle.batch_command.proofs.journals.serve_files.Goals as goal
 

@@ -13,7 +13,7 @@ use Rattle.path_commit.specs.Ledgers.{Ledger}
 use Rattle.rail_types.specs.declared.entries.Entry.{Entry}
 use Rattle.batch_command.specs.Owners.{owner_of, owners_of}
 use Rattle.batch_command.specs.Asked.{HasFlaw, IsAsked}
-use Rattle.request_server.proofs.StreamLoans.{unchanged}
+use Rattle.served_clients.proofs.StreamLoans.{unchanged}
 use Rattle.batch_command.proofs.Plain.{answered_plain, members_plain, plain}
 use Rattle.batch_command.proofs.Workers.{members_differ, members_many, members_named, numbers_many, texts_few, theirs_by}
 use Rattle.batch_command.proofs.lists.answer_lines.Goals as goal

@@ -1,5 +1,5 @@
 use Rattle.std.proofs.Common.{refl}
-use Rattle.request_server.proofs.Done.{seat_done, talk_at}
+use Rattle.served_clients.proofs.Done.{seat_done, talk_at}
 use Rattle.request_server.proofs.clients.serve_client.Goals as goal
 
 pub returns-clause-session : goal.returns-clause-session

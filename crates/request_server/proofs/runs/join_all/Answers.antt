@@ -2,9 +2,9 @@ use Rattle.std.proofs.Common.{rules, refl, ◌∷◌, ◌++◌, [], List, Some, 
 use Rattle.std.proofs.lemmas.List.Elements.{All-pop}
 use Rattle.book_gate.specs.Passes.{view}
 use Rattle.line_sessions.specs.Ends.{streams}
-use Rattle.request_server.specs.declared.plans.Job.{Job}
-use Rattle.request_server.specs.declared.plans.Session.{Session}
-use Rattle.request_server.specs.Seats.{IsBack}
+use Rattle.request_server.specs.declared.jobs.Job.{Job}
+use Rattle.served_clients.specs.declared.plans.Session.{Session}
+use Rattle.served_clients.specs.Seats.{IsBack}
 use Rattle.request_server.specs.Jobs.{session_of}
 use Rattle.request_server.proofs.Matched.{Joining, joining_all, joining_more, joining_none}
 use Rattle.request_server.proofs.runs.join_all.Goals as goal

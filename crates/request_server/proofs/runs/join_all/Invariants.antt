@@ -2,9 +2,9 @@ use Rattle.std.proofs.Common.{◌≡◌, ◌+◌, ◌*◌, ◌≤◌, All, List,
 use Rattle.book_gate.specs.Passes.{view}
 use Rattle.ask_turns.specs.Turns.{IsReady}
 use Rattle.line_sessions.specs.Ends.{streams}
-use Rattle.request_server.specs.ClientRuns.{AreMatched}
-use Rattle.request_server.specs.Seats.{IsBack}
-use Rattle.request_server.specs.Talks.{Talk}
+use Rattle.served_clients.specs.ClientRuns.{AreMatched}
+use Rattle.served_clients.specs.Seats.{IsBack}
+use Rattle.served_clients.specs.Talks.{Talk}
 use Rattle.request_server.specs.Jobs.{IsDoneJob}
 use Rattle.request_server.proofs.Matched.{Joining}
 use Rattle.request_server.proofs.runs.join_all.Given as goal

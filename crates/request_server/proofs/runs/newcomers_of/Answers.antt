@@ -1,9 +1,9 @@
 use Rattle.std.proofs.Common.{rules, ℕ, ◌≡◌, ◌++◌, ◌∷◌, [], List, All, get_or, map, take, ap, sym, ◌∙◌, subst}
 use Rattle.std.proofs.lemmas.List.{map-append, take_more}
 use Rattle.std.proofs.lemmas.List.Elements.{All-push}
-use Rattle.request_server.specs.Gates.{IsNewcomer}
-use Rattle.request_server.specs.declared.client_seats.newcomers.Newcomer.{Newcomer}
-use Rattle.request_server.specs.declared.plans.Plan.{Plan}
+use Rattle.served_clients.specs.Gates.{IsNewcomer}
+use Rattle.served_clients.specs.declared.client_seats.newcomers.Newcomer.{Newcomer}
+use Rattle.served_clients.specs.declared.plans.Plan.{Plan}
 use Rattle.request_server.proofs.runs.newcomers_of.Goals as goal
 
 pub loop-plan-preserved : goal.loop-plan-preserved

@@ -1,5 +1,5 @@
 use Rattle.std.proofs.Common.{◌≡◌, All, map, take}
-use Rattle.request_server.specs.Gates.{IsNewcomer}
+use Rattle.served_clients.specs.Gates.{IsNewcomer}
 use Rattle.request_server.proofs.runs.newcomers_of.Given as goal
 
 abbrev pub invariant-loop-plan : goal.invariant-loop-plan

@@ -2,16 +2,16 @@ use Rattle.std.proofs.Common.{ℕ, ◌≡◌, ◌++◌, ◌∷◌, [], List, Som
 use Rattle.std.proofs.lemmas.List.{length-map, map-append}
 use Rattle.std.proofs.lemmas.List.Elements.{All-pop, All-push}
 use Rattle.admission_rules.specs.Ruled.{Ruled, stand}
-use Rattle.request_server.specs.Gates.{IsNewcomer}
-use Rattle.request_server.specs.ClientRuns.{told_own}
-use Rattle.request_server.specs.Seats.{found_at}
-use Rattle.request_server.specs.declared.client_seats.newcomers.Newcomer.{Newcomer}
-use Rattle.request_server.proofs.Joins.{turned}
+use Rattle.served_clients.specs.Gates.{IsNewcomer}
+use Rattle.served_clients.specs.ClientRuns.{told_own}
+use Rattle.served_clients.specs.Seats.{found_at}
+use Rattle.served_clients.specs.declared.client_seats.newcomers.Newcomer.{Newcomer}
+use Rattle.served_clients.proofs.Joins.{turned}
 use Rattle.ask_turns.specs.Turns.{timetable_at}
 use Rattle.line_sessions.specs.declared.sessions.Why.TheVariants.{Memory}
 use Rattle.rail_types.specs.declared.entries.Entry.{Entry}
-use Rattle.request_server.specs.declared.plans.Job.{Job}
-use Rattle.request_server.specs.declared.plans.Plan.{Plan}
+use Rattle.request_server.specs.declared.jobs.Job.{Job}
+use Rattle.served_clients.specs.declared.plans.Plan.{Plan}
 use Rattle.request_server.specs.Jobs.{Begun, begun, begun_of, IsReadyJob}
 use Rattle.request_server.proofs.Matched.{snoc_same}
 use Rattle.request_server.proofs.runs.seat_all.Goals as goal

@@ -1,9 +1,9 @@
 use Rattle.std.proofs.Common.{List, All, drop, length, map, ap, sym, ◌∙◌, subst}
 use Rattle.std.proofs.lemmas.List.{take_at}
 use Rattle.line_sessions.specs.Ends.{streams}
-use Rattle.request_server.specs.declared.plans.Job.{Job}
-use Rattle.request_server.specs.ClientRuns.{AreMatched}
-use Rattle.request_server.specs.Seats.{IsBack}
+use Rattle.request_server.specs.declared.jobs.Job.{Job}
+use Rattle.served_clients.specs.ClientRuns.{AreMatched}
+use Rattle.served_clients.specs.Seats.{IsBack}
 use Rattle.request_server.specs.Jobs.{begun_of, IsDoneJob, IsReadyJob}
 use Rattle.request_server.proofs.Matched.{all_done, matched_all}
 use Rattle.request_server.proofs.runs.serve_all.Goals as goal

@@ -8,10 +8,10 @@ use Rattle.batch_command.specs.Seating.{IsClerkOf}
 use Rattle.batch_command.specs.declared.batch_server.members.Member.{Member}
 use Rattle.batch_command.specs.declared.batch_server.members.Worked.{Worked}
 use Rattle.book_gate.specs.Passes.{opened, view}
-use Rattle.request_server.specs.Gates.{IsNewcomer}
-use Rattle.request_server.specs.ClientRuns.{AreMatched as AreMatched3, IsRun}
-use Rattle.request_server.specs.Talks.{Talk}
-use Rattle.request_server.specs.declared.client_seats.newcomers.Newcomer.{Newcomer}
+use Rattle.served_clients.specs.Gates.{IsNewcomer}
+use Rattle.served_clients.specs.ClientRuns.{AreMatched as AreMatched3, IsRun}
+use Rattle.served_clients.specs.Talks.{Talk}
+use Rattle.served_clients.specs.declared.client_seats.newcomers.Newcomer.{Newcomer}
 use Rattle.line_answers.specs.declared.shared.Shared.{Shared}
 use Rattle.path_commit.specs.Ledgers.{Ledger}
 use Rattle.batch_command.proofs.Matched.{apart_alike, matched_all, matched_length}

@@ -6,7 +6,7 @@ use Rattle.batch_command.specs.Seating.{HaveLeft, worked_of}
 use Rattle.batch_command.specs.declared.batch_server.clerks.Clerk.{Clerk}
 use Rattle.batch_command.specs.declared.batch_server.members.Worked.{Worked}
 use Rattle.book_gate.specs.Passes.{view}
-use Rattle.request_server.specs.Seats.{IsBack}
+use Rattle.served_clients.specs.Seats.{IsBack}
 use Rattle.client_lines.specs.declared.reply_texts.replies.Reply.{Reply}
 use Rattle.batch_command.proofs.Leaving.{left_more, left_none}
 use Rattle.batch_command.proofs.batch_server.seating.leave_served.Goals as goal

@@ -3,7 +3,7 @@ use Rattle.batch_pool.specs.declared.workers.Served.{Served}
 use Rattle.batch_command.specs.Seating.{HaveLeft, worked_of}
 use Rattle.batch_command.specs.declared.batch_server.clerks.Clerk.{Clerk}
 use Rattle.book_gate.specs.Passes.{view}
-use Rattle.request_server.specs.Seats.{IsBack}
+use Rattle.served_clients.specs.Seats.{IsBack}
 use Rattle.ask_turns.specs.Turns.{IsReady}
 use Rattle.client_lines.specs.declared.reply_texts.replies.Reply.{Reply}
 use Rattle.batch_command.proofs.batch_server.seating.leave_served.Given as goal

@@ -2,8 +2,8 @@ use Rattle.std.proofs.Common.{rules, ℕ, ◌≡◌, ◌+◌, ◌++◌, ◌∷�
 use Rattle.std.proofs.lemmas.List.{take_more}
 use Rattle.batch_pool.specs.Batches.{AreMatched}
 use Rattle.batch_command.specs.declared.batch_server.members.Member.{Member}
-use Rattle.request_server.specs.Gates.{IsNewcomer}
-use Rattle.request_server.specs.declared.client_seats.newcomers.Newcomer.{Newcomer}
+use Rattle.served_clients.specs.Gates.{IsNewcomer}
+use Rattle.served_clients.specs.declared.client_seats.newcomers.Newcomer.{Newcomer}
 use Rattle.batch_command.proofs.Matched.{matched_push}
 use Rattle.batch_command.proofs.batch_server.seating.newcomers_of.Goals as goal
 

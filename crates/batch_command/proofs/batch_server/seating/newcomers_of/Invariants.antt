@@ -1,6 +1,6 @@
 use Rattle.std.proofs.Common.{take}
 use Rattle.batch_pool.specs.Batches.{AreMatched}
-use Rattle.request_server.specs.Gates.{IsNewcomer}
+use Rattle.served_clients.specs.Gates.{IsNewcomer}
 use Rattle.batch_command.proofs.batch_server.seating.newcomers_of.Given as goal
 
 abbrev pub invariant-loop-member : goal.invariant-loop-member

@@ -4,9 +4,9 @@ use Rattle.batch_pool.specs.Batches.{AreMatched}
 use Rattle.batch_command.specs.Seating.{IsClerkOf}
 use Rattle.batch_command.specs.declared.batch_server.clerks.Clerk.{Clerk}
 use Rattle.batch_command.specs.declared.batch_server.members.Member.{Member}
-use Rattle.request_server.specs.Gates.{IsNewcomer}
-use Rattle.request_server.specs.Seats.{found_at}
-use Rattle.request_server.specs.declared.client_seats.newcomers.Newcomer.{Newcomer}
+use Rattle.served_clients.specs.Gates.{IsNewcomer}
+use Rattle.served_clients.specs.Seats.{found_at}
+use Rattle.served_clients.specs.declared.client_seats.newcomers.Newcomer.{Newcomer}
 use Rattle.ask_turns.specs.Turns.{timetable_at}
 use Rattle.batch_command.proofs.Matched.{matched_push}
 use Rattle.batch_command.proofs.batch_server.seating.seat_all.Goals as goal

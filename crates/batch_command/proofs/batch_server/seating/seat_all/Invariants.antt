@@ -3,8 +3,8 @@ use Rattle.batch_pool.specs.Batches.{AreMatched}
 use Rattle.batch_command.specs.Seating.{IsClerkOf}
 use Rattle.batch_command.specs.declared.batch_server.members.Member.{Member}
 use Rattle.book_gate.specs.Passes.{view}
-use Rattle.request_server.specs.Gates.{IsHost, IsNewcomer}
-use Rattle.request_server.specs.Seats.{found_at}
+use Rattle.served_clients.specs.Gates.{IsHost, IsNewcomer}
+use Rattle.served_clients.specs.Seats.{found_at}
 use Rattle.ask_turns.specs.Turns.{timetable_at}
 use Rattle.batch_command.proofs.batch_server.seating.seat_all.Given as goal
 

@@ -1,6 +1,6 @@
 use Rattle.command_reports.specs.Scenes.{scene}
-use Rattle.request_server.specs.StreamClients.{stream_calls}
-use Rattle.request_server.proofs.StreamStops.{stops_first}
+use Rattle.served_clients.specs.StreamClients.{stream_calls}
+use Rattle.served_clients.proofs.StreamStops.{stops_first}
 use Rattle.command_line.specs.Proofs.{proof_of}
 use Rattle.request_server.proofs.client_plans.opening.open_client.Goals as goal
 

@@ -5,15 +5,15 @@ use Rattle.admission_rules.specs.Clients.{rules_named}
 use Rattle.admission_rules.specs.declared.client_rules.clients.ClientRules.{ClientRules}
 use Rattle.std.proofs.Math.Seq.{split_at}
 use Rattle.command_reports.specs.Scenes.{Scene, scene}
-use Rattle.request_server.specs.declared.plans.Plan.{Plan}
+use Rattle.served_clients.specs.declared.plans.Plan.{Plan}
 use Rattle.request_server.specs.PlannedClients.{AreFit, client_calls, client_loans, streams_of}
-use Rattle.request_server.specs.StreamClients.{AreDistinct, stream_loans}
-use Rattle.request_server.specs.Lending.{AreIn, AreOut, Loan}
-use Rattle.request_server.specs.declared.client_streams.streams.ClientStreams.{ClientStreams}
-use Rattle.request_server.proofs.StreamLoans.{out_both}
-use Rattle.request_server.specs.Refusing.{IsStopped}
+use Rattle.served_clients.specs.StreamClients.{AreDistinct, stream_loans}
+use Rattle.served_clients.specs.Lending.{AreIn, AreOut, Loan}
+use Rattle.served_clients.specs.declared.client_streams.streams.ClientStreams.{ClientStreams}
+use Rattle.served_clients.proofs.StreamLoans.{out_both}
+use Rattle.served_clients.specs.Refusing.{IsStopped}
 use Rattle.command_line.specs.declared.client_words.clients.ClientWord.{ClientWord}
-use Rattle.request_server.proofs.StreamLists.{pairs_drop, pairs_head}
+use Rattle.served_clients.proofs.StreamLists.{pairs_drop, pairs_head}
 use Rattle.request_server.proofs.PlanLoans.{all_taken, fit_more, loans_front, loans_more, own_distinct}
 use Rattle.request_server.proofs.PlanStops.{stops_there}
 use Rattle.command_line.specs.Proofs.{proof_of}

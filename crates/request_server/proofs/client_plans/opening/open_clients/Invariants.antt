@@ -2,7 +2,7 @@ use Rattle.std.proofs.Common.{◌≡◌, ◌≤◌, All, drop, length, map, take
 use Rattle.request_server.specs.PlannedClients.{AreFit, client_loans, streams_of}
 use Rattle.admission_rules.specs.Clients.{rules_named}
 use Rattle.command_reports.specs.Scenes.{scene}
-use Rattle.request_server.specs.Lending.{AreOut}
+use Rattle.served_clients.specs.Lending.{AreOut}
 use Rattle.request_server.proofs.client_plans.opening.open_clients.Given as goal
 
 abbrev pub invariant-loop-client : goal.invariant-loop-client

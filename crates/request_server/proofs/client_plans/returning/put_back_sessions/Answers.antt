@@ -1,10 +1,10 @@
 use Rattle.std.proofs.Common.{◌≡◌, ◌∷◌, [], List, get_or, length, map, ap, arith, sym, ◌∙◌}
 use Rattle.std.proofs.lemmas.List.{length-map, map-append}
 use Rattle.command_reports.specs.Scenes.{Scene, scene}
-use Rattle.request_server.specs.declared.plans.Session.{Session}
+use Rattle.served_clients.specs.declared.plans.Session.{Session}
 use Rattle.command_line.specs.Proofs.{proof_of}
 use Rattle.request_server.specs.PlannedClients.{sink_in, returned_of}
-use Rattle.request_server.specs.declared.client_streams.streams.ClientStreams.{ClientStreams}
+use Rattle.served_clients.specs.declared.client_streams.streams.ClientStreams.{ClientStreams}
 use Rattle.command_line.specs.declared.client_words.clients.ClientWord.{ClientWord}
 use Rattle.request_server.proofs.Comings.{returning_more, returning_none, same_proof}
 use Rattle.request_server.proofs.client_plans.returning.put_back_sessions.Goals as goal

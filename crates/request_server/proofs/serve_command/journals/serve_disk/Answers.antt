@@ -2,7 +2,7 @@ use Rattle.std.proofs.Common.{subst}
 use Rattle.client_lines.specs.Names.{Names}
 use Rattle.command_reports.specs.Scenes.{scene}
 use Rattle.request_server.specs.Serving.{BookSays}
-use Rattle.request_server.proofs.Names.{known_both}
+use Rattle.served_clients.proofs.Names.{known_both}
 use Rattle.request_server.proofs.Disks.{disk_by}
 use Rattle.request_server.proofs.serve_command.journals.serve_disk.Goals as goal
 

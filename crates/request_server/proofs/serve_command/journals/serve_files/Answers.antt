@@ -1,5 +1,5 @@
 use Rattle.command_reports.specs.Scenes.{Scene, scene}
-use Rattle.request_server.proofs.JournalRounds.{DiskIsRefused, IsRound}
+use Rattle.served_clients.proofs.JournalRounds.{DiskIsRefused, IsRound}
 use Rattle.request_server.proofs.Disks.{step_by, unopened_step}
 use Rattle.request_server.proofs.serve_command.journals.serve_files.Goals as goal
 

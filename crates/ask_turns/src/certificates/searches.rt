@@ -1,0 +1,102 @@
+//! The path of a request with what shows it.
+
+ghost use Rattle.std.specs.Prelude.{◌≡◌, ◌≤◌, pos, ◌-ℤ◌, ◌≤ℤ◌, None, length, IfOk};
+ghost use Rattle.rail_types.specs.declared.limits.TheConstants.{MAX_PLACES};
+ghost use Rattle.rail_types.specs.Flaws.{first_flaw};
+ghost use Rattle.rail_types.specs.Limits.{IsRequestWithinLimits, IsSettingsWithinLimits};
+ghost use Rattle.refusal_proof.specs.Proofs.{claims_held};
+ghost use Rattle.path_labels.specs.Answers.{before, last_leave};
+ghost use Rattle.tail_states.specs.Listed.{AreTheMoves, AreThePlaces};
+ghost use Rattle.ask_turns.specs.Certified.{IsCertified};
+
+use crate::certificates::laws::certificates_pass;
+use no_memory::NoMemory;
+use occupation_book::Occupations;
+use path_labels::{Sought, seek};
+use rail_types::{Network, Path, Request, Run, Settings, Window};
+use stair_pieces::a_path_is_a_list_of_moves;
+use std::alloc::Global;
+use tail_states::{Closed, Places};
+
+/// What was found: a path that leaves last as early as any, or None; and the request that is
+/// excluded beside it, with members that show it.
+#[derive(Debug, Drop)]
+pub struct Certified {
+    pub path: Option<Path>,
+    pub excluded: Request,
+    pub closed: Closed,
+}
+
+// The window that ends one tick before a run does, or where it ended already.
+fn ended_before(window: &Window, run: &Run) -> Window
+    requires { pos 0 ≤ℤ run.now.leave }
+    ensures from { result.from ≡ window.now.from }
+    ensures to { result.to ≡ run.now.leave -ℤ pos 1 }
+{
+    Window {
+        from: window.from,
+        to: run.leave - 1,
+    }
+}
+
+// The request whose window of arrival ends one tick before the last leave of a path.
+fn earlier(alloc: Global, request: &Request, path: &Path) -> Result<Request, NoMemory>
+    requires some { 1 ≤ length path.now.runs }
+    requires late { pos 0 ≤ℤ last_leave path.now }
+    ensures { IfOk result (λ cut. cut ≡ before request.now (last_leave path.now)) }
+{
+    let runs = path.runs.as_slice();
+    let arrive = ended_before(&request.arrive, &runs[runs.len() - 1]);
+    Ok(Request {
+        train: request.train.copy(alloc)?,
+        origin: request.origin,
+        destination: request.destination,
+        depart: request.depart,
+        arrive,
+        stops: request.stops.copy(alloc)?,
+    })
+}
+
+/// The path of a request that leaves last as early as any that can be granted beside what
+/// the book holds, or None where none can; with members that pass the check for the
+/// request that is excluded beside it.
+pub fn seek_certified(
+    alloc: Global,
+    net: &Network,
+    settings: &Settings,
+    book: &Occupations,
+    request: &Request,
+    places: &Places,
+) -> Result<Certified, NoMemory>
+    requires flawless { first_flaw net.now ≡ None }
+    requires settings { IsSettingsWithinLimits settings.now }
+    requires zones { length book.now ≡ net.now.zones }
+    requires request { IsRequestWithinLimits request.now }
+    requires places { AreThePlaces net.now request.now places.now.members }
+    requires moves { AreTheMoves net.now request.now places.now }
+    requires few { length places.now.members ≤ MAX_PLACES }
+    ensures { IfOk result (IsCertified net.now settings.now (claims_held book.now) request.now
+        places.now) }
+{
+    certificates_pass();
+    a_path_is_a_list_of_moves();
+    let sought = seek(alloc, net, settings, book, request, places)?;
+    match sought {
+        Sought::Found(path, closed) => {
+            let excluded = earlier(alloc, request, &path)?;
+            Ok(Certified {
+                path: Some(path),
+                excluded,
+                closed,
+            })
+        }
+        Sought::NoPath(closed) => {
+            let excluded = request.copy(alloc)?;
+            Ok(Certified {
+                path: None,
+                excluded,
+                closed,
+            })
+        }
+    }
+}

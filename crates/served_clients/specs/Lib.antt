@@ -1,0 +1,14 @@
+pub mod Talks
+pub mod ClientRuns
+pub mod Seats
+pub mod Gates
+pub mod Joins
+pub mod Tellings
+pub mod StreamClients
+pub mod Lending
+pub mod Refusing
+pub mod Ends
+pub mod Rules
+pub mod Files
+pub mod ServedJournals
+pub mod Rounds

@@ -1,0 +1,34 @@
+//! Clients that come to a gate.
+
+ghost use Rattle.std.specs.Prelude.{IfOk};
+ghost use Rattle.served_clients.specs.Gates.{IsNewcomer};
+ghost use Rattle.rail_types.specs.Limits.{IsClientName};
+
+use crate::client_seats::tellings::{Telling, tellings_of};
+use ask_turns::client_turns::Client;
+use no_memory::NoMemory;
+use outside_io::Disk;
+use path_commit::Book;
+use rail_types::Name;
+use std::alloc::Global;
+
+/// A client that knows a book as it stands, and what its rules are told of its entries there.
+#[derive(Drop)]
+pub struct Newcomer {
+    #[doc(hidden)]
+    pub client: Client,
+    #[doc(hidden)]
+    pub tellings: Vec<Telling>,
+}
+
+impl Newcomer {
+    /// A client of this name.
+    pub fn new<D: Disk>(alloc: Global, book: &Book<D>, name: &Name) -> Result<Newcomer, NoMemory>
+        requires named { IsClientName name.now }
+        ensures { IfOk result (IsNewcomer book.now.timetable book.now.entries name.now) }
+    {
+        let tellings = tellings_of(alloc, book.history(), name)?;
+        let client = Client::new(alloc, name.copy(alloc)?, book)?;
+        Ok(Newcomer { client, tellings })
+    }
+}

@@ -1,0 +1,71 @@
+//! A client's seat at the gate.
+
+ghost use Rattle.std.specs.Prelude.{◌/◌};
+ghost use Rattle.book_gate.specs.Passes.{turns_left};
+ghost use Rattle.served_clients.specs.Seats.{AnswersAt, IsSeated};
+
+use admission_rules::Rule;
+use ask_turns::client_turns::Client;
+use book_gate::Pass;
+use byte_fields::Buffer;
+use client_lines::reply_texts::Reply;
+use line_answers::{Shared, answer_one};
+use line_sessions::Desk;
+use no_memory::NoMemory;
+use outside_io::{Between, Disk};
+use path_commit::Book;
+use std::alloc::Global;
+use std::sync::Wait;
+
+/// A client with its pass at the gate that it shares, what happens between its searches, its rules,
+/// and whether it wants the proofs that go along with its replies.
+#[derive(Drop)]
+pub struct Seat<'a, D: Disk, B: Between, L: Rule> {
+    #[doc(hidden)]
+    pub shared: &'a Shared<D>,
+    #[doc(hidden)]
+    pub pass: Pass<Book<D>>,
+    #[doc(hidden)]
+    pub client: Client,
+    #[doc(hidden)]
+    pub between: B,
+    #[doc(hidden)]
+    pub rules: Vec<L>,
+    #[doc(hidden)]
+    pub proves: bool,
+}
+
+/// Each line takes at most four turns.
+impl<'a, D: Disk, B: Between, L: Rule> Desk for Seat<'a, D, B, L> {
+    ghost answers = { λ old number line told proof new.
+        AnswersAt L.Rule old number line told proof new };
+
+    ghost lines_left = { λ seat. turns_left seat.pass / 4 };
+
+    ghost is_sound = { λ seat. IsSeated seat };
+
+    fn answer<R: Wait>(
+        &mut self,
+        rt: &R,
+        alloc: Global,
+        line_number: u32,
+        line: &[u8],
+        text: &mut Buffer,
+        proof: &mut Buffer,
+    ) -> Result<Reply, NoMemory> {
+        answer_one(
+            rt,
+            alloc,
+            self.shared,
+            &mut self.pass,
+            &mut self.client,
+            self.rules.as_mut_slice(),
+            line_number,
+            line,
+            text,
+            self.proves,
+            proof,
+            &mut self.between,
+        )
+    }
+}

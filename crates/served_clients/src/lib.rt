@@ -1,0 +1,11 @@
+//! What all that serve clients share: a seat at the gate for each, its streams, the journal that it
+//! is served over, and the report of what its session was.
+#![tactic(auto)]
+
+pub mod client_seats;
+pub mod client_streams;
+mod plans;
+pub mod serve_reports;
+pub mod served_journals;
+
+pub use plans::{Plan, Session};
