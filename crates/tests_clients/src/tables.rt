@@ -5,6 +5,7 @@ use crate::own::{Own, Watched};
 use crate::paced::Heard;
 use crate::signals::{Awaited, Signals, Whose};
 use crate::together::{Seat, Together, sink_of};
+use admission_rules::Wish;
 use admission_rules::client_rules::ClientRules;
 use osrd_stdcm::run;
 use rail_types::Name;
@@ -124,6 +125,7 @@ fn carry_out_line<R: AllocGlobal + Print + Threads + Wait + Sync>(
         "run" => run_words(rt, table, rest),
         "proofs" => print_proofs(rt, &table.outside.aside),
         "searches" => print_searches(rt, &table.outside.signals),
+        "wishes" => print_wishes(rt, table),
         _ => Err(not_understood()),
     }
 }
@@ -205,6 +207,27 @@ fn print_rules<R: Print>(rt: &R, table: &Table) -> io::Result<()> {
         )?;
     }
     Ok(())
+}
+
+// Prints the wish that each rule was asked of last.
+fn print_wishes<R: Print>(rt: &R, table: &Table) -> io::Result<()> {
+    for rule in &table.handed {
+        let client = rule.client.as_str();
+        match rule.watched.wish() {
+            Some(wish) => print_wish(rt, client, &wish)?,
+            None => println!(rt; "  own-7 of {client}: asked of nothing")?,
+        }
+    }
+    Ok(())
+}
+
+fn print_wish<R: Print>(rt: &R, client: &str, wish: &Wish) -> io::Result<()> {
+    let length_m = wish.length_m;
+    let (from, to) = (wish.depart.from, wish.depart.to);
+    let (after, before) = (wish.arrive.from, wish.arrive.to);
+    println!(rt;
+        "  own-7 of {client}: {length_m} m, departs {from} to {to}, arrives {after} to {before}"
+    )
 }
 
 // What a sink holds, as lines.
