@@ -9,6 +9,3 @@ pub use clients::{ClientRules, take_rules};
 pub use denials::first_denial;
 pub use tellings::{tell_freed, tell_granted};
 pub use wishes::{asked_wish, given_wish, wish_of};
-
-#[cfg(test)]
-mod tests;

@@ -16,6 +16,3 @@ pub use longest::Longest;
 pub use quotas::Quota;
 pub use rules::{Rule, Wish};
 pub use tallies::Tally;
-
-#[cfg(test)]
-mod tests;

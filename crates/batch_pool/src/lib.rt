@@ -16,6 +16,3 @@ pub use batches::{answer_batch, run_batch};
 pub use hands::Hand;
 pub use rooms::{Room, room_for};
 pub use workers::{Served, Worker};
-
-#[cfg(test)]
-mod tests;

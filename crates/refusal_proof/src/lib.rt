@@ -8,6 +8,3 @@ mod labels;
 mod moves;
 
 pub use checks::check;
-
-#[cfg(test)]
-mod tests;
