@@ -44,6 +44,18 @@ LOWEST = "\n".join([
     "fn other() -> u64 { 400000_u64 + b16 + x.16 + 4000001 }",
     "",
 ])
+# Two attributes name `test`; a comment, a text, a function and a longer word do not.
+MIDDLE = "\n".join([
+    "fn above() -> u64 { 400_000 }",
+    "#[cfg(test)]",
+    "mod tests;",
+    "// #[test]",
+    'fn test() -> &str { "a test" }',
+    "#[derive(Debug)]",
+    "#[latest]",
+    "    #[test] fn shows() {}",
+    "",
+])
 # `IsWide` has eleven parameters, two of them of one group, and what stands in braces not counted;
 # `IsLong` has eleven, over two lines; `IsTen` and `IsRecord` have ten and twelve; `counts` is no
 # relation.
@@ -69,6 +81,7 @@ crates with more than 12 libraries: 2
     bench 14
     program 13
 lines of more than 100 columns: 2
+tests proved inside crates: 2
 functions with more than 8 parameters: 1
     crates/lowest/src/lib.rt:7: 9 many
 relations with more than 10 parameters: 3
@@ -80,6 +93,8 @@ bare numbers: 3
 SPOTS = [
     "    crates/lowest/src/lib.rt:2: 101 // " + "a" * 98,
     "    crates/lowest/src/lib.rt:6: 105 ghost use",
+    "    crates/middle/src/lib.rt:2: #[cfg(test)]",
+    "    crates/middle/src/lib.rt:8: #[test] fn shows() {}",
     "    crates/lowest/src/lib.rt:12: fn none() -> u64 { 400000 }  (TURNS)",
     '    crates/lowest/src/lib.rt:13: fn told() -> &str { "limit file 67108865" }  (MOST_BYTES)',
     "    crates/middle/src/lib.rt:1: fn above() -> u64 { 400_000 }  (TURNS)",
@@ -90,6 +105,7 @@ LIMITS = [
     ("--longest-chain", 4, "crates of the longest chain"),
     ("--most-dependencies", 14, "libraries of a crate"),
     ("--wide-lines", 2, "wide lines"),
+    ("--most-tests", 2, "tests proved inside crates"),
     ("--most-parameters", 9, "parameters of a function"),
     ("--most-relation-parameters", 12, "parameters of a relation"),
 ]
@@ -104,7 +120,7 @@ def made(root: Path) -> None:
         (root / "crates" / name / "src/lib.rt").write_text("//! A crate.\n")
     (root / "crates/lowest/src/lib.rt").write_text(LOWEST)
     (root / "crates/lowest/specs/Lib.antt").write_text(SPECS)
-    (root / "crates/middle/src/lib.rt").write_text("fn above() -> u64 { 400_000 }\n")
+    (root / "crates/middle/src/lib.rt").write_text(MIDDLE)
     # what is no part of a crate's src and specs is not looked at
     (root / "crates/lowest/proofs").mkdir()
     (root / "crates/lowest/proofs/Lib.antt").write_text("-- " + "c" * 200 + "\n")
