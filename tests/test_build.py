@@ -150,12 +150,44 @@ def a_kit_that_keeps_nothing_proves_the_program_alone(clone: Clone) -> None:
     must(not left, f"left behind: {left}")
 
 
-def a_kit_that_keeps_its_proofs_runs_at_the_top(clone: Clone) -> None:
+def a_kit_that_keeps_its_proofs_proves_the_program_alone(clone: Clone) -> None:
     ran = built(clone, fake="knows-anew takes-away long")
-    must(f"in {clone.root}" in clone.noted(), f"noted {clone.noted()}")
-    must("has apart lowest middle stdcm ['wrong.edit']" in clone.noted(), f"{clone.noted()}")
+    must("has lowest middle stdcm []" in clone.noted(), f"noted {clone.noted()}")
+    must(f"in {clone.root}" not in clone.noted(), "it ran at the top")
     must("whole" not in clone.noted() and clone.is_quiet(), f"noted {clone.noted()}")
     must("3 crates are proved" in ran.stderr, ran.stderr)
+
+
+def crates_that_all_wait_for_have_all_processors(clone: Clone) -> None:
+    """The lowest and the highest each in a run that shares processors out by itself."""
+    rows = {"lowest": "", "left": "lowest", "right": "lowest", "beyond": "right lowest",
+            "stdcm": "left beyond right lowest"}
+    (clone.root / "crates.txt").write_text("".join(f"{a}: {b}\n" for a, b in rows.items()))
+    for name in ("left", "right", "beyond"):
+        (clone.root / "crates" / name / "src").mkdir(parents=True)
+        (clone.root / "crates" / name / "src/lib.rt").write_text(f"fn {name}() {{}}\n")
+    ran = built(clone, fake="knows-anew long")
+    has = [row for row in clone.noted() if row.startswith("has")]
+    must(has == ["has lowest []", "has beyond left lowest right []",
+                 "has beyond left lowest right stdcm []"], f"noted {has}")
+    jobs = [row for row in clone.noted() if row.startswith("jobs")]
+    must(jobs[0] == jobs[2] == "jobs none" != jobs[1] and len(jobs) == 3, f"noted {jobs}")
+    must("5 crates are proved" in ran.stderr and clone.is_quiet(), ran.stderr)
+    log = (clone.root / "out/build.log").read_text()
+    must(all(f"rt: {name} proved" in log for name in rows), log)
+    shutil.rmtree(clone.root / "out")
+    built(clone, fake="knows-anew long", environment={"RT_JOBS": "2"})
+    jobs = [row for row in clone.noted() if row.startswith("jobs")][3:]
+    must(jobs == ["jobs 2"], f"asked for two, noted {jobs}")
+
+
+def a_stage_that_fails_ends_the_build(clone: Clone) -> None:
+    rows = ("lowest:", "middle: lowest", "apart: lowest", "stdcm: middle apart lowest")
+    (clone.root / "crates.txt").write_text("".join(f"{row}\n" for row in rows))
+    ran = clone.build(fake="knows-anew fails:middle")
+    must(ran.returncode == 1, f"status {ran.returncode}")
+    must("middle is not proved" in ran.stderr and "error: not so" in ran.stderr, ran.stderr)
+    must(clone.program() is None and clone.is_quiet(), "something is left")
 
 
 def what_is_kept_there_is_asked_for_anew(clone: Clone) -> None:
@@ -405,7 +437,9 @@ def the_record_tells_what_was_built(clone: Clone) -> None:
 CASES: list[Callable[[Clone], None]] = [
     a_fresh_clone_is_built_and_the_run_ended,
     a_kit_that_keeps_nothing_proves_the_program_alone,
-    a_kit_that_keeps_its_proofs_runs_at_the_top,
+    a_kit_that_keeps_its_proofs_proves_the_program_alone,
+    crates_that_all_wait_for_have_all_processors,
+    a_stage_that_fails_ends_the_build,
     what_is_kept_there_is_asked_for_anew,
     a_built_program_is_found_at_once,
     what_rt_took_away_is_put_back,
