@@ -1,18 +1,22 @@
 -- What a hold or a grant with a new number is told.
-use Rattle.std.proofs.Common.{◌≡◌, ◌↔◌, ◌∙◌, ℕ, true, false, List, length, slice_get, Contains, Some, None, sym, ap, arith}
+use Rattle.std.proofs.Common.{◌≡◌, ◌↔◌, ◌∙◌, ℕ, true, false, List, length, slice_get, Contains, Some, None, refl, sym, ap, arith}
 use Rattle.std.proofs.lemmas.List.Elements.{All-contains}
 use Rattle.std.proofs.lemmas.Option.{slice_get_within}
 use Rattle.grant_log.specs.declared.verdicts.Verdict.{Verdict}
 use Rattle.grant_log.specs.declared.verdicts.Verdict.TheVariants.{Kept, Gone, Other, BreaksRequest, Taken, Unknown, NotYours, AlreadyFreed, Fresh}
 use Rattle.grant_log.specs.Live.{claims_of, freed_by, live_claims}
 use Rattle.grant_log.specs.Meanings.{IsNew, IsNumbered, Says, StandsAt}
-use Rattle.grant_log.specs.Verdict.{takes}
+use Rattle.grant_log.specs.Verdict.{breaks, freed_position, taken_or_fresh, takes, verdict_by_place, verdict_on}
+use Rattle.grant_log.proofs.Places.{is_new}
+use Rattle.grant_log.proofs.Repeats.{told_of_claims}
 use Rattle.grant_log.proofs.Slices.{is_contained}
 use Rattle.rail_types.specs.declared.entries.Deed.{Deed}
-use Rattle.rail_types.specs.declared.entries.Deed.TheVariants.{Free}
+use Rattle.rail_types.specs.declared.entries.Deed.TheVariants.{Hold, Grant, Free}
 use Rattle.rail_types.specs.declared.entries.Entry.{Entry}
 use Rattle.rail_types.specs.declared.entries.Owner.TheVariants.{Base as of_train, Entry as of_entry}
 use Rattle.rail_types.specs.declared.paths.Claim.{Claim}
+use Rattle.rail_types.specs.FirstClash.{first_clash}
+use Rattle.rail_types.specs.Occupation.{HeldClaim}
 use Rattle.rail_types.specs.Timetables.{Timetable}
 use Rattle.carry_command.specs.CarriedInside.{IsToldNew}
 
@@ -44,3 +48,16 @@ told_new timetable entries entry Unknown count takes_zones new same law says = a
 told_new timetable entries entry (NotYours owner) count takes_zones new same law says = absurd (not_free entry.deed says.1.0 takes_zones says.1.2.frees)
 told_new timetable entries entry (AlreadyFreed freer) count takes_zones new same law says = absurd (not_free entry.deed says.1.0 takes_zones says.1.2.frees)
 told_new timetable entries entry Fresh count takes_zones new same law says = tt
+
+no_free : (deed : Deed) → takes deed ≡ true → freed_position deed ≡ None
+no_free (Hold claims reason) takes_zones = refl
+no_free (Grant wanted path) takes_zones = refl
+no_free (Free at) takes_zones = let wrong : false ≡ true = takes_zones in absurd cc
+
+-- a hold or a grant with a new number, which breaks no rule, is told by the claims that are held
+pub told_by_held : (timetable : Timetable) (entries : List Entry) (entry : Entry) (held : List HeldClaim) (claims : List Claim) → takes entry.deed ≡ true → IsNew entries entry → breaks timetable entry.deed ≡ None → claims ≡ claims_of timetable entry.deed
+    → first_clash (live_claims timetable entries) claims ≡ first_clash held claims → verdict_on timetable entries entry ≡ taken_or_fresh (first_clash held claims)
+told_by_held timetable entries entry held claims takes_zones new keeps own alike =
+    ap (verdict_by_place timetable entries entry) (is_new entries entry new)
+    ∙ (told_of_claims timetable entries entry.owner entry.deed (no_free entry.deed takes_zones) keeps
+    ∙ ap taken_or_fresh (ap (first_clash (live_claims timetable entries)) (sym own) ∙ alike))

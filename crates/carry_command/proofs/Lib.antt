@@ -1,5 +1,7 @@
 pub mod Parts
 pub mod Judging
+pub mod Held
+pub mod Going
 pub mod Steps
 pub mod Whole
 pub mod Spelled

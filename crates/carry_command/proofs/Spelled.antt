@@ -1,36 +1,37 @@
--- A journal as a whole, entry by entry.
-use Rattle.std.proofs.Common.{◌≡◌, ◌∙◌, ℕ, ◌+◌, ◌<◌, ◌^◌, List, [], ◌∷◌, ◌++◌, length, take, append_assoc, All, Option, Some, None, slice_get, inl, inr, sym, ap, subst, arith}
-use Rattle.std.proofs.lemmas.List.{append-nil, take_more}
+-- Entries that are carried one by one, and spelled.
+use Rattle.std.proofs.Common.{◌≡◌, ◌∙◌, ℕ, zero, suc, ◌+◌, ◌<◌, ◌^◌, List, [], ◌∷◌, ◌++◌, map, length, append_assoc, All, Contains, Some, slice_get, flat_map, sym, ap, subst, arith}
+use Rattle.std.proofs.lemmas.List.{append-nil}
+use Rattle.std.proofs.lemmas.List.Concat.{flat_map-append}
 use Rattle.std.proofs.lemmas.List.Elements.{All-append, All-cons, All-contains, All-nil}
-use Rattle.std.proofs.lemmas.Option.{get_or_from_slice_get, slice_get_cases, slice_get_within}
 use Rattle.entry_codec.specs.Body.{body_of}
 use Rattle.grant_journal.specs.Histories.{bodies_of, counted, front_of, opened}
+use Rattle.grant_log.proofs.Elements.{contains_tail, no_element}
 use Rattle.grant_log.proofs.Slices.{is_contained}
 use Rattle.rail_types.specs.declared.entries.Entry.{Entry}
-use Rattle.carry_command.proofs.Whole.{contains_map}
+use Rattle.carry_command.specs.Carried.{alone, entries_at}
 
--- an element stands at each place within a list
-pub none_past : {X : Type 0} (xs : List X) (at : ℕ) → at < length xs → slice_get xs at ≡ None → ⊥
-none_past {X = X} xs at within none = elim (slice_get_cases xs at).1 [
-  | inl some ↦ absurd (let wrong : ◌≡◌ {A = Option X} (Some some.0) None = sym some.2 ∙ none in cc)
-  | inr past ↦ absurd (let beyond = past.0 in omega (arith, beyond, within))
-]
-
-take_next : {X : Type 0} (xs : List X) (at : ℕ) (x : X) → slice_get xs at ≡ Some x → take (at + 1) xs ≡ take at xs ++ x ∷ []
-take_next {X = X} xs at x here = take_more xs at x (slice_get_within xs at x here) ∙ ap (λ (y : X). take at xs ++ y ∷ []) (get_or_from_slice_get xs at x x here)
-
-pub all_next : {X : Type 0} (P : X → Type 0) (xs : List X) (at : ℕ) (x : X) → slice_get xs at ≡ Some x → All P (take at xs) → P x → All P (take (at + 1) xs)
-all_next P xs at x here all is = subst (All P) (sym (take_next xs at x here)) (All-append P (take at xs) (x ∷ []) all (All-cons P x [] is (All-nil P)))
+pub contains_map : {X Y : Type 0} (f : X → Y) (xs : List X) (x : X) → Contains xs x → Contains (map f xs) (f x)
+contains_map f [] x contains = absurd (no_element x contains)
+contains_map f (y ∷ ys) x (zero, within, here) = (zero, omega arith, ap f here)
+contains_map f (y ∷ ys) x (suc k, within, here) = contains_tail (f y) (f x) (map f ys) (contains_map f ys x (k, omega arith, here))
 
 pub body_short : (entries : List Entry) (at : ℕ) (entry : Entry) → slice_get entries at ≡ Some entry → All (λ body. length body < 2 ^ 32) (bodies_of entries) → length (body_of entry) < 2 ^ 32
 body_short entries at entry here short = All-contains (λ body. length body < 2 ^ 32) (bodies_of entries) (body_of entry) short (contains_map body_of entries entry (is_contained entries at entry here))
+
+-- with one position more, one entry more
+pub entries_more : (old : List Entry) (kept : List ℕ) (at : ℕ) (entry : Entry) → slice_get old at ≡ Some entry → entries_at old (kept ++ at ∷ []) ≡ entries_at old kept ++ entry ∷ []
+entries_more old kept at entry here =
+    flat_map-append (λ (n : ℕ). alone (slice_get old n)) kept (at ∷ [])
+    ∙ ap (λ (l : List Entry). entries_at old kept ++ l) (append-nil (alone (slice_get old at)) ∙ ap alone here)
+
+pub all_more_one : (P : Entry → Type 0) (entries : List Entry) (entry : Entry) → All P entries → P entry → All P (entries ++ entry ∷ [])
+all_more_one P entries entry all is = All-append P entries (entry ∷ []) all (All-cons P entry [] is (All-nil P))
 
 opened_more : (entries : List Entry) (entry : Entry) → opened (bodies_of entries) ++ 1 ∷ counted (body_of entry) ≡ opened (bodies_of (entries ++ entry ∷ []))
 opened_more [] entry = sym (append-nil (1 ∷ counted (body_of entry)))
 opened_more (x ∷ entries) entry = append_assoc (1 ∷ counted (body_of x)) (opened (bodies_of entries)) (1 ∷ counted (body_of entry)) ∙ ap (λ (l : List ℕ). (1 ∷ counted (body_of x)) ++ l) (opened_more entries entry)
 
-pub spelled_next : (header : List ℕ) (entries : List Entry) (at : ℕ) (entry : Entry) (old new : List ℕ) → slice_get entries at ≡ Some entry → old ≡ front_of header (bodies_of (take at entries)) → new ≡ old ++ 1 ∷ counted (body_of entry)
-    → new ≡ front_of header (bodies_of (take (at + 1) entries))
-spelled_next header entries at entry old new here is more =
-    more ∙ (ap (λ (l : List ℕ). l ++ 1 ∷ counted (body_of entry)) is ∙ (append_assoc header (opened (bodies_of (take at entries))) (1 ∷ counted (body_of entry))
-    ∙ (ap (λ (l : List ℕ). header ++ l) (opened_more (take at entries) entry) ∙ ap (λ (some : List Entry). front_of header (bodies_of some)) (sym (take_next entries at entry here)))))
+pub spelled_more : (header : List ℕ) (entries : List Entry) (entry : Entry) (old new : List ℕ) → old ≡ front_of header (bodies_of entries) → new ≡ old ++ 1 ∷ counted (body_of entry) → new ≡ front_of header (bodies_of (entries ++ entry ∷ []))
+spelled_more header entries entry old new is more =
+    more ∙ (ap (λ (l : List ℕ). l ++ 1 ∷ counted (body_of entry)) is ∙ (append_assoc header (opened (bodies_of entries)) (1 ∷ counted (body_of entry))
+    ∙ ap (λ (l : List ℕ). header ++ l) (opened_more entries entry)))

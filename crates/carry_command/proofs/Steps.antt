@@ -1,10 +1,10 @@
 -- What is carried of the first entries of a history, and of one more.
-use Rattle.std.proofs.Common.{◌≡◌, ◌⊎◌, ◌∙◌, ℕ, ◌+◌, ◌<◌, List, [], ◌∷◌, ◌++◌, length, take, drop, get_or, Some, slice_get, All, AllPairs, Any, Contains, inl, inr, sym, ap, subst, arith}
+use Rattle.std.proofs.Common.{◌≡◌, ◌⊎◌, ◌∙◌, ℕ, ◌+◌, ◌<◌, List, [], ◌∷◌, ◌++◌, length, take, drop, get_or, Some, slice_get, All, AllPairs, Any, Contains, inl, inr, refl, sym, ap, subst, arith}
 use Rattle.std.proofs.lemmas.Bool.{cases_eq}
 use Rattle.std.proofs.lemmas.List.{drop-append-le, drop_all, get_or_append_left, length-append, take-append-le, take_all}
 use Rattle.std.proofs.lemmas.List.Elements.{All-append, All-contains, All-cons, All-nil, Contains-append_left, Contains-append_right}
 use Rattle.std.proofs.lemmas.List.Quantifiers.{Any-push}
-use Rattle.std.proofs.lemmas.Option.{slice_get-get_or}
+use Rattle.std.proofs.lemmas.Option.{slice_get-get_or, slice_get_within}
 use Rattle.grant_log.specs.declared.verdicts.Verdict.{Verdict}
 use Rattle.grant_log.specs.declared.verdicts.Verdict.TheVariants.{Kept, Gone, Other, BreaksRequest, Taken, Unknown, NotYours, AlreadyFreed, Fresh}
 use Rattle.grant_log.specs.Legal.{IsLegal}
@@ -46,6 +46,22 @@ reason_kept kept at (NotYours owner) reason is = is
 reason_kept kept at (AlreadyFreed freer) reason is = is
 reason_kept kept at Fresh reason is = is
 
+-- nothing of no entries
+pub carried_none : (timetable : Timetable) (old : List Entry) → IsCarriedTo timetable old 0 [] [] []
+carried_none timetable old = record {
+  legal = λ at entry here. absurd (none_there at entry here);
+  are_kept = record { count = refl; each = λ place entry here. absurd (none_there place entry here) };
+  order = λ i j other less within. absurd (omega arith);
+  below = All-nil (λ at. at < 0);
+  left_out = All-nil (IsLeftOut timetable old [] []);
+  left_order = λ i j other less within. absurd (omega arith);
+  left_below = All-nil (λ (one : LeftOut). one.at < 0);
+  whole = λ at entry less is. absurd (omega arith);
+}
+  where
+    none_there : (at : ℕ) (entry : Entry) → slice_get [] at ≡ Some entry → ⊥
+    none_there at entry here = let within = slice_get_within [] at entry here in absurd (omega arith)
+
 module _ (timetable : Timetable) (old : List Entry) where
   module _ (front : ℕ) (entries : List Entry) (kept : List ℕ) (left : List LeftOut) (carried : IsCarriedTo timetable old front entries kept left) where
     below_more : All (λ at. at < front + 1) kept
@@ -60,6 +76,22 @@ module _ (timetable : Timetable) (old : List Entry) where
       | inl same ↦ inr same
       | inr other ↦ inl (omega (arith, less, other))
     ]
+
+    -- the next entry is not live
+    pub carried_past : ((entry : Entry) → IsLiveAt old front entry → ⊥) → IsCarriedTo timetable old (front + 1) entries kept left
+    carried_past dead = record {
+      legal = carried.legal;
+      are_kept = carried.are_kept;
+      order = carried.order;
+      below = below_more;
+      left_out = carried.left_out;
+      left_order = carried.left_order;
+      left_below = left_below_more;
+      whole = λ at other less is. elim (before_or at less) [
+        | inl before ↦ carried.whole at other before is
+        | inr same ↦ absurd (dead other (subst (λ n. IsLiveAt old n other) same is))
+      ];
+    }
 
     -- the next entry is left out
     pub carried_left : (entry : Entry) (one : LeftOut) → one.at ≡ front → IsLiveAt old front entry → IsReason kept (verdict_on timetable entries entry) one.reason

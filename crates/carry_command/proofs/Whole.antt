@@ -1,30 +1,29 @@
--- The bytes of a journal as a whole.
-use Rattle.std.proofs.Common.{◌≡◌, Bool, ℕ, zero, suc, ◌<◌, ◌^◌, Some, List, [], ◌∷◌, ◌++◌, map, length, All, Contains, ap, ◌∙◌, subst, arith}
+-- The bytes of a journal as a whole, and what is told of them.
+use Rattle.std.proofs.Common.{◌≡◌, Bool, ℕ, ◌<◌, ◌^◌, Some, List, [], ◌∷◌, ◌++◌, length, All, Contains, Result, Ok, Err, inl, inr, ap, ◌∙◌, subst, arith}
 use Rattle.std.proofs.lemmas.List.Elements.{All-contains, All-map}
 use Rattle.std.proofs.lemmas.Option.{slice_get-get_or}
 use Rattle.entry_codec.specs.Body.{body_of}
 use Rattle.entry_codec.specs.Within.{HasBody}
-use Rattle.grant_log.proofs.Elements.{all_by, contains_tail, no_element}
+use Rattle.grant_log.proofs.Elements.{all_by}
 use Rattle.grant_log.specs.Legal.{IsLegal, Register}
 use Rattle.grant_log.proofs.Slices.{is_contained}
 use Rattle.path_recover.specs.Files.{TellsHistory}
 use Rattle.grant_journal.specs.Headers.{header_of}
 use Rattle.grant_journal.specs.Histories.{bodies_of, front_of}
 use Rattle.rail_types.specs.declared.entries.Entry.{Entry}
-use Rattle.rail_types.specs.declared.tracks.Network.{Network}
-use Rattle.rail_types.specs.Timetables.{Timetable, timetable_of}
+use Rattle.rail_types.specs.Timetables.{Timetable}
 use Rattle.command_files.specs.declared.bases.BaseFile.{BaseFile}
 use Rattle.command_files.specs.declared.networks.NetworkFile.{NetworkFile}
+use Rattle.command_reports.specs.declared.refusals.Refusal.{Refusal}
 use Rattle.init_command.specs.Moves.{timetable_on}
-use Rattle.carry_command.specs.Carried.{AreKept, IsCarriedOf}
-use Rattle.carry_command.specs.Inside.{IsOver}
-use Rattle.carry_command.specs.Prepared.{IsPrepared}
-use Rattle.carry_command.specs.declared.preparing.Over.{Over}
-
-pub contains_map : {X Y : Type 0} (f : X → Y) (xs : List X) (x : X) → Contains xs x → Contains (map f xs) (f x)
-contains_map f [] x contains = absurd (no_element x contains)
-contains_map f (y ∷ ys) x (zero, within, here) = (zero, omega arith, ap f here)
-contains_map f (y ∷ ys) x (suc k, within, here) = contains_tail (f y) (f x) (map f ys) (contains_map f ys x (k, omega arith, here))
+use Rattle.carry_command.specs.Carried.{AreKept, entries_at, IsCarriedOf}
+use Rattle.carry_command.specs.Inside.{TellsAll, TellsFirst, TellsOf}
+use Rattle.carry_command.specs.Lines.{carried_line}
+use Rattle.carry_command.specs.Prepared.{IsPrepared, Prepares, TellsLeft}
+use Rattle.carry_command.specs.Unfinished.{IsMarked}
+use Rattle.carry_command.specs.declared.carried_history.carrying.Carried.{Carried}
+use Rattle.carry_command.specs.declared.preparing.Prepared.{Prepared}
+use Rattle.carry_command.proofs.Spelled.{contains_map}
 
 -- the bodies of what was carried are among those of what it was carried from
 pub short_kept : (old entries : List Entry) (kept : List ℕ) → AreKept old entries kept → All (λ body. length body < 2 ^ 32) (bodies_of old) → All (λ body. length body < 2 ^ 32) (bodies_of entries)
@@ -46,21 +45,44 @@ tells_whole timetable network base file entries legal has short is = record {
   reads = record { gate = 0; rest = []; split = is; closed = λ e. absurd (omega (arith, e)) };
 }
 
--- what is carried, spelled, is what is prepared
-pub over_prepared : (network : NetworkFile) (base : BaseFile) (net : Network) (old : Register) (may_leave : Bool) (over : Over) (file : List ℕ) → net ≡ network.named.network
-    → IsOver (timetable_of net base.base) old may_leave over → file ≡ front_of (header_of network.digest base.digest) (bodies_of over.history.entries) ++ 0 ∷ [] → All HasBody over.history.entries → IsLegal over.history.timetable over.history.entries
-    → All (λ body. length body < 2 ^ 32) (bodies_of old.entries) → IsPrepared network base old may_leave (record { file = file; lines = over.lines; told = over.told })
-over_prepared network base net old may_leave over file same is spelled has legal short =
-    let timetable : over.history.timetable ≡ timetable_on network base = is.timetable_is ∙ ap (λ (n : Network). timetable_of n base.base) same in
-    let carried : IsCarriedOf (timetable_on network base) old.entries over.history.entries is.kept is.left = subst (λ (n : Network). IsCarriedOf (timetable_of n base.base) old.entries over.history.entries is.kept is.left) same is.carried in
+-- what was carried and told is what is prepared
+pub told_prepared : (network : NetworkFile) (base : BaseFile) (old : Register) (may_leave : Bool) (carried : Carried) (prepared : Prepared) → IsCarriedOf (timetable_on network base) old.entries (entries_at old.entries carried.kept.items) carried.kept.items carried.left.items
+    → carried.file ≡ front_of (header_of network.digest base.digest) (bodies_of (entries_at old.entries carried.kept.items)) ++ 0 ∷ [] → All HasBody (entries_at old.entries carried.kept.items) → All (λ body. length body < 2 ^ 32) (bodies_of old.entries)
+    → TellsAll old.entries may_leave carried prepared → IsPrepared network base old may_leave prepared
+told_prepared network base old may_leave carried prepared is spelled has short tells =
+    let entries = entries_at old.entries carried.kept.items in
     record {
-      entries = over.history.entries;
-      kept = is.kept;
-      left = is.left;
-      carried = carried;
-      tells = tells_whole (timetable_on network base) network.digest base.digest file over.history.entries (subst (λ (t : Timetable). IsLegal t over.history.entries) timetable legal) has (short_kept old.entries over.history.entries is.kept carried.are_kept short) spelled;
-      exact = spelled;
-      lines = is.lines;
-      told = is.told;
-      all = is.all;
+      entries = entries;
+      kept = carried.kept.items;
+      left = carried.left.items;
+      carried = is;
+      tells = tells_whole (timetable_on network base) network.digest base.digest prepared.file entries is.legal has (short_kept old.entries entries carried.kept.items is.are_kept short) (tells.file ∙ spelled);
+      exact = tells.file ∙ spelled;
+      lines = tells.lines;
+      told = tells.told ∙ ap (λ (count : ℕ). carried_line count (length carried.left.items)) is.are_kept.count;
+      all = tells.all;
     }
+
+-- the first that was left out is told
+pub told_first : (timetable : Timetable) (old : Register) (carried : Carried) (refusal : Refusal) → IsCarriedOf timetable old.entries (entries_at old.entries carried.kept.items) carried.kept.items carried.left.items → TellsFirst old.entries carried refusal → TellsLeft timetable old refusal
+told_first timetable old carried refusal is tells = record {
+  first = tells.first;
+  is_first = record {
+    entries = entries_at old.entries carried.kept.items;
+    kept = carried.kept.items;
+    others = tells.others;
+    carried = subst (IsCarriedOf timetable old.entries (entries_at old.entries carried.kept.items) carried.kept.items) tells.left is;
+  };
+  told = tells.told;
+}
+
+pub told_prepares : (network : NetworkFile) (base : BaseFile) (old : Register) (may_leave : Bool) (carried : Carried) (result : Result Prepared Refusal) → IsCarriedOf (timetable_on network base) old.entries (entries_at old.entries carried.kept.items) carried.kept.items carried.left.items
+    → carried.file ≡ front_of (header_of network.digest base.digest) (bodies_of (entries_at old.entries carried.kept.items)) ++ 0 ∷ [] → All HasBody (entries_at old.entries carried.kept.items) → All (λ body. length body < 2 ^ 32) (bodies_of old.entries)
+    → TellsOf old.entries may_leave carried result → Prepares network base old may_leave result
+told_prepares network base old may_leave carried (Ok prepared) is spelled has short tells = told_prepared network base old may_leave carried prepared is spelled has short tells
+told_prepares network base old may_leave carried (Err refusal) is spelled has short (inl tells) = inl (tells.0, told_first (timetable_on network base) old carried refusal is tells.1)
+told_prepares network base old may_leave carried (Err refusal) is spelled has short (inr memory) = inr memory
+
+-- a journal begins with a letter, and has more than one byte
+pub told_marked : (network base : List ℕ) (old : List Entry) (may_leave : Bool) (carried : Carried) (prepared : Prepared) → carried.file ≡ front_of (header_of network base) (bodies_of (entries_at old carried.kept.items)) ++ 0 ∷ [] → TellsAll old may_leave carried prepared → IsMarked prepared.file
+told_marked network base old may_leave carried prepared spelled tells = record { first = _; rest = _; split = tells.file ∙ spelled; mark = λ e. absurd (omega (arith, e)); more = λ e. cc }

@@ -1,6 +1,6 @@
 -- What is carried of a history into another timetable, and what is left out.
 use Rattle.std.specs.Prelude.{◌≡◌, ◌⊎◌, ℕ, ◌<◌, ◌≤◌, true, List, length, take, drop, None, Some}
-use Rattle.std.specs.Prelude.{slice_get, All, AllPairs, Any, Contains}
+use Rattle.std.specs.Prelude.{slice_get, All, AllPairs, Any, Contains, [], ◌∷◌, Option, flat_map}
 use Rattle.grant_log.specs.declared.verdicts.Verdict.{Verdict}
 use Rattle.grant_log.specs.declared.verdicts.Verdict.TheVariants.{BreaksRequest, Taken}
 use Rattle.grant_log.specs.Legal.{IsLegal}
@@ -29,6 +29,15 @@ IsReason kept (Taken claim (of_train train)) reason = reason ≡ ByBase claim.zo
 IsReason kept (Taken claim (of_entry place)) reason =
     (was : ℕ) × (slice_get kept place ≡ Some was) × (reason ≡ ByEntry claim.zone was)
 IsReason kept verdict reason = ⊥
+
+-- what stands there, in a list of its own
+abbrev pub alone : Option Entry → List Entry
+alone None = []
+alone (Some entry) = entry ∷ []
+
+-- the entries that stand at these positions
+abbrev pub entries_at : List Entry → List ℕ → List Entry
+entries_at old kept = flat_map (λ at. alone (slice_get old at)) kept
 
 -- each of these entries is the live one that stood at its old position
 pub record AreKept (old entries : List Entry) (kept : List ℕ) : Type 0 where

@@ -1,27 +1,33 @@
--- Inside: what is carried, before it is spelled.
-use Rattle.std.specs.Prelude.{◌≡◌, ◌⊎◌, ℕ, List, [], Bool, false, length, Result, Ok, Err}
-use Rattle.grant_log.specs.Legal.{Register}
-use Rattle.rail_types.specs.Timetables.{Timetable}
+-- Inside: what is told of what was carried.
+use Rattle.std.specs.Prelude.{◌≡◌, ◌⊎◌, List, [], ◌∷◌, Bool, false, length, Result, Ok, Err}
+use Rattle.rail_types.specs.declared.entries.Entry.{Entry}
+use Rattle.command_reports.specs.Refusals.{IsTold}
+use Rattle.command_reports.specs.declared.exit_status.Status.TheVariants.{No}
 use Rattle.command_reports.specs.declared.refusals.Refusal.{Refusal}
 use Rattle.command_reports.specs.declared.refusals.Refusal.TheVariants.{Memory}
-use Rattle.carry_command.specs.Carried.{IsCarriedOf}
+use Rattle.carry_command.specs.declared.carried_history.carrying.Carried.{Carried}
 use Rattle.carry_command.specs.declared.carried_history.reasons.LeftOut.{LeftOut}
-use Rattle.carry_command.specs.Lines.{carried_line, left_lines}
-use Rattle.carry_command.specs.Prepared.{TellsLeft}
-use Rattle.carry_command.specs.declared.preparing.Over.{Over}
+use Rattle.carry_command.specs.declared.preparing.Prepared.{Prepared}
+use Rattle.carry_command.specs.Lines.{carried_line, left_line, left_lines}
 
--- a history that was carried, the lines of what was left out, and the line of the report
-pub record IsOver (timetable : Timetable) (old : Register) (may_leave : Bool) (over : Over)
+-- the journal, the lines of what was left out, and the line of the report
+pub record TellsAll (old : List Entry) (may_leave : Bool) (carried : Carried) (prepared : Prepared)
     : Type 0 where
-  pub kept : List ℕ
-  pub left : List LeftOut
-  pub timetable_is : over.history.timetable ≡ timetable
-  pub carried : IsCarriedOf timetable old.entries over.history.entries kept left
-  pub lines : over.lines ≡ left_lines old.entries left
-  pub told : over.told ≡ carried_line (length over.history.entries) (length left)
-  pub all : may_leave ≡ false → left ≡ []
+  pub file : prepared.file ≡ carried.file
+  pub lines : prepared.lines ≡ left_lines old carried.left.items
+  pub told : prepared.told ≡ carried_line (length carried.kept.items) (length carried.left.items)
+  pub all : may_leave ≡ false → carried.left.items ≡ []
 
-abbrev pub FindsOver : Timetable → Register → Bool → Result Over Refusal → Type 0
-FindsOver timetable old may_leave (Ok over) = IsOver timetable old may_leave over
-FindsOver timetable old may_leave (Err refusal) =
-    ((may_leave ≡ false) × TellsLeft timetable old refusal) ⊎ (refusal ≡ Memory)
+-- the line of the first that was left out
+pub record TellsFirst (old : List Entry) (carried : Carried) (refusal : Refusal) : Type 0 where
+  pub first : LeftOut
+  pub others : List LeftOut
+  pub left : carried.left.items ≡ first ∷ others
+  pub told : IsTold No (left_line old first) refusal
+
+-- all that is written of what was carried, or the first that was left out where none may be; or
+-- memory was wanted
+abbrev pub TellsOf : List Entry → Bool → Carried → Result Prepared Refusal → Type 0
+TellsOf old may_leave carried (Ok prepared) = TellsAll old may_leave carried prepared
+TellsOf old may_leave carried (Err refusal) =
+    ((may_leave ≡ false) × TellsFirst old carried refusal) ⊎ (refusal ≡ Memory)

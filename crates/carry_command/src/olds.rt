@@ -25,6 +25,13 @@ use std::alloc::Global;
 // The version of a journal that is carried.
 const VERSION: u32 = 2;
 
+// The history of a journal, and how many bytes tell it.
+#[derive(Drop)]
+struct Told {
+    history: History,
+    bytes: u64,
+}
+
 /// Opens the disk of the old journal, reads its history by the network and the base timetable of
 /// before, writes what is carried of it, and puts the disk back behind that. The disk is only read.
 /// A name that could not be opened refuses, as `open: NAME`; a disk that fails, as `disk: NAME`;
@@ -67,7 +74,7 @@ fn carry_lent<O: Outside>(
         (scene O.Outside outside.old) (scene O.Outside outside.new) result }
 {
     match history_on(alloc, network, before, disk) {
-        Ok(history) => carry_history(alloc, names, network, base, history, outside),
+        Ok(told) => carry_history(alloc, names, network, base, told, outside),
         Err(fault) => Err(from_refusal(alloc, names.from(), fault)),
     }
 }
@@ -78,33 +85,34 @@ fn carry_history<O: Outside>(
     names: &CarryNames<'_>,
     network: &NetworkFile,
     base: BaseFile,
-    history: History,
+    told: Told,
     outside: &mut O,
 ) -> Result<List<u8>, Refusal>
     requires timetable { IsTimetable (timetable_on network.now base) }
-    requires net { history.timetable.net ≡ network.now.named.network }
-    requires short { All (λ body. length body < 2 ^ 32) (bodies_of history.entries) }
-    ensures works { CarriesOver O.Snk.Sink O.Dsk.Disk names.now network.now base history
+    requires net { told.history.timetable.net ≡ network.now.named.network }
+    requires short { All (λ body. length body < 2 ^ 32) (bodies_of told.history.entries) }
+    ensures works { CarriesOver O.Snk.Sink O.Dsk.Disk names.now network.now base told.history
         (scene O.Outside outside.old) (scene O.Outside outside.new) result }
 {
-    let prepared = prepare(alloc, network, base, history, names.left().is_some())?;
+    let may_leave = names.left().is_some();
+    let prepared = prepare(alloc, network, base, told.history, told.bytes, may_leave)?;
     write_prepared(alloc, names, prepared, outside)
 }
 
-// The history of the journal on a disk.
+// The history of the journal on a disk. Neither the claims nor the bytes of the journal are kept.
 fn history_on<D: Disk>(
     alloc: Global,
     network: &NetworkFile,
     base: BaseFile,
     disk: &mut D,
-) -> Result<History, OpenFault>
+) -> Result<Told, OpenFault>
     requires timetable { IsTimetable (timetable_on network.now base) }
-    ensures timetable { IfOk result (λ history.
-        history.timetable ≡ timetable_on network.now base) }
-    ensures history { IfOk result (λ history.
-        IsHistoryOn D.Disk network.now base history.entries disk.old disk.new) }
-    ensures short { IfOk result (λ history.
-        All (λ body. length body < 2 ^ 32) (bodies_of history.entries)) }
+    ensures timetable { IfOk result (λ told.
+        told.history.timetable ≡ timetable_on network.now base) }
+    ensures history { IfOk result (λ told.
+        IsHistoryOn D.Disk network.now base told.history.entries disk.old disk.new) }
+    ensures short { IfOk result (λ told.
+        All (λ body. length body < 2 ^ 32) (bodies_of told.history.entries)) }
     ensures refused { IfErr result (λ fault.
         IsRefusedOn D.Disk network.now base fault disk.old disk.new) }
 {
@@ -114,7 +122,10 @@ fn history_on<D: Disk>(
     };
     let empty = History::new(alloc, net, base.base);
     match read_journal(alloc, disk, empty, VERSION, &network.digest, &base.digest) {
-        Ok(found) => Ok(found.history),
+        Ok(found) => Ok(Told {
+            history: found.history,
+            bytes: found.gate + 1,
+        }),
         Err(fault) => Err(fault),
     }
 }

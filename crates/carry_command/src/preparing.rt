@@ -3,20 +3,18 @@
 ghost use Rattle.std.specs.Prelude.{◌≡◌, ◌<◌, ◌^◌, All, IfOk, length};
 ghost use Rattle.init_command.specs.Moves.{timetable_on};
 ghost use Rattle.grant_journal.specs.Histories.{bodies_of};
-ghost use Rattle.rail_types.specs.Timetables.{IsTimetable, timetable_of};
-ghost use Rattle.carry_command.specs.Carried.{IsCarriedOf};
+ghost use Rattle.rail_types.specs.Timetables.{IsTimetable};
 ghost use Rattle.carry_command.specs.Unfinished.{IsMarked};
-ghost use Rattle.carry_command.specs.Inside.{FindsOver};
+ghost use Rattle.carry_command.specs.Inside.{TellsOf};
 ghost use Rattle.carry_command.specs.Prepared.{Prepares};
 
 use crate::carried_history::{Carried, carry};
 use crate::lines::{left_refusal, lines_of, told_of};
-use crate::spelling::spelled;
 use command_files::{BaseFile, NetworkFile};
 use command_reports::Refusal;
 use grant_log::History;
 use no_memory::NoMemory;
-use rail_types::{Base, List, Network};
+use rail_types::List;
 use std::alloc::Global;
 
 /// The new journal's bytes, the lines of the entries that are left out, and the line of the report.
@@ -27,20 +25,15 @@ pub struct Prepared {
     pub told: List<u8>,
 }
 
-// What is carried, as a history, with the lines of the entries that are left out and the line of
-// the report.
-#[derive(Drop)]
-pub(crate) struct Over {
-    pub history: History,
-    pub lines: List<u8>,
-    pub told: List<u8>,
-}
-
-// What a history comes to that was carried, where entries may be left out or not.
-fn over_of(alloc: Global, old: &History, carried: Carried, may_leave: bool) -> Result<Over, Refusal>
-    requires carried { IsCarriedOf carried.history.timetable old.now.entries
-        carried.history.entries carried.kept.items carried.left.items }
-    ensures { FindsOver carried.history.timetable old.now may_leave result }
+// What is written of what was carried of a history, where entries may be left out or not.
+fn told_by(
+    alloc: Global,
+    old: &History,
+    carried: Carried,
+    may_leave: bool,
+) -> Result<Prepared, Refusal>
+    requires within { All (λ one. one.at < length old.now.entries) carried.left.items }
+    ensures { TellsOf old.now.entries may_leave carried result }
 {
     let left = carried.left.as_slice();
     if !may_leave {
@@ -51,43 +44,25 @@ fn over_of(alloc: Global, old: &History, carried: Carried, may_leave: bool) -> R
     let Ok(lines) = lines_of(alloc, old, left) else {
         return Err(Refusal::Memory);
     };
-    let Ok(told) = told_of(alloc, carried.history.front(), left.len() as u64) else {
+    let Ok(told) = told_of(alloc, carried.kept.len() as u64, left.len() as u64) else {
         return Err(Refusal::Memory);
     };
-    Ok(Over {
-        history: carried.history,
+    Ok(Prepared {
+        file: carried.file,
         lines,
         told,
     })
 }
 
-// Carries a history into another timetable of its network.
-fn carry_over(
-    alloc: Global,
-    net: Network,
-    base: Base,
-    old: History,
-    may_leave: bool,
-) -> Result<Over, Refusal>
-    requires timetable { IsTimetable (timetable_of net base) }
-    requires net { old.timetable.net ≡ net }
-    ensures { FindsOver (timetable_of net base) old may_leave result }
-{
-    let empty = History::new(alloc, net, base);
-    match carry(alloc, &old, empty) {
-        Ok(carried) => over_of(alloc, &old, carried, may_leave),
-        Err(NoMemory) => Err(Refusal::Memory),
-    }
-}
-
-/// Carries an old history into the timetable of these files, and spells all that is written. Where
-/// no entry may be left out, the first that would be refuses, as `entry I owner NAME number N
+/// Carries an old history, which so many bytes tell, into the timetable of these files, and spells
+/// all that is written. Where no entry may be left out, the first that would be refuses, as `entry I owner NAME number N
 /// REASON`.
 pub(crate) fn prepare(
     alloc: Global,
     network: &NetworkFile,
     base: BaseFile,
     old: History,
+    bytes: u64,
     may_leave: bool,
 ) -> Result<Prepared, Refusal>
     requires timetable { IsTimetable (timetable_on network.now base) }
@@ -100,13 +75,9 @@ pub(crate) fn prepare(
         return Err(Refusal::Memory);
     };
     let BaseFile { base, digest } = base;
-    let over = carry_over(alloc, net, base, old, may_leave)?;
-    match spelled(alloc, &network.digest, &digest, &over.history) {
-        Ok(file) => Ok(Prepared {
-            file,
-            lines: over.lines,
-            told: over.told,
-        }),
+    let empty = History::new(alloc, net, base);
+    match carry(alloc, &old, bytes, &empty, &network.digest, &digest) {
+        Ok(carried) => told_by(alloc, &old, carried, may_leave),
         Err(NoMemory) => Err(Refusal::Memory),
     }
 }

@@ -1,47 +1,73 @@
 //! A history carried into another timetable.
 
-ghost use Rattle.std.specs.Prelude.{◌≡◌, [], IfOk};
-ghost use Rattle.carry_command.specs.Carried.{IsCarriedOf};
+ghost use Rattle.std.specs.Prelude.{◌≡◌, ◌<◌, ◌^◌, ◌∷◌, ◌++◌, [], All, IfOk, length};
+ghost use Rattle.entry_codec.specs.Within.{HasBody};
+ghost use Rattle.grant_journal.specs.Headers.{header_of};
+ghost use Rattle.grant_journal.specs.Histories.{bodies_of, front_of};
+ghost use Rattle.carry_command.specs.Carried.{entries_at, IsCarriedOf};
 
 use crate::carried_history::joining::{Carrying, carry_at};
 use crate::carried_history::reasons::LeftOut;
+use byte_fields::{Buffer, put_u8};
+use grant_journal::journal_text::header;
 use grant_log::History;
 use grant_log::copy_since::copy_of;
 use no_memory::NoMemory;
+use rail_types::List;
 use std::alloc::Global;
 
-/// What was carried: the entries as a history, the positions that they had, and the entries that
-/// were left out, each of both in the order in which they stood.
+/// What was carried: the bytes of a journal with its entries, the positions that they had, and the
+/// entries that were left out, each of both in the order in which they stood.
 #[derive(Drop)]
 pub struct Carried {
-    pub history: History,
+    pub file: List<u8>,
     pub kept: Vec<u64>,
     pub left: Vec<LeftOut>,
 }
 
-/// Carries the live holds and grants of a history behind an empty one of the same network, in their
-/// order. Each is judged by the timetable of the empty one and by those carried before it, and left
-/// out where it is not fresh by them. The claims of each are worked out once, so that its work is
-/// that of judging each live entry once.
-pub fn carry(alloc: Global, old: &History, empty: History) -> Result<Carried, NoMemory>
-    requires empty { empty.entries ≡ [] }
-    requires net { empty.timetable.net ≡ old.now.timetable.net }
-    ensures timetable { IfOk result (λ carried. carried.history.timetable ≡ empty.timetable) }
-    ensures carried { IfOk result (λ carried. IsCarriedOf empty.timetable old.now.entries
-        carried.history.entries carried.kept.items carried.left.items) }
+/// Carries the live holds and grants of a history, which a journal of so many bytes tells, into the
+/// timetable of an empty one of the same network, in their order, and spells them as a journal for
+/// files with these digests. Each is judged by that timetable and by those carried before it, and
+/// left out where it is not fresh by them. No entry is copied, and the claims of each are looked up
+/// and held once. So the work is that of judging and spelling each live entry once; and what is
+/// held beside the history is their claims, their old positions and their bytes.
+pub fn carry(
+    alloc: Global,
+    old: &History,
+    bytes: u64,
+    empty: &History,
+    network: &[u8; 32],
+    base: &[u8; 32],
+) -> Result<Carried, NoMemory>
+    requires empty { empty.now.entries ≡ [] }
+    requires net { empty.now.timetable.net ≡ old.now.timetable.net }
+    requires short { All (λ body. length body < 2 ^ 32) (bodies_of old.now.entries) }
+    ensures carried { IfOk result (λ carried. IsCarriedOf empty.now.timetable old.now.entries
+        (entries_at old.now.entries carried.kept.items) carried.kept.items carried.left.items) }
+    ensures spelled { IfOk result (λ carried. carried.file
+        ≡ front_of (header_of network.now base.now)
+        (bodies_of (entries_at old.now.entries carried.kept.items)) ++ 0 ∷ []) }
+    ensures has { IfOk result (λ carried.
+        All HasBody (entries_at old.now.entries carried.kept.items)) }
 {
-    let book = copy_of(alloc, &empty)?;
+    // Room made first is never moved, and what is moved leaves holes as large as it was.
+    let mut file = Buffer::new(alloc);
+    file.reserve(bytes as usize)?;
+    file.extend(&header(network, base))?;
+    let mut kept = Vec::new(alloc);
+    kept.reserve(old.front() as usize)?;
     let mut carrying = Carrying {
-        history: empty,
-        book,
-        kept: Vec::new(alloc),
+        book: copy_of(alloc, empty)?,
+        file,
+        kept,
         left: Vec::new(alloc),
     };
     for at in 0..old.front() {
-        carry_at(alloc, old, at, &mut carrying)?;
+        carry_at(old, empty, at, &mut carrying)?;
     }
+    put_u8(&mut carrying.file, 0)?;
     Ok(Carried {
-        history: carrying.history,
+        file: List::from_vec(carrying.file.into_vec()),
         kept: carrying.kept,
         left: carrying.left,
     })

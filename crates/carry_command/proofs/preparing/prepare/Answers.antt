@@ -1,10 +1,16 @@
-use Rattle.carry_command.proofs.Whole.{over_prepared, short_kept}
+use Rattle.std.proofs.Common.{◌≡◌, ◌∙◌, sym, ap, subst}
+use Rattle.rail_types.specs.declared.tracks.Network.{Network}
+use Rattle.rail_types.specs.Timetables.{Timetable, timetable_of}
+use Rattle.init_command.specs.Moves.{timetable_on}
+use Rattle.carry_command.specs.Carried.{entries_at, IsCarriedOf}
+use Rattle.carry_command.proofs.Whole.{told_prepares}
 use Rattle.carry_command.proofs.preparing.prepare.Goals as goal
 
-pub spelled-requires : goal.spelled-requires
-spelled-requires c = record { short = short_kept c.args.old.entries c.in_ok-over.over.history.entries c.in_ok-over.ensures.kept c.in_ok-over.ensures.carried.are_kept c.requires.short }
-
-pub returns-in-Ok-spelled-clause-prepares : goal.returns-in-Ok-spelled-clause-prepares
-returns-in-Ok-spelled-clause-prepares c =
-    let e = c.in-Ok-spelled.ensures in
-    over_prepared c.args.network.now c.args.base c.in-Ok.net c.args.old c.args.may_leave c.in_ok-over.over c.in-Ok-spelled.file c.in-Ok.ensures c.in_ok-over.ensures e.spelled e.has e.legal c.requires.short
+pub returns-in-Ok-carry-clause-prepares : goal.returns-in-Ok-carry-clause-prepares
+returns-in-Ok-carry-clause-prepares c =
+    let e = c.in-Ok-carry.ensures in
+    let carried = c.in-Ok-carry.carried in
+    let old = c.args.old in
+    let same : c.new-empty.result.timetable ≡ timetable_on c.args.network.now c.args.base = c.new-empty.ensures.timetable ∙ ap (λ (n : Network). timetable_of n c.args.base.base) c.in-Ok.ensures in
+    told_prepares c.args.network.now c.args.base old c.args.may_leave carried c.told_by.result
+    (subst (λ (t : Timetable). IsCarriedOf t old.entries (entries_at old.entries carried.kept.items) carried.kept.items carried.left.items) same e.carried) e.spelled e.has c.requires.short c.told_by.ensures

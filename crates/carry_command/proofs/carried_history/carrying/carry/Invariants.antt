@@ -1,10 +1,9 @@
-use Rattle.std.proofs.Common.{◌≡◌}
-use Rattle.carry_command.specs.CarriedInside.{HasCarried, IsUp}
+use Rattle.grant_journal.specs.Headers.{header_of}
+use Rattle.carry_command.specs.CarriedInside.{HasCarried, IsSpelled}
 use Rattle.carry_command.proofs.carried_history.carrying.carry.Given as goal
 
 abbrev pub invariant-loop-at : goal.invariant-loop-at
 invariant-loop-at l = record {
-  timetable : l.carrying.history.timetable ≡ l.fn.empty.timetable;
-  up : IsUp l.carrying;
-  carried : HasCarried l.old.entries l.at l.carrying;
+  carried : HasCarried l.empty.timetable l.old.entries l.at l.carrying;
+  spelled : IsSpelled (header_of l.network l.base) l.old.entries l.carrying;
 }

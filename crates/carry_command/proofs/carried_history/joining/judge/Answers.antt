@@ -1,13 +1,32 @@
-use Rattle.std.proofs.Common.{length, sym, subst, ap, ◌∙◌}
-use Rattle.grant_log.specs.Meanings.{Says}
-use Rattle.carry_command.proofs.Judging.{told_new}
+use Rattle.std.proofs.Common.{◌<◌, All, sym, ap, subst, ◌∙◌}
+use Rattle.rail_types.specs.declared.paths.Claim.{Claim}
+use Rattle.rail_types.specs.Occupation.{AreJoined}
+use Rattle.occupation_book.specs.Held.{held}
+use Rattle.grant_log.specs.Live.{live_claims}
+use Rattle.grant_log.specs.Verdict.{taken_or_fresh}
+use Rattle.carry_command.specs.CarriedInside.{carried_of}
+use Rattle.carry_command.proofs.Judging.{told_by_held}
 use Rattle.carry_command.proofs.carried_history.joining.judge.Goals as goal
 
-pub reason_of-requires : goal.reason_of-requires
-reason_of-requires c =
-    let t = c.args.carrying.now.history.timetable in
-    let entries = c.args.carrying.now.history.entries in
+pub first_taken-requires : goal.first_taken-requires
+first_taken-requires c =
+    let t = c.args.empty.now.timetable in
     let entry = c.args.entry.now in
-    let verdict = c.in_ok-verdict.verdict in
-    let says = subst (Says t entries entry) (sym c.in_ok-verdict.ensures) (c.verdicts_say_what_they_mean.ensures.says t entries entry) in
-    record { told = told_new t entries entry verdict (length c.deref-2.result.now) c.requires.takes_zones c.requires.new (ap length c.deref-2.ensures.value ∙ c.requires.count) (λ claim at. c.live_claims_are_unfreed.ensures.unfreed t entries claim at) says }
+    let next = c.requires.next in
+    let laws = c.claims_are_on_the_network.ensures in
+    record {
+      zones = subst (λ n. All (λ (claim : Claim). claim.zone < n) c.args.claims.now) (sym next.carried.zones) (subst (All (λ (claim : Claim). claim.zone < t.net.zones)) (sym c.requires.claims) (laws.zones t entry c.net.ensures.timetable next.in_range));
+      joined = subst AreJoined (sym c.requires.claims) (laws.joined t entry next.in_range);
+      apart = c.zones.ensures.apart;
+    }
+
+pub returns : goal.returns
+returns c =
+    let t = c.args.empty.now.timetable in
+    let entry = c.args.entry.now in
+    let next = c.requires.next in
+    let entries = carried_of c.args.old.now.entries c.args.carrying.now in
+    let book = held c.args.carrying.now.book in
+    let alike = c.first_clashes_are_first.ensures.alike book (live_claims t entries) c.args.claims.now c.zones.ensures.apart next.carried.live in
+    c.taken_or_fresh.ensures ∙ (ap taken_or_fresh c.first_taken.ensures
+    ∙ sym (told_by_held t entries entry book c.args.claims.now next.live.takes_zones next.new c.requires.keeps c.requires.claims alike))

@@ -1,22 +1,43 @@
-use Rattle.std.proofs.Common.{◌≡◌, ◌+◌, ℕ, List, [], ◌∷◌, ◌++◌, Vec, sym, ap, subst, ◌∙◌}
-use Rattle.std.specs.Global.{Global}
+use Rattle.std.proofs.Common.{◌≡◌, ℕ, length, All, AllPairs, List, [], ◌∷◌, ◌++◌, refl, sym, ap, subst, ◌∙◌}
 use Rattle.rail_types.specs.declared.entries.Entry.{Entry}
-use Rattle.rail_types.specs.Timetables.{Timetable}
-use Rattle.grant_log.specs.Legal.{IsLegal}
-use Rattle.carry_command.specs.Carried.{IsCarriedTo}
-use Rattle.carry_command.specs.declared.carried_history.reasons.LeftOut.{LeftOut}
-use Rattle.carry_command.proofs.Steps.{carried_one}
+use Rattle.rail_types.specs.declared.paths.Claim.{Claim}
+use Rattle.rail_types.specs.Occupation.{Clash, HeldClaim}
+use Rattle.occupation_book.specs.Held.{held, IsFree}
+use Rattle.grant_log.specs.Following.{Gains}
+use Rattle.grant_log.specs.Live.{claims_of, owned_by}
+use Rattle.grant_log.specs.Rooms.{MayBeHeld}
+use Rattle.grant_log.proofs.Changing.{follow_gained, fresh_keeps, gained_apart, gained_free, gained_may}
+use Rattle.carry_command.specs.CarriedInside.{carried_of}
+use Rattle.carry_command.proofs.Going.{goes_with}
 use Rattle.carry_command.proofs.carried_history.joining.keep.Goals as goal
 
-pub returns-clause-carried : goal.returns-clause-carried
-returns-clause-carried c =
-    let was = c.args.carrying.now in
-    let now = c.put_behind.new.carrying in
+pub hold_each-requires : goal.hold_each-requires
+hold_each-requires c =
+    let t = c.args.empty.now.timetable in
+    let next = c.requires.next in
+    let entries = carried_of c.args.old.now.entries c.args.carrying.now in
+    let entry = c.args.entry.now in
+    let place = c.len-place.result in
+    let book = c.args.carrying.now.book in
+    let laws = c.claims_are_on_the_network.ensures in
+    let planned = c.net.ensures.timetable in
+    let keeps = fresh_keeps t entries entry _ c.requires.joins.fresh (c.verdicts_say_what_they_mean.ensures.says t entries entry) in
+    let own = sym c.requires.claims in
+    record {
+      each = subst (λ (claims : List Claim). All (MayBeHeld (length book)) (owned_by place claims)) own (gained_may t entry.deed place (length book) next.carried.zones (laws.zones t entry planned next.in_range) (laws.joined t entry next.in_range) (laws.near t entry planned next.in_range keeps));
+      free = subst (λ (claims : List Claim). All (λ (one : HeldClaim). IsFree (held book) one.0) (owned_by place claims)) own (gained_free (held book) place (claims_of t entry.deed) (c.fresh_claims_are_free.ensures.fresh t entries entry (held book) next.carried.live c.requires.joins.fresh));
+      apart = subst (λ (claims : List Claim). AllPairs (λ (one other : HeldClaim). ¬ Clash one.0 other.0) (owned_by place claims)) own (gained_apart place (claims_of t entry.deed) (laws.joined t entry next.in_range));
+    }
+
+pub returns : goal.returns
+returns c =
+    let t = c.args.empty.now.timetable in
+    let next = c.requires.next in
     let old = c.args.old.now.entries in
-    let timetable : now.history.timetable ≡ was.history.timetable = c.in_ok-put_behind.ensures.timetable in
-    let entries : now.history.entries ≡ was.history.entries ++ c.args.entry.now ∷ [] = c.in_ok-put_behind.ensures.entries in
-    let kept : c.push.new.self.items ≡ was.kept.items ++ c.args.at ∷ [] = c.in_ok-push.ensures.items ∙ ap (λ (v : Vec ℕ Global). v.items ++ c.args.at ∷ []) c.put_behind.ensures.kept in
-    let left : now.left.items ≡ was.left.items = ap (λ (v : Vec LeftOut Global). v.items) c.put_behind.ensures.left in
-    let legal = subst (λ (p : Timetable × List Entry). IsLegal p.0 p.1) (λ i. (timetable i, entries i)) c.front.ensures.legal in
-    let carried = carried_one was.history.timetable old c.args.at was.history.entries was.kept.items was.left.items c.requires.carried c.args.entry.now legal c.requires.live in
-    subst (λ (p : Timetable × (List Entry × (List ℕ × List LeftOut))). IsCarriedTo p.0 old (c.args.at + 1) p.1.0 p.1.1.0 p.1.1.1) (λ i. (sym timetable i, (sym entries i, (sym kept i, sym left i)))) carried
+    let before = c.args.carrying.now in
+    let entries = carried_of old before in
+    let entry = c.args.entry.now in
+    let place : c.len-place.result ≡ length entries = c.len-place.ensures ∙ before.kept.ok.0 ∙ next.carried.carried.are_kept.count in
+    let gained = subst (λ (p : ℕ × List Claim). Gains (held before.book) (owned_by p.0 p.1) (held c.hold_each.new.book)) (λ i. (place i, c.requires.claims i)) c.in_ok-hold_each.ensures.gained in
+    let live = c.live_claims_follow.ensures.follow t entries entry (held before.book) (held c.hold_each.new.book) next.carried.live (follow_gained t entries entry.deed (held before.book) (held c.hold_each.new.book) next.live.takes_zones gained) in
+    goes_with t old c.args.at before _ entry next c.requires.joins live c.in_ok-hold_each.ensures.zones c.in_ok-push_record.ensures.spelled c.in_ok-push_record.ensures.has c.in_ok-push.ensures.items refl

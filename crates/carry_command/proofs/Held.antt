@@ -1,0 +1,15 @@
+-- Claims of an entry that are held one by one.
+use Rattle.std.proofs.Common.{◌≡◌, ℕ, ◌<◌, List, length, get_or, arith}
+use Rattle.std.proofs.lemmas.List.{get_or-map, length-map}
+use Rattle.rail_types.specs.declared.paths.Claim.{Claim}
+use Rattle.rail_types.specs.declared.entries.Owner.TheVariants.{Entry as of_entry}
+use Rattle.rail_types.specs.Occupation.{HeldClaim}
+use Rattle.grant_log.specs.Live.{owned_by}
+
+pub owned_within : (place : ℕ) (claims : List Claim) (at : ℕ) → at < length claims → at < length (owned_by place claims)
+owned_within place claims at within =
+    let same : length (owned_by place claims) ≡ length claims = length-map claims (λ (claim : Claim). (claim, of_entry place)) in
+    omega (arith, within, same)
+
+pub owned_at : (place : ℕ) (claims : List Claim) (at : ℕ) (any : HeldClaim) (d : Claim) → at < length claims → get_or (owned_by place claims) at any ≡ (get_or claims at d, of_entry place)
+owned_at place claims at any d within = get_or-map (λ (claim : Claim). (claim, of_entry place)) claims at d any within
