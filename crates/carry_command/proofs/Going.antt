@@ -12,12 +12,12 @@ use Rattle.grant_log.proofs.Legals.{legal_push}
 use Rattle.occupation_book.specs.Held.{held}
 use Rattle.rail_types.specs.declared.entries.Entry.{Entry}
 use Rattle.rail_types.specs.Timetables.{Timetable}
-use Rattle.carry_command.specs.Carried.{entries_at, IsCarriedTo, IsLiveAt, IsReason}
+use Rattle.carry_command.specs.Carried.{entries_at, IsCarriedTo, IsReason}
 use Rattle.carry_command.specs.CarriedInside.{carried_of, CarriesOn, HasCarried, IsNext, IsSpelled}
 use Rattle.carry_command.specs.declared.carried_history.joining.Carrying.{Carrying}
 use Rattle.carry_command.specs.declared.carried_history.reasons.LeftOut.{LeftOut}
 use Rattle.carry_command.proofs.Spelled.{all_more_one, entries_more, spelled_more}
-use Rattle.carry_command.proofs.Steps.{carried_left, carried_none, carried_one, carried_past}
+use Rattle.carry_command.proofs.Steps.{carried_left, carried_none, carried_one}
 
 -- nothing was carried yet
 pub begins : (timetable : Timetable) (old : List Entry) (carrying : Carrying) → carrying.kept.items ≡ [] → carrying.left.items ≡ [] → AreLive timetable (held carrying.book) [] → length carrying.book ≡ timetable.net.zones → HasCarried timetable old 0 carrying
@@ -35,18 +35,6 @@ begins_spelled header old carrying kept file =
     file ∙ (sym (append-nil header) ∙ ap (λ (l : List ℕ). front_of header (bodies_of (entries_at old l))) (sym kept))
 
 module _ (timetable : Timetable) (old : List Entry) (at : ℕ) (before : Carrying) where
-  -- the next entry is not live
-  pub goes_past : HasCarried timetable old at before → ((entry : Entry) → IsLiveAt old at entry → ⊥) → CarriesOn timetable old at before before
-  goes_past has dead = record {
-    carried = record {
-      carried = carried_past timetable old at (carried_of old before) before.kept.items before.left.items has.carried dead;
-      live = has.live;
-      zones = has.zones;
-      has = has.has;
-    };
-    spelled = λ header is. is;
-  }
-
   module _ (after : Carrying) (entry : Entry) (next : IsNext timetable old at before entry) where
     -- the next entry is left out
     pub goes_without : (one : LeftOut) → one.at ≡ at → IsReason before.kept.items (verdict_on timetable (carried_of old before) entry) one.reason → after.book ≡ before.book → after.file ≡ before.file → after.kept ≡ before.kept

@@ -77,22 +77,6 @@ module _ (timetable : Timetable) (old : List Entry) where
       | inr other ↦ inl (omega (arith, less, other))
     ]
 
-    -- the next entry is not live
-    pub carried_past : ((entry : Entry) → IsLiveAt old front entry → ⊥) → IsCarriedTo timetable old (front + 1) entries kept left
-    carried_past dead = record {
-      legal = carried.legal;
-      are_kept = carried.are_kept;
-      order = carried.order;
-      below = below_more;
-      left_out = carried.left_out;
-      left_order = carried.left_order;
-      left_below = left_below_more;
-      whole = λ at other less is. elim (before_or at less) [
-        | inl before ↦ carried.whole at other before is
-        | inr same ↦ absurd (dead other (subst (λ n. IsLiveAt old n other) same is))
-      ];
-    }
-
     -- the next entry is left out
     pub carried_left : (entry : Entry) (one : LeftOut) → one.at ≡ front → IsLiveAt old front entry → IsReason kept (verdict_on timetable entries entry) one.reason
         → IsCarriedTo timetable old (front + 1) entries kept (left ++ one ∷ [])

@@ -18,19 +18,12 @@ use command_reports::Refusal;
 use grant_log::History;
 use outside_io::{Disk, Outside};
 use path_recover::OpenFault;
-use path_recover::history_reading::{one_reading, read_journal};
+use path_recover::history_reading::{Found, one_reading, read_journal};
 use rail_types::List;
 use std::alloc::Global;
 
 // The version of a journal that is carried.
 const VERSION: u32 = 2;
-
-// The history of a journal, and how many bytes tell it.
-#[derive(Drop)]
-struct Told {
-    history: History,
-    bytes: u64,
-}
 
 /// Opens the disk of the old journal, reads its history by the network and the base timetable of
 /// before, writes what is carried of it, and puts the disk back behind that. The disk is only read.
@@ -74,7 +67,7 @@ fn carry_lent<O: Outside>(
         (scene O.Outside outside.old) (scene O.Outside outside.new) result }
 {
     match history_on(alloc, network, before, disk) {
-        Ok(told) => carry_history(alloc, names, network, base, told, outside),
+        Ok(found) => carry_history(alloc, names, network, base, found, outside),
         Err(fault) => Err(from_refusal(alloc, names.from(), fault)),
     }
 }
@@ -85,34 +78,34 @@ fn carry_history<O: Outside>(
     names: &CarryNames<'_>,
     network: &NetworkFile,
     base: BaseFile,
-    told: Told,
+    found: Found,
     outside: &mut O,
 ) -> Result<List<u8>, Refusal>
     requires timetable { IsTimetable (timetable_on network.now base) }
-    requires net { told.history.timetable.net ≡ network.now.named.network }
-    requires short { All (λ body. length body < 2 ^ 32) (bodies_of told.history.entries) }
-    ensures works { CarriesOver O.Snk.Sink O.Dsk.Disk names.now network.now base told.history
+    requires net { found.history.timetable.net ≡ network.now.named.network }
+    requires short { All (λ body. length body < 2 ^ 32) (bodies_of found.history.entries) }
+    ensures works { CarriesOver O.Snk.Sink O.Dsk.Disk names.now network.now base found.history
         (scene O.Outside outside.old) (scene O.Outside outside.new) result }
 {
     let may_leave = names.left().is_some();
-    let prepared = prepare(alloc, network, base, told.history, told.bytes, may_leave)?;
+    let prepared = prepare(alloc, network, base, found, may_leave)?;
     write_prepared(alloc, names, prepared, outside)
 }
 
-// The history of the journal on a disk. Neither the claims nor the bytes of the journal are kept.
+// The history of the journal on a disk.
 fn history_on<D: Disk>(
     alloc: Global,
     network: &NetworkFile,
     base: BaseFile,
     disk: &mut D,
-) -> Result<Told, OpenFault>
+) -> Result<Found, OpenFault>
     requires timetable { IsTimetable (timetable_on network.now base) }
-    ensures timetable { IfOk result (λ told.
-        told.history.timetable ≡ timetable_on network.now base) }
-    ensures history { IfOk result (λ told.
-        IsHistoryOn D.Disk network.now base told.history.entries disk.old disk.new) }
-    ensures short { IfOk result (λ told.
-        All (λ body. length body < 2 ^ 32) (bodies_of told.history.entries)) }
+    ensures timetable { IfOk result (λ found.
+        found.history.timetable ≡ timetable_on network.now base) }
+    ensures history { IfOk result (λ found.
+        IsHistoryOn D.Disk network.now base found.history.entries disk.old disk.new) }
+    ensures short { IfOk result (λ found.
+        All (λ body. length body < 2 ^ 32) (bodies_of found.history.entries)) }
     ensures refused { IfErr result (λ fault.
         IsRefusedOn D.Disk network.now base fault disk.old disk.new) }
 {
@@ -122,10 +115,7 @@ fn history_on<D: Disk>(
     };
     let empty = History::new(alloc, net, base.base);
     match read_journal(alloc, disk, empty, VERSION, &network.digest, &base.digest) {
-        Ok(found) => Ok(Told {
-            history: found.history,
-            bytes: found.gate + 1,
-        }),
+        Ok(found) => Ok(found),
         Err(fault) => Err(fault),
     }
 }

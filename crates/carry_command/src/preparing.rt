@@ -14,6 +14,7 @@ use command_files::{BaseFile, NetworkFile};
 use command_reports::Refusal;
 use grant_log::History;
 use no_memory::NoMemory;
+use path_recover::history_reading::Found;
 use rail_types::List;
 use std::alloc::Global;
 
@@ -54,21 +55,20 @@ fn told_by(
     })
 }
 
-/// Carries an old history, which so many bytes tell, into the timetable of these files, and spells
-/// all that is written. Where no entry may be left out, the first that would be refuses, as `entry I owner NAME number N
+/// Carries an old history, as it was read, into the timetable of these files, and spells all that
+/// is written. Where no entry may be left out, the first that would be refuses, as `entry I owner NAME number N
 /// REASON`.
 pub(crate) fn prepare(
     alloc: Global,
     network: &NetworkFile,
     base: BaseFile,
-    old: History,
-    bytes: u64,
+    old: Found,
     may_leave: bool,
 ) -> Result<Prepared, Refusal>
     requires timetable { IsTimetable (timetable_on network.now base) }
-    requires net { old.timetable.net ≡ network.now.named.network }
-    requires short { All (λ body. length body < 2 ^ 32) (bodies_of old.entries) }
-    ensures prepares { Prepares network.now base old may_leave result }
+    requires net { old.history.timetable.net ≡ network.now.named.network }
+    requires short { All (λ body. length body < 2 ^ 32) (bodies_of old.history.entries) }
+    ensures prepares { Prepares network.now base old.history may_leave result }
     ensures marked { IfOk result (λ prepared. IsMarked prepared.file) }
 {
     let Ok(net) = network.named.network.copy(alloc) else {
@@ -76,8 +76,14 @@ pub(crate) fn prepare(
     };
     let BaseFile { base, digest } = base;
     let empty = History::new(alloc, net, base);
-    match carry(alloc, &old, bytes, &empty, &network.digest, &digest) {
-        Ok(carried) => told_by(alloc, &old, carried, may_leave),
+    let Found {
+        history,
+        claims,
+        gate,
+    } = old;
+    let bytes = gate.saturating_add(1);
+    match carry(alloc, &history, claims, bytes, &empty, &network.digest, &digest) {
+        Ok(carried) => told_by(alloc, &history, carried, may_leave),
         Err(NoMemory) => Err(Refusal::Memory),
     }
 }

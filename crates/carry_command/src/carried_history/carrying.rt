@@ -6,13 +6,14 @@ ghost use Rattle.grant_journal.specs.Headers.{header_of};
 ghost use Rattle.grant_journal.specs.Histories.{bodies_of, front_of};
 ghost use Rattle.carry_command.specs.Carried.{entries_at, IsCarriedOf};
 
+use crate::carried_history::holding::roomy_copy_of;
 use crate::carried_history::joining::{Carrying, carry_at};
 use crate::carried_history::reasons::LeftOut;
 use byte_fields::{Buffer, put_u8};
 use grant_journal::journal_text::header;
 use grant_log::History;
-use grant_log::copy_since::copy_of;
 use no_memory::NoMemory;
+use occupation_book::Occupations;
 use rail_types::List;
 use std::alloc::Global;
 
@@ -25,15 +26,17 @@ pub struct Carried {
     pub left: Vec<LeftOut>,
 }
 
-/// Carries the live holds and grants of a history, which a journal of so many bytes tells, into the
-/// timetable of an empty one of the same network, in their order, and spells them as a journal for
-/// files with these digests. Each is judged by that timetable and by those carried before it, and
-/// left out where it is not fresh by them. No entry is copied, and the claims of each are looked up
-/// and held once. So the work is that of judging and spelling each live entry once; and what is
-/// held beside the history is their claims, their old positions and their bytes.
+/// Carries the live holds and grants of a history into the timetable of an empty one of the same
+/// network, in their order, and spells them as a journal for files with these digests. Each is
+/// judged by that timetable and by those carried before it, and left out where it is not fresh by
+/// them. No entry is copied, and the claims of each are looked up and held once. So the work is
+/// that of judging and spelling each live entry once; and what is held beside the history is their
+/// claims, their old positions and their bytes. Room is made first for as many claims as the
+/// history had, which are let go of before, and for as many bytes as its journal had.
 pub fn carry(
     alloc: Global,
     old: &History,
+    claims: Occupations,
     bytes: u64,
     empty: &History,
     network: &[u8; 32],
@@ -50,14 +53,14 @@ pub fn carry(
     ensures has { IfOk result (λ carried.
         All HasBody (entries_at old.now.entries carried.kept.items)) }
 {
-    // Room made first is never moved, and what is moved leaves holes as large as it was.
+    // What has its room from the first is never moved, and leaves no holes behind.
     let mut file = Buffer::new(alloc);
     file.reserve(bytes as usize)?;
     file.extend(&header(network, base))?;
     let mut kept = Vec::new(alloc);
     kept.reserve(old.front() as usize)?;
     let mut carrying = Carrying {
-        book: copy_of(alloc, empty)?,
+        book: roomy_copy_of(alloc, empty, claims)?,
         file,
         kept,
         left: Vec::new(alloc),

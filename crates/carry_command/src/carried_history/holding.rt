@@ -1,16 +1,60 @@
-//! Claims that meet those of a book, and that come to them.
+//! Claims that meet those of a book, and that come to them; and the room for those to come.
 
-ghost use Rattle.std.specs.Prelude.{◌≡◌, ◌<◌, All, AllPairs, OnOk, length};
+ghost use Rattle.std.specs.Prelude.{◌≡◌, ◌<◌, All, AllPairs, IfOk, OnOk, length, map};
 ghost use Rattle.rail_types.specs.FirstClash.{AreApart, first_clash};
 ghost use Rattle.rail_types.specs.Occupation.{AreJoined, Clash};
 ghost use Rattle.occupation_book.specs.Held.{held, IsFree};
-ghost use Rattle.grant_log.specs.Following.{Gains};
+ghost use Rattle.grant_log.specs.Following.{AreLive, Gains};
 ghost use Rattle.grant_log.specs.Live.{owned_by};
 ghost use Rattle.grant_log.specs.Rooms.{MayBeHeld};
 
+use grant_log::History;
+use grant_log::copy_since::copy_of;
 use no_memory::NoMemory;
 use occupation_book::Occupations;
 use rail_types::{Claim, Owner, first_clashes_are_first};
+use std::alloc::Global;
+
+// How many claims stand on each zone of a book, which is let go of.
+fn counts_of(alloc: Global, claims: Occupations) -> Result<Vec<usize>, NoMemory>
+    ensures { IfOk result (λ counts. counts.items ≡ map (λ zone. length zone.claims) claims) }
+{
+    let mut counts = Vec::new(alloc);
+    for zone in 0..claims.zones() {
+        counts.push(claims.of_zone(zone).len())?;
+    }
+    Ok(counts)
+}
+
+// Makes room for so many claims on each zone. The claims that are held stay.
+fn reserve_each(book: &mut Occupations, counts: &[usize]) -> Result<(), NoMemory>
+    ensures held { held book.new ≡ held book.old }
+    ensures zones { length book.new ≡ length book.old }
+{
+    for zone in 0..book.zones() {
+        if let Some(count) = counts.get(zone as usize) {
+            book.reserve(zone, (*count).min(u32::MAX as usize) as u32)?;
+        }
+    }
+    Ok(())
+}
+
+/// A book of the live claims of a history, with room on each zone for as many more as stand there
+/// in another book, which is let go of before.
+pub(crate) fn roomy_copy_of(
+    alloc: Global,
+    history: &History,
+    claims: Occupations,
+) -> Result<Occupations, NoMemory>
+    ensures live { IfOk result (λ book.
+        AreLive history.now.timetable (held book) history.now.entries) }
+    ensures zones { IfOk result (λ book. length book ≡ history.now.timetable.net.zones) }
+{
+    let counts = counts_of(alloc, claims)?;
+    let mut book = copy_of(alloc, history)?;
+    reserve_each(&mut book, &counts)?;
+    Ok(book)
+}
 
 /// The first held claim that clashes with one of these, by zone, then by begin. They stand in
 /// order, so the first that meets another tells it.

@@ -3,7 +3,6 @@ use Rattle.rail_types.specs.declared.tracks.Network.{Network}
 use Rattle.grant_log.specs.Legal.{IsDeedOn}
 use Rattle.grant_log.specs.Meanings.{Says}
 use Rattle.carry_command.specs.CarriedInside.{carried_of}
-use Rattle.carry_command.proofs.Going.{goes_past}
 use Rattle.carry_command.proofs.Spelled.{body_short}
 use Rattle.carry_command.proofs.Steps.{carried_new}
 use Rattle.carry_command.proofs.carried_history.joining.carry_at.Goals as goal

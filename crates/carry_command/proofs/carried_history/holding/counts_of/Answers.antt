@@ -1,0 +1,20 @@
+use Rattle.std.proofs.Common.{◌≡◌, ◌<◌, ◌≤◌, ◌∙◌, ◌++◌, [], ◌∷◌, ℕ, length, map, get_or, sym, ap, rules}
+use Rattle.std.proofs.lemmas.List.{map_more, take_all}
+use Rattle.occupation_book.specs.Zones.{Zone}
+use Rattle.carry_command.proofs.carried_history.holding.counts_of.Goals as goal
+
+pub loop-zone-preserved : goal.loop-zone-preserved
+loop-zone-preserved c =
+    let count_of : Zone → ℕ = λ zone. length zone.claims in
+    let at = c.loop-zone.zone in
+    let none : Zone = record { claims = []; spare = 0 } in
+    let within : at < length c.args.claims = search rules in
+    let more = map_more count_of c.args.claims at none within in
+    let count : length c.of_zone.result.now ≡ count_of (get_or c.args.claims at none) = ap length c.of_zone.ensures.claims in
+    c.in_ok-push.ensures.items ∙ ((λ i. c.loop-zone.invariant i ++ count i ∷ []) ∙ sym more)
+
+pub returns : goal.returns
+returns c =
+    let count_of : Zone → ℕ = λ zone. length zone.claims in
+    let end : length c.args.claims ≤ c.loop-zone.zone = search rules in
+    c.loop-zone.invariant ∙ ap (map count_of) (take_all c.loop-zone.zone c.args.claims end)
