@@ -56,8 +56,8 @@ fn told_by(
 }
 
 /// Carries an old history, as it was read, into the timetable of these files, and spells all that
-/// is written. Where no entry may be left out, the first that would be refuses, as `entry I owner NAME number N
-/// REASON`.
+/// is written. Where no entry may be left out, the first that would be refuses, as `entry I owner
+/// NAME number N REASON`.
 pub(crate) fn prepare(
     alloc: Global,
     network: &NetworkFile,
