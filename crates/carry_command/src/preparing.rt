@@ -82,7 +82,15 @@ pub(crate) fn prepare(
         gate,
     } = old;
     let bytes = gate.saturating_add(1);
-    match carry(alloc, &history, claims, bytes, &empty, &network.digest, &digest) {
+    match carry(
+        alloc,
+        &history,
+        claims,
+        bytes,
+        &empty,
+        &network.digest,
+        &digest,
+    ) {
         Ok(carried) => told_by(alloc, &history, carried, may_leave),
         Err(NoMemory) => Err(Refusal::Memory),
     }

@@ -75,11 +75,7 @@ pub(crate) fn first_taken(book: &Occupations, claims: &[Claim]) -> Option<(Claim
 
 /// Holds these claims too, with the entry at a position as their owner. They must be free, and no
 /// two of them clash.
-pub(crate) fn hold_each(
-    book: &mut Occupations,
-    claims: &[Claim],
-    at: u64,
-) -> Result<(), NoMemory>
+pub(crate) fn hold_each(book: &mut Occupations, claims: &[Claim], at: u64) -> Result<(), NoMemory>
     requires each { All (MayBeHeld (length book.old)) (owned_by at claims.now) }
     requires free { All (λ one. IsFree (held book.old) one.0) (owned_by at claims.now) }
     requires apart { AllPairs (λ one other. ¬ Clash one.0 other.0) (owned_by at claims.now) }
