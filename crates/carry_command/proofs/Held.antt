@@ -1,6 +1,7 @@
 -- Claims of an entry that are held one by one.
-use Rattle.std.proofs.Common.{◌≡◌, ℕ, ◌<◌, List, length, get_or, arith}
-use Rattle.std.proofs.lemmas.List.{get_or-map, length-map}
+use Rattle.std.proofs.Common.{◌≡◌, ◌∙◌, ℕ, ◌+◌, ◌<◌, List, [], ◌∷◌, ◌++◌, length, map, take, get_or, sym, arith}
+use Rattle.std.proofs.lemmas.List.{get_or-map, length-map, map_more}
+use Rattle.occupation_book.specs.Zones.{Zone}
 use Rattle.rail_types.specs.declared.paths.Claim.{Claim}
 use Rattle.rail_types.specs.declared.entries.Owner.TheVariants.{Entry as of_entry}
 use Rattle.rail_types.specs.Occupation.{HeldClaim}
@@ -13,3 +14,9 @@ owned_within place claims at within =
 
 pub owned_at : (place : ℕ) (claims : List Claim) (at : ℕ) (any : HeldClaim) (d : Claim) → at < length claims → get_or (owned_by place claims) at any ≡ (get_or claims at d, of_entry place)
 owned_at place claims at any d within = get_or-map (λ (claim : Claim). (claim, of_entry place)) claims at d any within
+
+-- the counts of one zone more
+pub counted_more : (zones : List Zone) (at : ℕ) (d : Zone) → at < length zones → (old new : List ℕ) (count : ℕ) → old ≡ map (λ zone. length zone.claims) (take at zones) → new ≡ old ++ count ∷ [] → count ≡ length (get_or zones at d).claims
+    → new ≡ map (λ zone. length zone.claims) (take (at + 1) zones)
+counted_more zones at d within old new count was more is =
+    more ∙ ((λ i. was i ++ is i ∷ []) ∙ sym (map_more (λ (zone : Zone). length zone.claims) zones at d within))

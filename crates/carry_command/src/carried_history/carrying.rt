@@ -54,13 +54,14 @@ pub fn carry(
         All HasBody (entries_at old.now.entries carried.kept.items)) }
 {
     // What has its room from the first is never moved, and leaves no holes behind.
+    let book = roomy_copy_of(alloc, empty, claims)?;
     let mut file = Buffer::new(alloc);
     file.reserve(bytes as usize)?;
     file.extend(&header(network, base))?;
     let mut kept = Vec::new(alloc);
     kept.reserve(old.front() as usize)?;
     let mut carrying = Carrying {
-        book: roomy_copy_of(alloc, empty, claims)?,
+        book,
         file,
         kept,
         left: Vec::new(alloc),

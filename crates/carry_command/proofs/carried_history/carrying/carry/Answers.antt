@@ -14,12 +14,12 @@ loop-at-init c =
     let t = c.args.empty.now.timetable in
     let old = c.args.old.now.entries in
     let header = header_of c.args.network.now c.args.base.now in
-    let first : Carrying = record { book = c.in_ok-roomy_copy_of.field-0; file = c.extend.new.self; kept = c.reserve-2.new.self; left = c.new.result } in
+    let first : Carrying = record { book = c.in_ok-book.book; file = c.extend.new.self; kept = c.reserve-2.new.self; left = c.new.result } in
     let kept = c.reserve-2.ensures.items ∙ c.new-kept.ensures.items in
     let roomy = c.reserve.ensures.held ∙ c.new-file.ensures in
     let file : first.file.held ≡ header = c.in_ok-extend.ensures.ok ∙ (ap (λ (l : List ℕ). l ++ c.header.result) roomy ∙ c.header.ensures) in
     record {
-      carried = begins t old first kept c.new.ensures.items (subst (λ (entries : List Entry). AreLive t (held first.book) entries) c.requires.empty c.in_ok-roomy_copy_of.ensures.live) c.in_ok-roomy_copy_of.ensures.zones;
+      carried = begins t old first kept c.new.ensures.items (subst (λ (entries : List Entry). AreLive t (held first.book) entries) c.requires.empty c.in_ok-book.ensures.live) c.in_ok-book.ensures.zones;
       spelled = begins_spelled header old first kept file;
     }
 

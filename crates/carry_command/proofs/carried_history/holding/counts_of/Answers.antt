@@ -1,6 +1,7 @@
-use Rattle.std.proofs.Common.{◌≡◌, ◌<◌, ◌≤◌, ◌∙◌, ◌++◌, [], ◌∷◌, ℕ, length, map, get_or, sym, ap, rules}
-use Rattle.std.proofs.lemmas.List.{map_more, take_all}
+use Rattle.std.proofs.Common.{◌≡◌, ◌<◌, ◌≤◌, ◌∙◌, [], ℕ, length, map, get_or, ap, rules}
+use Rattle.std.proofs.lemmas.List.{take_all}
 use Rattle.occupation_book.specs.Zones.{Zone}
+use Rattle.carry_command.proofs.Held.{counted_more}
 use Rattle.carry_command.proofs.carried_history.holding.counts_of.Goals as goal
 
 pub loop-zone-preserved : goal.loop-zone-preserved
@@ -9,9 +10,8 @@ loop-zone-preserved c =
     let at = c.loop-zone.zone in
     let none : Zone = record { claims = []; spare = 0 } in
     let within : at < length c.args.claims = search rules in
-    let more = map_more count_of c.args.claims at none within in
     let count : length c.of_zone.result.now ≡ count_of (get_or c.args.claims at none) = ap length c.of_zone.ensures.claims in
-    c.in_ok-push.ensures.items ∙ ((λ i. c.loop-zone.invariant i ++ count i ∷ []) ∙ sym more)
+    counted_more c.args.claims at none within c.loop-zone.counts.items c.push.new.self.items (length c.of_zone.result.now) c.loop-zone.invariant c.in_ok-push.ensures.items count
 
 pub returns : goal.returns
 returns c =
