@@ -4,7 +4,7 @@ use Rattle.std.proofs.lemmas.List.{length-map, take_all, take_more}
 use Rattle.rail_types.specs.declared.paths.Claim.{Claim}
 use Rattle.rail_types.specs.declared.entries.Owner.TheVariants.{Entry as of_entry}
 use Rattle.rail_types.specs.Occupation.{HeldClaim}
-use Rattle.occupation_book.specs.Held.{held, IsFree, zone_at}
+use Rattle.occupation_book.specs.Held.{held, IsFree}
 use Rattle.grant_log.specs.Following.{Gains}
 use Rattle.grant_log.specs.Live.{owned_by}
 use Rattle.grant_log.specs.Rooms.{MayBeHeld}

@@ -1,5 +1,4 @@
-use Rattle.std.proofs.Common.{◌≡◌, ℕ, length, All, AllPairs, List, [], ◌∷◌, ◌++◌, refl, sym, ap, subst, ◌∙◌}
-use Rattle.rail_types.specs.declared.entries.Entry.{Entry}
+use Rattle.std.proofs.Common.{◌≡◌, ℕ, length, All, AllPairs, List, refl, sym, subst, ◌∙◌}
 use Rattle.rail_types.specs.declared.paths.Claim.{Claim}
 use Rattle.rail_types.specs.Occupation.{Clash, HeldClaim}
 use Rattle.occupation_book.specs.Held.{held, IsFree}
