@@ -9,7 +9,7 @@ returns-in-Ok g c =
     let network = c.args.network.now in
     record {
       says = goes_says g.O.Dsk.Disk network c.args.before names.from (CarriesOver g.O.Snk.Sink g.O.Dsk.Disk names network c.args.base) c.args.disk.now c.history_on.new.disk (scene g.O.Outside c.args.outside.now) (scene g.O.Outside c.carry_history.new.outside) c.carry_history.result (record {
-        history = c.in-Ok.history;
+        history = c.in-Ok.found.history;
         read = record { timetable = c.in-Ok.ensures.timetable; read = c.in-Ok.ensures.history };
         next = c.carry_history.ensures.works;
       });
