@@ -44,7 +44,8 @@ LOWEST = "\n".join([
     "fn other() -> u64 { 400000_u64 + b16 + x.16 + 4000001 }",
     "",
 ])
-# Two attributes name `test`; a comment, a text, a function and a longer word do not.
+# Two attributes name `test`; a comment, a text, a function and a longer word do not. The constant of
+# the number in `own` is private to the lowest crate.
 MIDDLE = "\n".join([
     "fn above() -> u64 { 400_000 }",
     "#[cfg(test)]",
@@ -54,6 +55,7 @@ MIDDLE = "\n".join([
     "#[derive(Debug)]",
     "#[latest]",
     "    #[test] fn shows() {}",
+    "fn own() -> u64 { 67_108_865 }",
     "",
 ])
 # `IsWide` has eleven parameters, two of them of one group, and what stands in braces not counted;
@@ -99,6 +101,8 @@ SPOTS = [
     '    crates/lowest/src/lib.rt:13: fn told() -> &str { "limit file 67108865" }  (MOST_BYTES)',
     "    crates/middle/src/lib.rt:1: fn above() -> u64 { 400_000 }  (TURNS)",
 ]
+# crates in which a number is none of the constants of that value
+OTHERS = {"entry_codec": "16", "json_fields": "16", "command_files": "67108865"}
 # each option with what is counted, and how the line over its limit begins
 LIMITS = [
     ("--most-crates", 3, "crates of the product"),
@@ -108,6 +112,7 @@ LIMITS = [
     ("--most-tests", 2, "tests proved inside crates"),
     ("--most-parameters", 9, "parameters of a function"),
     ("--most-relation-parameters", 12, "parameters of a relation"),
+    ("--bare-numbers", 3, "bare numbers"),
 ]
 
 
@@ -126,18 +131,37 @@ def made(root: Path) -> None:
     (root / "crates/lowest/proofs/Lib.antt").write_text("-- " + "c" * 200 + "\n")
 
 
+def bare_numbers(number: str, name: str) -> str:
+    """The count of bare numbers where a crate of this name has a number for which the crate below
+    it has a constant."""
+    with tempfile.TemporaryDirectory() as folder:
+        root = Path(folder)
+        (root / "crates.txt").write_text(f"lowest: thiserror\n{name}: lowest\n")
+        for crate, line in [("lowest", f"pub const MOST: u64 = {number};\n"),
+                            (name, f"fn own() -> u64 {{ {number} }}\n")]:
+            (root / "crates" / crate / "src").mkdir(parents=True)
+            (root / "crates" / crate / "src/lib.rt").write_text(line)
+        return told_of(root)[1].splitlines()[-1]
+
+
+def told_of(root: Path, *words: str) -> tuple[int, str]:
+    """The exit status of the tool for a repository, and what it tells."""
+    done = subprocess.run([sys.executable, "-B", str(REPOSITORY / "tools/house"), "--root",
+                           str(root), *words], capture_output=True, text=True)
+    return done.returncode, done.stdout + done.stderr
+
+
 def main() -> int:
     cases = Cases()
+    for name, number in OTHERS.items():
+        cases.equal(f"{number} in {name}", "bare numbers: 0", bare_numbers(number, name))
+        cases.equal(f"{number} elsewhere", "bare numbers: 1", bare_numbers(number, "elsewhere"))
     with tempfile.TemporaryDirectory() as folder:
         root = Path(folder)
         made(root)
 
         def house(*words: str, program: str = "program") -> tuple[int, str]:
-            done = subprocess.run(
-                [sys.executable, "-B", str(REPOSITORY / "tools/house"), "--root", folder,
-                 "--program", program, *words], capture_output=True, text=True)
-            cases.equal(f"nothing is told on standard error of {words}", "", done.stderr)
-            return done.returncode, done.stdout
+            return told_of(root, "--program", program, *words)
 
         cases.equal("counts without limits", (0, LISTED), house())
         status, told = house("--lines")
