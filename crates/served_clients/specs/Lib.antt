@@ -12,3 +12,5 @@ pub mod Rules
 pub mod Files
 pub mod ServedJournals
 pub mod Rounds
+pub mod Kinds
+pub mod GivenNames

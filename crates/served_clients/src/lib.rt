@@ -5,7 +5,9 @@
 pub mod client_seats;
 pub mod client_streams;
 mod plans;
+mod run_names;
 pub mod serve_reports;
 pub mod served_journals;
 
 pub use plans::{Plan, Session};
+pub use run_names::RunNames;
