@@ -7,3 +7,5 @@ pub mod Telling
 pub mod Steps
 pub mod PlanningPlaces
 pub mod Searching
+pub mod Keeping
+pub mod Narrow
