@@ -7,14 +7,14 @@ use Rattle.rail_types.specs.declared.tracks.Network.{Network}
 use Rattle.rail_types.specs.declared.trains.Request.{Request}
 use Rattle.rail_types.specs.FirstClash.{HoldAlike}
 use Rattle.rail_types.specs.Occupation.{HeldClaim}
-use Rattle.stair_pieces.specs.declared.places.Place.{Place}
-use Rattle.stair_pieces.specs.declared.places.Step.{Step}
-use Rattle.stair_pieces.specs.Pieces.{kept, later_by, pieces_of}
-use Rattle.stair_pieces.specs.Places.{place_after, standing_zones}
-use Rattle.tail_states.specs.declared.certificates.Closed.{Closed}
-use Rattle.tail_states.specs.declared.certificates.Member.{Member}
-use Rattle.tail_states.specs.Closing.{GoesOn, IsAdmitted, IsClosed, IsFreeMove}
-use Rattle.tail_states.specs.Listed.{Listed}
+use Rattle.path_labels.specs.pieces.declared.places.Place.{Place}
+use Rattle.path_labels.specs.pieces.declared.places.Step.{Step}
+use Rattle.path_labels.specs.pieces.Pieces.{kept, later_by, pieces_of}
+use Rattle.path_labels.specs.pieces.Places.{place_after, standing_zones}
+use Rattle.path_labels.specs.tails.declared.certificates.Closed.{Closed}
+use Rattle.path_labels.specs.tails.declared.certificates.Member.{Member}
+use Rattle.path_labels.specs.tails.Closing.{GoesOn, IsAdmitted, IsClosed, IsFreeMove}
+use Rattle.path_labels.specs.tails.Listed.{Listed}
 use Rattle.ask_turns.proofs.Copies.{claims_in, fits_alike, other_way}
 
 module _ (net : Network) (settings : Settings) (request : Request) (one other : List HeldClaim)

@@ -1,5 +1,6 @@
 -- The members of a certificate can be told.
-use Rattle.std.proofs.Common.{◌≡◌, refl, sym, subst, ℕ, ◌+◌, ◌<◌, ◌≤◌, List, [], ◌∷◌, ◌++◌, length, All, Bool, true, false, nat_lt, if◌then◌else◌, arith}
+use Rattle.std.proofs.Common.{◌≡◌, refl, sym, subst, ℕ, ◌+◌, ◌<◌, ◌≤◌, List, [], ◌∷◌, ◌++◌, length}
+use Rattle.std.proofs.Common.{All, Bool, true, false, nat_lt, if◌then◌else◌, arith}
 use Rattle.std.specs.List.{slice_index_or}
 use Rattle.std.proofs.lemmas.Int.{ints}
 use Rattle.std.proofs.lemmas.Bool.Decides.{nat_tests}
@@ -9,14 +10,14 @@ use Rattle.rail_types.specs.declared.tracks.Network.{Network}
 use Rattle.rail_types.specs.declared.trains.Request.{Request}
 use Rattle.rail_types.specs.declared.trains.Train.{Train}
 use Rattle.rail_types.specs.Limits.{IsBlockWithinLimits}
-use Rattle.running_time.specs.declared.edges.Enter.{Enter}
-use Rattle.running_time.specs.declared.edges.Enter.TheVariants.{Still, From}
-use Rattle.running_time.specs.Limits.{IsEnterWithinLimits}
+use Rattle.path_labels.specs.running.declared.edges.Enter.{Enter}
+use Rattle.path_labels.specs.running.declared.edges.Enter.TheVariants.{Still, From}
+use Rattle.path_labels.specs.running.Limits.{IsEnterWithinLimits}
 use Rattle.blocking_time.specs.Runs.{block_at}
-use Rattle.stair_pieces.specs.declared.places.Place.{Place}
-use Rattle.stair_pieces.specs.Moves.{IsPlace, begun, gone_on}
-use Rattle.stair_pieces.specs.Places.{metres_of, start_place, under_train}
-use Rattle.tail_states.specs.Asked.{PlacesMayBeCut, SoundNetworksAreAsked}
+use Rattle.path_labels.specs.pieces.declared.places.Place.{Place}
+use Rattle.path_labels.specs.pieces.Moves.{IsPlace, begun, gone_on}
+use Rattle.path_labels.specs.pieces.Places.{metres_of, start_place, under_train}
+use Rattle.path_labels.specs.tails.Asked.{PlacesMayBeCut, SoundNetworksAreAsked}
 use Rattle.proof_texts.specs.Told.{IsEntered}
 use Rattle.ask_turns.specs.CertificateLaws.{CertificatesCanBeTold}
 

@@ -5,9 +5,9 @@ use Rattle.std.proofs.lemmas.List.{get_or_default, length-map}
 use Rattle.std.proofs.lemmas.List.Elements.{All-map}
 use Rattle.blocking_time.specs.Possible.{CanBeGranted, IsPossible}
 use Rattle.blocking_time.specs.Stairway.{claims_of_path}
-use Rattle.grant_log.specs.Live.{live_claims}
-use Rattle.occupation_book.specs.Held.{held}
-use Rattle.occupation_book.specs.Zones.{Zone}
+use Rattle.path_commit.specs.history.Live.{live_claims}
+use Rattle.path_commit.specs.claims.Held.{held}
+use Rattle.path_commit.specs.claims.Zones.{Zone}
 use Rattle.path_labels.specs.Answers.{IsEarliest, claims_held}
 use Rattle.rail_types.specs.declared.entries.Entry.{Entry}
 use Rattle.rail_types.specs.declared.entries.Owner.TheVariants.{Base}

@@ -1,13 +1,14 @@
 -- A turn that was opened over a book, what was done to the book, and what the turn then did.
-use Rattle.std.proofs.Common.{◌≡◌, ◌≢◌, ℕ, ◌<◌, ◌≤◌, true, List, [], ◌∷◌, ◌++◌, Option, length, ap, sym, ◌∙◌, subst, refl, arith}
+use Rattle.std.proofs.Common.{◌≡◌, ◌≢◌, ℕ, ◌<◌, ◌≤◌, true, List, [], ◌∷◌, ◌++◌, Option, length, ap}
+use Rattle.std.proofs.Common.{sym, ◌∙◌, subst, refl, arith}
 use Rattle.std.proofs.lemmas.List.{append-nil}
 use mathlib.Core.Logic.{inr}
 use Rattle.book_gate.specs.declared.views.Statement.{Statement}
 use Rattle.book_gate.specs.Steps.{served}
 use Rattle.book_gate.specs.Views.{StartsWith}
-use Rattle.grant_log.specs.declared.verdicts.Verdict.TheVariants.{Fresh}
-use Rattle.grant_log.specs.Legal.{Joins}
-use Rattle.grant_log.specs.Verdict.{verdict_on}
+use Rattle.path_commit.specs.history.declared.verdicts.Verdict.TheVariants.{Fresh}
+use Rattle.path_commit.specs.history.Legal.{Joins}
+use Rattle.path_commit.specs.history.Verdict.{verdict_on}
 use Rattle.outside_io.specs.Faults.{Rose}
 use Rattle.path_commit.specs.declared.stands.Footing.{Footing}
 use Rattle.path_commit.specs.Answers.{bytes_with}
@@ -21,8 +22,10 @@ use Rattle.ask_turns.specs.declared.client_turns.told.Entered.{Entered}
 use Rattle.ask_turns.specs.declared.client_turns.told.Entered.TheVariants as entered
 use Rattle.ask_turns.specs.declared.client_turns.told.Tried.{Tried}
 use Rattle.ask_turns.specs.declared.client_turns.told.Tried.TheVariants as tried
-use Rattle.ask_turns.specs.Told.{EntersIn, Gained, IsRefusal, IsTakenBefore, IsTakenSince, MayEnter, StopsIn, TriesIn}
-use Rattle.ask_turns.specs.Turns.{CannotBegin, CannotSettle, HasEntered, HasTried, IsAdded, IsReached, IsStopped, Looks, Sight, TakesTurn}
+use Rattle.ask_turns.specs.Told.{EntersIn, Gained, IsRefusal, IsTakenBefore, IsTakenSince, MayEnter}
+use Rattle.ask_turns.specs.Told.{StopsIn, TriesIn}
+use Rattle.ask_turns.specs.Turns.{CannotBegin, CannotSettle, HasEntered, HasTried, IsAdded}
+use Rattle.ask_turns.specs.Turns.{IsReached, IsStopped, Looks, Sight, TakesTurn}
 use Rattle.ask_turns.proofs.Taken.{took_turn}
 
 abbrev pub stands : {D : Type 0} → (D → ℕ) → Ledger D → Statement Entry

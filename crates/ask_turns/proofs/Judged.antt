@@ -1,5 +1,7 @@
 -- A path that was found where a history stood, judged at a later one.
-use Rattle.std.proofs.Common.{◌≡◌, ◌≢◌, ◌↔◌, ℕ, ◌<◌, List, length, map, take, slice_get, slice_index_or, get_or, Contains, None, Some, ap, sym, ◌∙◌, subst, refl, arith}
+use Rattle.std.proofs.Common.{◌≡◌, ◌≢◌, ◌↔◌, ℕ, ◌<◌, List, length, map, take, slice_get}
+use Rattle.std.proofs.Common.{slice_index_or, get_or, Contains, None, Some, ap, sym, ◌∙◌, subst}
+use Rattle.std.proofs.Common.{refl, arith}
 use Rattle.std.proofs.Math.ListN.{get_or-append, get_or-map}
 use Rattle.std.proofs.lemmas.Bool.{cases_lt}
 use Rattle.std.proofs.lemmas.List.{length-map, take_at}
@@ -8,13 +10,13 @@ use mathlib.Core.Logic.{⊎_elim}
 use Rattle.blocking_time.specs.declared.rules.Broken.{Broken}
 use Rattle.blocking_time.specs.Laws.{JoinedFitAlike, StairwaysHaveTicks, TheFirstIsTold}
 use Rattle.book_gate.specs.Views.{StartsWith}
-use Rattle.grant_log.specs.declared.verdicts.Verdict.{Verdict}
-use Rattle.grant_log.specs.declared.verdicts.Verdict.TheVariants as verdict
-use Rattle.grant_log.specs.Legal.{Joins}
-use Rattle.grant_log.specs.Live.{claims_of, freed_by, live_claims}
-use Rattle.grant_log.specs.Meanings.{Says}
-use Rattle.grant_log.specs.Verdict.{verdict_on}
-use Rattle.grant_log.proofs.Freed.{freed_take}
+use Rattle.path_commit.specs.history.declared.verdicts.Verdict.{Verdict}
+use Rattle.path_commit.specs.history.declared.verdicts.Verdict.TheVariants as verdict
+use Rattle.path_commit.specs.history.Legal.{Joins}
+use Rattle.path_commit.specs.history.Live.{claims_of, freed_by, live_claims}
+use Rattle.path_commit.specs.history.Meanings.{Says}
+use Rattle.path_commit.specs.history.Verdict.{verdict_on}
+use Rattle.path_commit.proofs.history_lemmas.Freed.{freed_take}
 use Rattle.path_commit.specs.Answers.{IsTaken}
 use Rattle.rail_types.specs.declared.entries.Deed.TheVariants.{Grant, Free}
 use Rattle.rail_types.specs.declared.entries.Entry.{Entry}

@@ -3,11 +3,11 @@ use Rattle.std.proofs.Common.{◌≡◌, ◌≢◌, ℕ, List, length, ap, ◌�
 use Rattle.rail_types.specs.declared.entries.Entry.{Entry}
 use Rattle.rail_types.specs.declared.paths.Claim.{Claim}
 use Rattle.rail_types.specs.Timetables.{Timetable}
-use Rattle.grant_log.specs.declared.verdicts.Verdict.{Verdict}
-use Rattle.grant_log.specs.declared.verdicts.Verdict.TheVariants as verdict
-use Rattle.grant_log.specs.Live.{claims_of, live_claims}
-use Rattle.grant_log.specs.Meanings.{Says}
-use Rattle.grant_log.specs.Verdict.{verdict_on}
+use Rattle.path_commit.specs.history.declared.verdicts.Verdict.{Verdict}
+use Rattle.path_commit.specs.history.declared.verdicts.Verdict.TheVariants as verdict
+use Rattle.path_commit.specs.history.Live.{claims_of, live_claims}
+use Rattle.path_commit.specs.history.Meanings.{Says}
+use Rattle.path_commit.specs.history.Verdict.{verdict_on}
 use Rattle.path_commit.specs.Answers.{IsTaken}
 use Rattle.path_commit.specs.Clashes.{IsLastClash, NoneClashesFrom}
 use Rattle.path_commit.specs.Ledgers.{Ledger}

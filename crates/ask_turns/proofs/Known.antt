@@ -1,11 +1,12 @@
 -- What a client knows of a history.
-use Rattle.std.proofs.Common.{◌≡◌, true, false, List, Option, Some, None, IsNone, Result, Ok, Err, OnOk, length, take, flat_map, ap, sym, ◌∙◌, subst, refl, append_assoc}
+use Rattle.std.proofs.Common.{◌≡◌, true, false, List, Option, Some, None, IsNone, Result, Ok, Err}
+use Rattle.std.proofs.Common.{OnOk, length, take, flat_map, ap, sym, ◌∙◌, subst, refl, append_assoc}
 use Rattle.std.specs.Prelude.{is_err, ◌++◌}
 use Rattle.std.proofs.lemmas.List.{take_at}
 use Rattle.book_gate.specs.Views.{StartsWith}
-use Rattle.grant_log.specs.Following.{AreLive}
-use Rattle.occupation_book.specs.Held.{claims_by_zone, held}
-use Rattle.occupation_book.specs.Zones.{Zone}
+use Rattle.path_commit.specs.history.Following.{AreLive}
+use Rattle.path_commit.specs.claims.Held.{claims_by_zone, held}
+use Rattle.path_commit.specs.claims.Zones.{Zone}
 use Rattle.rail_types.specs.Occupation.{HeldClaim}
 use Rattle.rail_types.specs.declared.entries.Entry.{Entry}
 use Rattle.rail_types.specs.Timetables.{Timetable}

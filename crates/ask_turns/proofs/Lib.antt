@@ -12,3 +12,4 @@ pub mod Known
 pub mod Opened
 pub mod Taken
 pub mod Turned
+pub use Rattle.path_commit.proofs.history_lemmas as history_lemmas

@@ -1,9 +1,10 @@
 -- A book that was taken out, settled and looked at.
 use Rattle.std.proofs.Common.{◌≡◌, ℕ, ◌+◌, ◌<◌, ◌≤◌, length, ap, sym, ◌∙◌, subst, refl, arith}
 use mathlib.Core.Logic.{⊎_elim}
-use Rattle.grant_journal.specs.Causes.{HasSettleCause}
-use Rattle.grant_journal.specs.declared.journals.Settled.{Settled}
-use Rattle.grant_journal.specs.declared.journals.Settled.TheVariants.{Done as Put, Fault as Failed}
+use Rattle.path_commit.specs.journal.Causes.{HasSettleCause}
+use Rattle.path_commit.specs.journal.declared.journals.Settled.{Settled}
+use Rattle.path_commit.specs.journal.declared.journals.Settled.TheVariants.{Done as Put}
+use Rattle.path_commit.specs.journal.declared.journals.Settled.TheVariants.{Fault as Failed}
 use Rattle.outside_io.specs.Faults.{Rose}
 use Rattle.outside_io.specs.declared.disks.Disk.{Ghosts}
 use Rattle.path_commit.specs.declared.stands.Footing.{Footing}

@@ -14,12 +14,12 @@ use Rattle.blocking_time.specs.Possible.{CanBeGranted}
 use Rattle.path_labels.specs.Answers.{IsCertificate, before, last_leave}
 use Rattle.path_labels.proofs.Granting.{last_is}
 use Rattle.refusal_proof.specs.Proofs.{IsProof}
-use Rattle.stair_pieces.specs.declared.places.Place.{Place}
-use Rattle.stair_pieces.specs.Moves.{OfLast, PathsAreMoves, TakeTheirTime}
-use Rattle.stair_pieces.specs.Places.{place_after, start_place, step_of}
-use Rattle.tail_states.specs.declared.certificates.Closed.{Closed}
-use Rattle.tail_states.specs.Alike.{WindowsChangeNoPlaces}
-use Rattle.tail_states.specs.Listed.{AreTheMoves, AreThePlaces, Listed}
+use Rattle.path_labels.specs.pieces.declared.places.Place.{Place}
+use Rattle.path_labels.specs.pieces.Moves.{OfLast, PathsAreMoves, TakeTheirTime}
+use Rattle.path_labels.specs.pieces.Places.{place_after, start_place, step_of}
+use Rattle.path_labels.specs.tails.declared.certificates.Closed.{Closed}
+use Rattle.path_labels.specs.tails.Alike.{WindowsChangeNoPlaces}
+use Rattle.path_labels.specs.tails.Listed.{AreTheMoves, AreThePlaces, Listed}
 use Rattle.ask_turns.specs.Certified.{Passes}
 use Rattle.ask_turns.specs.CertificateLaws.{EarlierRefusalsPass, RefusalsPass}
 

@@ -2,7 +2,7 @@
 use Rattle.std.proofs.Common.{◌≡◌, ℕ, List, Option, None, Some, length, ap, sym, ◌∙◌, subst, refl}
 use Rattle.blocking_time.specs.Possible.{CanBeGranted, IsPossible}
 use Rattle.book_gate.specs.Views.{StartsWith}
-use Rattle.grant_log.specs.Legal.{IsInRange}
+use Rattle.path_commit.specs.history.Legal.{IsInRange}
 use Rattle.path_labels.specs.Answers.{IsEarliest, claims_held}
 use Rattle.rail_types.specs.declared.entries.Entry.{Entry}
 use Rattle.rail_types.specs.declared.entries.Settings.{Settings}

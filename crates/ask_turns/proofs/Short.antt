@@ -1,5 +1,7 @@
 -- Paths that were found have few runs, all within their limits.
-use Rattle.std.proofs.Common.{◌≡◌, ◌≢◌, ◌↔◌, ℕ, zero, suc, ◌+◌, ◌-◌, ◌<◌, ◌≤◌, ℤ, pos, ◌+ℤ◌, ◌<ℤ◌, ◌≤ℤ◌, Bool, true, false, Decides, length, List, [], All, None, ap, sym, ◌∙◌, subst, refl, arith}
+use Rattle.std.proofs.Common.{◌≡◌, ◌≢◌, ◌↔◌, ℕ, zero, suc, ◌+◌, ◌-◌, ◌<◌, ◌≤◌, ℤ, pos, ◌+ℤ◌, ◌<ℤ◌}
+use Rattle.std.proofs.Common.{◌≤ℤ◌, Bool, true, false, Decides, length, List, [], All, None, ap}
+use Rattle.std.proofs.Common.{sym, ◌∙◌, subst, refl, arith}
 use Rattle.std.proofs.lemmas.Int.{ints, by_lt_z}
 use Rattle.std.proofs.lemmas.Bool.Decides.{Decides-int_eq}
 use Rattle.std.proofs.lemmas.List.{get_or_default}
@@ -9,8 +11,8 @@ use Rattle.blocking_time.specs.Laws.{TheFirstIsTold}
 use Rattle.blocking_time.specs.Possible.{CanBeGranted}
 use Rattle.blocking_time.specs.Rules.{EntersWrongly, KeepsRunRules, rule_2, rule_3, rule_5, rule_12}
 use Rattle.blocking_time.specs.Runs.{block_of, entry_at, exit_of, reached_at, run_at}
-use Rattle.running_time.proofs.Ticks.{takes_a_tick}
-use Rattle.grant_log.specs.Content.{HaveSameContent, has_same_content}
+use Rattle.path_labels.proofs.running_lemmas.Ticks.{takes_a_tick}
+use Rattle.path_commit.specs.history.Content.{HaveSameContent, has_same_content}
 use Rattle.rail_types.specs.declared.entries.Deed.{Deed}
 use Rattle.rail_types.specs.declared.entries.Deed.TheVariants.{Grant}
 use Rattle.rail_types.specs.declared.entries.Settings.{Settings}

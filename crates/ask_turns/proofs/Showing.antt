@@ -4,8 +4,8 @@ use Rattle.ask_turns.specs.declared.certificates.searches.Certified.{Certified}
 use Rattle.ask_turns.specs.Certified.{IsCertified, Passes, excluded}
 use Rattle.ask_turns.specs.CertificateLaws.{CertificatesCanBeTold}
 use Rattle.client_lines.specs.Names.{Names}
-use Rattle.grant_log.specs.Live.{live_claims}
-use Rattle.occupation_book.specs.Held.{held}
+use Rattle.path_commit.specs.history.Live.{live_claims}
+use Rattle.path_commit.specs.claims.Held.{held}
 use Rattle.path_labels.specs.Answers.{claims_held}
 use Rattle.proof_texts.specs.declared.refusals.Proof.{Proof}
 use Rattle.proof_texts.specs.Texts.{proof_text}

@@ -13,8 +13,8 @@ use Rattle.path_labels.specs.Answers.{IsAnswer, IsCertificate, before, last_leav
 use Rattle.path_labels.specs.declared.answers.Sought.TheVariants.{Found, NoPath}
 use Rattle.proof_texts.specs.declared.refusals.Proof.{Proof}
 use Rattle.proof_texts.specs.Told.{IsProofOf, IsRequestOf}
-use Rattle.tail_states.specs.declared.certificates.Closed.{Closed}
-use Rattle.tail_states.specs.Listed.{AreTheMoves, AreThePlaces, Listed}
+use Rattle.path_labels.specs.tails.declared.certificates.Closed.{Closed}
+use Rattle.path_labels.specs.tails.Listed.{AreTheMoves, AreThePlaces, Listed}
 use Rattle.ask_turns.specs.Certified.{Passes}
 
 -- The certificate beside the answer that there is no path passes the check for the request.

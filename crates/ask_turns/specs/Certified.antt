@@ -9,8 +9,8 @@ use Rattle.rail_types.specs.declared.paths.Path.{Path}
 use Rattle.rail_types.specs.Limits.{IsRequestWithinLimits}
 use Rattle.path_labels.specs.Answers.{IsCertificate, IsFinding, before, last_leave}
 use Rattle.refusal_proof.specs.Proofs.{IsProof}
-use Rattle.tail_states.specs.declared.certificates.Closed.{Closed}
-use Rattle.tail_states.specs.Listed.{AreTheMoves, AreThePlaces, Listed}
+use Rattle.path_labels.specs.tails.declared.certificates.Closed.{Closed}
+use Rattle.path_labels.specs.tails.Listed.{AreTheMoves, AreThePlaces, Listed}
 use Rattle.ask_turns.specs.declared.certificates.searches.Certified.{Certified}
 
 -- All that the check asks of a request and of members holds, and they pass: the places are those of

@@ -1,8 +1,8 @@
 -- What a client knows of the history.
 use Rattle.std.specs.Prelude.{◌≡◌, List, length}
 use Rattle.book_gate.specs.Views.{StartsWith}
-use Rattle.occupation_book.specs.Held.{held}
-use Rattle.grant_log.specs.Following.{AreLive}
+use Rattle.path_commit.specs.claims.Held.{held}
+use Rattle.path_commit.specs.history.Following.{AreLive}
 use Rattle.rail_types.specs.declared.entries.Entry.{Entry}
 use Rattle.rail_types.specs.Timetables.{Timetable}
 use Rattle.ask_turns.specs.declared.client_turns.clients.Client.{Client}

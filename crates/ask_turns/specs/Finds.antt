@@ -2,8 +2,8 @@
 use Rattle.std.specs.Prelude.{◌≡◌, ◌≤◌, ℕ, List, All, length, Option, None, Some}
 use Rattle.blocking_time.specs.Possible.{IsPossible}
 use Rattle.byte_fields.specs.Buffered.{Buffered}
-use Rattle.grant_log.specs.Legal.{IsWantedOn}
-use Rattle.grant_log.specs.Meanings.{IsNumbered}
+use Rattle.path_commit.specs.history.Legal.{IsWantedOn}
+use Rattle.path_commit.specs.history.Meanings.{IsNumbered}
 use Rattle.path_labels.specs.Answers.{IsEarliest, claims_held}
 use Rattle.rail_types.specs.declared.entries.Deed.TheVariants.{Grant}
 use Rattle.rail_types.specs.declared.entries.Entry.{Entry}
@@ -17,7 +17,7 @@ use Rattle.rail_types.specs.declared.tracks.Network.{Network}
 use Rattle.rail_types.specs.Flaws.{first_flaw}
 use Rattle.rail_types.specs.Limits.{IsRequestWithinLimits, IsSettingsWithinLimits}
 use Rattle.client_lines.specs.Rooms.{PrintsRuns, room_for}
-use Rattle.tail_states.specs.Listed.{AreTheMoves, AreThePlaces}
+use Rattle.path_labels.specs.tails.Listed.{AreTheMoves, AreThePlaces}
 use Rattle.ask_turns.specs.declared.client_turns.clients.Client.{Client}
 use Rattle.ask_turns.specs.declared.asks.Ask.{Ask}
 use Rattle.ask_turns.specs.declared.asks.Found.{Found}

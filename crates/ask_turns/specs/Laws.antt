@@ -2,9 +2,9 @@
 use Rattle.std.specs.Prelude.{◌≢◌, ℕ, List, All, length}
 use Rattle.blocking_time.specs.Possible.{CanBeGranted}
 use Rattle.book_gate.specs.Views.{StartsWith}
-use Rattle.grant_log.specs.declared.verdicts.Verdict.TheVariants.{Fresh}
-use Rattle.grant_log.specs.Legal.{Joins}
-use Rattle.grant_log.specs.Verdict.{verdict_on}
+use Rattle.path_commit.specs.history.declared.verdicts.Verdict.TheVariants.{Fresh}
+use Rattle.path_commit.specs.history.Legal.{Joins}
+use Rattle.path_commit.specs.history.Verdict.{verdict_on}
 use Rattle.path_commit.specs.Answers.{IsTaken}
 use Rattle.rail_types.specs.declared.entries.Entry.{Entry}
 use Rattle.rail_types.specs.declared.entries.Settings.{Settings}

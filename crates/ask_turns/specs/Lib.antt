@@ -8,3 +8,6 @@ pub mod Tries
 pub mod Clients
 pub mod Told
 pub mod Turns
+pub use Rattle.path_commit.specs.journal as journal
+pub use Rattle.path_commit.specs.history as history
+pub use Rattle.path_labels.specs.tails as tails

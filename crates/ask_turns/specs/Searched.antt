@@ -2,7 +2,7 @@
 use Rattle.std.specs.Prelude.{◌≡◌, ◌<◌, ℕ, List, length, map}
 use Rattle.book_gate.specs.Views.{StartsWith}
 use Rattle.blocking_time.specs.Possible.{CanBeGranted, IsPossible}
-use Rattle.grant_log.specs.Live.{claims_of, live_claims}
+use Rattle.path_commit.specs.history.Live.{claims_of, live_claims}
 use Rattle.path_commit.specs.Clashes.{IsLastClash}
 use Rattle.path_labels.specs.Answers.{IsEarliest}
 use Rattle.rail_types.specs.declared.entries.Deed.TheVariants.{Grant}

@@ -5,11 +5,11 @@ use Rattle.outside_io.specs.Faults.{Rose}
 use Rattle.rail_types.specs.declared.entries.Deed.{Deed}
 use Rattle.rail_types.specs.declared.entries.Entry.{Entry}
 use Rattle.rail_types.specs.Timetables.{Timetable}
-use Rattle.grant_log.specs.declared.verdicts.Verdict.{Verdict}
-use Rattle.grant_log.specs.declared.verdicts.Verdict.TheVariants as verdict
-use Rattle.grant_log.specs.Legal.{Joins}
-use Rattle.grant_log.specs.Live.{claims_of, freed_by, live_claims}
-use Rattle.grant_log.specs.Verdict.{place_of, repeat_at, verdict_on}
+use Rattle.path_commit.specs.history.declared.verdicts.Verdict.{Verdict}
+use Rattle.path_commit.specs.history.declared.verdicts.Verdict.TheVariants as verdict
+use Rattle.path_commit.specs.history.Legal.{Joins}
+use Rattle.path_commit.specs.history.Live.{claims_of, freed_by, live_claims}
+use Rattle.path_commit.specs.history.Verdict.{place_of, repeat_at, verdict_on}
 use Rattle.path_commit.specs.Answers.{IsTaken, bytes_with, with_entry}
 use Rattle.path_commit.specs.Clashes.{IsLastClash, NoneClashesFrom}
 use Rattle.path_commit.specs.Ledgers.{Ledger, settled_of}

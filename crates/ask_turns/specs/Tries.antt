@@ -1,7 +1,7 @@
 -- The searches of an ask with their turns.
 use Rattle.std.specs.Prelude.{◌≡◌, ◌⊎◌, ℕ, zero, suc, ◌<◌, List, length, None}
-use Rattle.grant_log.specs.Legal.{Joins}
-use Rattle.grant_log.specs.declared.verdicts.Verdict.TheVariants as verdict
+use Rattle.path_commit.specs.history.Legal.{Joins}
+use Rattle.path_commit.specs.history.declared.verdicts.Verdict.TheVariants as verdict
 use Rattle.rail_types.specs.declared.paths.Path.{Path}
 use Rattle.rail_types.specs.declared.paths.Run.{Run}
 use Rattle.rail_types.specs.Timetables.{Timetable}

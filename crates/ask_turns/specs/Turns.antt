@@ -6,9 +6,9 @@ use Rattle.book_gate.specs.declared.gates.Pass.{Pass}
 use Rattle.book_gate.specs.declared.views.View.{View}
 use Rattle.book_gate.specs.Passes.{view, opened, IsOf, IsIdle, IsInTurn, OpensTurn}
 use Rattle.book_gate.specs.Views.{StartsWith, turn}
-use Rattle.grant_log.specs.declared.verdicts.Verdict.TheVariants.{Fresh}
-use Rattle.grant_log.specs.Legal.{Joins}
-use Rattle.grant_log.specs.Verdict.{verdict_on}
+use Rattle.path_commit.specs.history.declared.verdicts.Verdict.TheVariants.{Fresh}
+use Rattle.path_commit.specs.history.Legal.{Joins}
+use Rattle.path_commit.specs.history.Verdict.{verdict_on}
 use Rattle.outside_io.specs.Faults.{Rose}
 use Rattle.path_commit.specs.declared.stands.Footing.{Footing}
 use Rattle.path_commit.specs.Answers.{bytes_with}

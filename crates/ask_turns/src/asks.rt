@@ -1,8 +1,8 @@
 //! What is asked for, and what comes of it.
 
 use crate::client_turns::Entered;
+use path_labels::tails::Places;
 use rail_types::{Entry, List, Request, Run};
-use tail_states::Places;
 
 /// A path that is asked for: the client's number for it, the number of its line, the
 /// request, and the request's places.

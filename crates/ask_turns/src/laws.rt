@@ -7,7 +7,9 @@ ghost use Rattle.ask_turns.specs.Laws.{AreJudged, AreShort, HaveTicks};
 
 use crate::client_turns::Client;
 use blocking_time::{joined_claims_fit_alike, stairways_have_ticks, the_first_broken_rule_is_told};
-use grant_log::{contents_are_compared, live_claims_are_unfreed, verdicts_say_what_they_mean};
+use path_commit::history::{
+    contents_are_compared, live_claims_are_unfreed, verdicts_say_what_they_mean,
+};
 use rail_types::networks_without_flaws;
 
 // A path that can be granted has runs within their limits, few enough to print.

@@ -10,4 +10,6 @@ mod searches;
 mod tries;
 
 pub use asks::{Ask, Outcome};
+pub use path_commit::history;
+pub use path_labels::tails;
 pub use tries::try_searches;

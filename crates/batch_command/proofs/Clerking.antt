@@ -1,12 +1,13 @@
 -- Lines that a worker answered, one after another.
-use Rattle.std.proofs.Common.{◌≡◌, ℕ, suc, ◌+◌, List, [], ◌∷◌, ◌++◌, length, sym, refl, ap, ◌∙◌, subst, arith}
-use Rattle.admission_rules.specs.declared.rules.Rule.{Ghosts as Rules}
+use Rattle.std.proofs.Common.{◌≡◌, ℕ, suc, ◌+◌, List, [], ◌∷◌, ◌++◌, length, sym, refl, ap, ◌∙◌}
+use Rattle.std.proofs.Common.{subst, arith}
+use Rattle.served_clients.specs.admission.declared.rules.Rule.{Ghosts as Rules}
 use Rattle.batch_pool.specs.Batches.{Leads}
 use Rattle.batch_command.specs.Clerks.{Answers, told_of}
 use Rattle.batch_command.specs.declared.batch_server.clerks.Clerk.{Clerk}
 use Rattle.served_clients.specs.Seats.{AnswersAt}
-use Rattle.line_sessions.specs.Told.{AreAnswered, Told}
-use Rattle.client_lines.specs.declared.reply_texts.replies.Reply.{Reply}
+use Rattle.served_clients.specs.sessions.Told.{AreAnswered, Told}
+use Rattle.served_clients.specs.lines.declared.reply_texts.replies.Reply.{Reply}
 
 pub answered_append : {Desk : Type 0} (answers : Desk → ℕ → List ℕ → Reply → List ℕ → Desk → Type 0) (number : ℕ) (front back : List Told) (old mid new : Desk) (at : ℕ)
     → AreAnswered answers number front old mid → at ≡ number + length front → AreAnswered answers at back mid new → AreAnswered answers number (front ++ back) old new

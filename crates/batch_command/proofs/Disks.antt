@@ -10,9 +10,9 @@ use Rattle.outside_io.proofs.Names.{name_cases}
 use Rattle.outside_io.proofs.Places.{place_once_returned-opened}
 use Rattle.command_reports.specs.declared.exit_status.Status.TheVariants.{Opening as not_opened}
 use Rattle.command_reports.specs.Scenes.{Scene}
-use Rattle.client_lines.specs.Names.{Names}
-use Rattle.admission_rules.specs.declared.rules.Rule.{Ghosts as Rules}
-use Rattle.admission_rules.specs.declared.client_rules.clients.ClientRules.{ClientRules}
+use Rattle.served_clients.specs.lines.Names.{Names}
+use Rattle.served_clients.specs.admission.declared.rules.Rule.{Ghosts as Rules}
+use Rattle.served_clients.specs.admission.declared.client_rules.clients.ClientRules.{ClientRules}
 use Rattle.served_clients.specs.StreamClients.{pair_calls}
 use Rattle.served_clients.proofs.StreamStops.{opens_moved_all}
 use Rattle.served_clients.proofs.Uses.{exchanged_at}
@@ -20,7 +20,7 @@ use Rattle.command_line.specs.declared.client_words.clients.ClientWord.{ClientWo
 use Rattle.command_reports.specs.Refusals.{IsTold, line_with}
 use Rattle.command_reports.specs.Works.{KeepsTo, Misses}
 use Rattle.command_reports.specs.declared.refusals.Refusal.{Refusal}
-use Rattle.path_commit.specs.Ledgers.{Ledger}
+use Rattle.served_clients.specs.book.Ledgers.{Ledger}
 use Rattle.served_clients.specs.declared.serve_reports.ends.Ends.{Ends}
 use Rattle.served_clients.specs.Files.{known_by}
 use Rattle.served_clients.specs.ServedJournals.{IsFound}
@@ -28,9 +28,12 @@ use Rattle.served_clients.specs.Rounds.{DiskHalts, DiskRefuses}
 use Rattle.served_clients.specs.declared.served_journals.files.Files.{Files}
 use Rattle.served_clients.proofs.Remains.{remains_by}
 use Rattle.served_clients.proofs.Halts.{halted_round, halted_sinks, halted_sources}
-use Rattle.served_clients.proofs.JournalRounds.{disk_open, DiskIsRefused, exchanged, IsRound, other_stands, refused_round, round_only, same_sinks, same_sources, unopened_only, unopened_unready}
+use Rattle.served_clients.proofs.JournalRounds.{disk_open, DiskIsRefused, exchanged, IsRound}
+use Rattle.served_clients.proofs.JournalRounds.{other_stands, refused_round, round_only, same_sinks}
+use Rattle.served_clients.proofs.JournalRounds.{same_sources, unopened_only, unopened_unready}
 use Rattle.batch_command.specs.Books.{Answers, BookSays, Declines, HadPair}
-use Rattle.batch_command.specs.Journals.{BatchSays, BatchStep, DiskDeclines, DiskSays, Refuses, Stops}
+use Rattle.batch_command.specs.Journals.{BatchSays, BatchStep, DiskDeclines, DiskSays, Refuses}
+use Rattle.batch_command.specs.Journals.{Stops}
 
 -- what is said of the disk of a book over which a list was answered, or not
 pub disk_by : {Src Snk Dsk L : Type 0} (source : Sources Src) (sink : Sinks Snk) (disk : Disks Dsk) (rule_kind : Rules L) (files : Files) (name : List ℕ) (client : ClientWord) (workers : ℕ) (rules : List (ClientRules L)) (before after : Dsk) (found : Ledger Dsk) (old new : Scene Src Snk Dsk) (result : Result Ends Refusal)

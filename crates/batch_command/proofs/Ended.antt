@@ -1,33 +1,42 @@
 -- What a run of `batch` comes to.
-use Rattle.std.proofs.Common.{◌≡◌, ◌≢◌, ◌∙◌, ℕ, false, List, ◌∷◌, Result, Ok, Err, inl, inr, refl, sym, ap}
+use Rattle.std.proofs.Common.{◌≡◌, ◌≢◌, ◌∙◌, ℕ, false, List, ◌∷◌, Result, Ok, Err, inl, inr, refl}
+use Rattle.std.proofs.Common.{sym, ap}
 use Rattle.outside_io.specs.Openings.{disk_at, Opening, Standing}
 use Rattle.outside_io.specs.Places.{Untouched}
 use Rattle.outside_io.specs.declared.disks.Disk.{Ghosts as Disks}
 use Rattle.outside_io.specs.declared.sinks.Sink.{Ghosts as Sinks}
 use Rattle.outside_io.specs.declared.sources.Source.{Ghosts as Sources}
 use Rattle.command_reports.specs.declared.exit_status.Status.{Status}
-use Rattle.command_reports.specs.declared.exit_status.Status.TheVariants.{Done, No, Words, Network, Base, Trains, Journal, Opening as not_opened, DiskFault, ClientEnd, Report, Memory}
+use Rattle.command_reports.specs.declared.exit_status.Status.TheVariants.{Done, No, Words, Network}
+use Rattle.command_reports.specs.declared.exit_status.Status.TheVariants.{Base, Trains, Journal}
+use Rattle.command_reports.specs.declared.exit_status.Status.TheVariants.{Opening as not_opened}
+use Rattle.command_reports.specs.declared.exit_status.Status.TheVariants.{DiskFault, ClientEnd}
+use Rattle.command_reports.specs.declared.exit_status.Status.TheVariants.{Report, Memory}
 use Rattle.command_reports.specs.Scenes.{Scene}
 use Rattle.command_reports.specs.Writing.{ReportSays}
-use Rattle.line_sessions.specs.declared.sessions.Ended.{Ended}
-use Rattle.line_sessions.specs.declared.sessions.Why.{Why}
-use Rattle.line_sessions.specs.declared.sessions.Why.TheVariants as why
+use Rattle.served_clients.specs.sessions.declared.sessions.Ended.{Ended}
+use Rattle.served_clients.specs.sessions.declared.sessions.Why.{Why}
+use Rattle.served_clients.specs.sessions.declared.sessions.Why.TheVariants as why
 use Rattle.batch_command.specs.declared.list_lines.lists.ListFault.{ListFault}
-use Rattle.batch_command.specs.declared.list_lines.lists.ListFault.TheVariants.{ReadFault, LongLine, LineCount, Memory as of_list}
+use Rattle.batch_command.specs.declared.list_lines.lists.ListFault.TheVariants.{ReadFault, LongLine}
+use Rattle.batch_command.specs.declared.list_lines.lists.ListFault.TheVariants.{LineCount}
+use Rattle.batch_command.specs.declared.list_lines.lists.ListFault.TheVariants.{Memory as of_list}
 use Rattle.command_reports.specs.Refusals.{IsTold, status_of}
 use Rattle.command_reports.specs.declared.refusals.Refusal.{Refusal}
 use Rattle.command_reports.proofs.Steps.{follows_clean}
-use Rattle.command_files.specs.Files.{BaseStep, HasBaseFault, HasNetworkFault, HasTrainFault, IsBaseFile, IsNetworkFile, IsTrainFile, NetworkStep, TrainStep}
+use Rattle.command_files.specs.Files.{BaseStep, HasBaseFault, HasNetworkFault, HasTrainFault}
+use Rattle.command_files.specs.Files.{IsBaseFile, IsNetworkFile, IsTrainFile, NetworkStep}
+use Rattle.command_files.specs.Files.{TrainStep}
 use Rattle.command_files.specs.declared.bases.BaseFile.{BaseFile}
 use Rattle.command_files.specs.declared.files.FileKind.TheVariants as kind
 use Rattle.command_files.specs.declared.networks.NetworkFile.{NetworkFile}
 use Rattle.command_files.proofs.Refused.{file_other, memory_other, told_other}
 use Rattle.rail_types.specs.declared.trains.Train.{Train}
-use Rattle.admission_rules.specs.declared.rules.Rule.{Ghosts as Rules}
+use Rattle.served_clients.specs.admission.declared.rules.Rule.{Ghosts as Rules}
 use Rattle.batch_command.specs.Ends.{IsEnds, report_text}
 use Rattle.batch_command.specs.Flaws.{TellsStop}
 use Rattle.batch_command.specs.declared.batch_server.members.Worked.{Worked}
-use Rattle.admission_rules.specs.declared.client_rules.clients.ClientRules.{ClientRules}
+use Rattle.served_clients.specs.admission.declared.client_rules.clients.ClientRules.{ClientRules}
 use Rattle.served_clients.specs.StreamClients.{pair_calls}
 use Rattle.served_clients.specs.Refusing.{AreMade, WhyStopped}
 use Rattle.command_line.specs.declared.client_words.clients.ClientWord.{ClientWord}

@@ -2,7 +2,7 @@
 use Rattle.std.proofs.Common.{◌≡◌, ◌∙◌, ℕ, List, [], get_or, nat_eq, ap, refl}
 use Rattle.std.proofs.lemmas.List.Splits.{slice_split_at, slice_split_none}
 use Rattle.std.specs.List.{slice_split}
-use Rattle.client_lines.specs.Cuts.{IsCutAt, Lacks}
+use Rattle.served_clients.specs.lines.Cuts.{IsCutAt, Lacks}
 use Rattle.batch_command.specs.Asks.{first_field}
 
 pub first_cut : (line front back : List ℕ) → IsCutAt 32 line front back → first_field line ≡ front

@@ -1,14 +1,18 @@
 -- How a list is read line by line, and how that ends.
-use Rattle.std.proofs.Common.{◌≡◌, ◌∙◌, ℕ, ◌+◌, ◌<◌, ◌≤◌, List, [], ◌∷◌, ◌++◌, length, All, refl, sym, ap, arith, append_assoc, append-nil, subst}
+use Rattle.std.proofs.Common.{◌≡◌, ◌∙◌, ℕ, ◌+◌, ◌<◌, ◌≤◌, List, [], ◌∷◌, ◌++◌, length, All, refl}
+use Rattle.std.proofs.Common.{sym, ap, arith, append_assoc, append-nil, subst}
 use Rattle.std.proofs.lemmas.List.{length_push}
 use Rattle.std.proofs.lemmas.List.Elements.{All-nil, All-push}
 use Rattle.std.specs.Io.KnownBytes.{Consumes, Keeps}
 use Rattle.std.proofs.KnownBytes.{Consumes-nil, Consumes-trans}
-use Rattle.line_sessions.specs.Ends.{Begins}
-use Rattle.line_sessions.specs.Lines.{ended, IsLine, line_end, lines_of}
-use Rattle.line_sessions.specs.Streams.{Came, CameLast, CameLastLine, CameLine, CameLong, CameMore, PartThenFault}
-use Rattle.line_sessions.specs.declared.sessions.TheConstants.{MAX_LINES}
-use Rattle.line_sessions.proofs.SessionSteps.{ended-append, have_no_end, line_text, lines_of-ended, lines_of-last, unless_empty-some}
+use Rattle.served_clients.specs.sessions.Ends.{Begins}
+use Rattle.served_clients.specs.sessions.Lines.{ended, IsLine, line_end, lines_of}
+use Rattle.served_clients.specs.sessions.Streams.{Came, CameLast, CameLastLine, CameLine, CameLong}
+use Rattle.served_clients.specs.sessions.Streams.{CameMore, PartThenFault}
+use Rattle.served_clients.specs.sessions.declared.sessions.TheConstants.{MAX_LINES}
+use Rattle.served_clients.proofs.sessions_lemmas.SessionSteps.{ended-append, have_no_end, line_text}
+use Rattle.served_clients.proofs.sessions_lemmas.SessionSteps.{lines_of-ended, lines_of-last}
+use Rattle.served_clients.proofs.sessions_lemmas.SessionSteps.{unless_empty-some}
 use Rattle.batch_command.specs.LineLists.{AreTooMany, IsBroken, IsTooLong, IsWanted, IsWhole}
 use Rattle.outside_io.specs.Faults.{Rose}
 use Rattle.outside_io.specs.declared.sources.Source.{Ghosts as Sources}

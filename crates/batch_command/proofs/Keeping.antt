@@ -1,17 +1,21 @@
 -- Lines that are a worker's own, answered by it one after another.
-use Rattle.std.proofs.Common.{◌≡◌, ℕ, ◌+◌, ◌<◌, ◌≤◌, All, true, false, cond, List, [], ◌∷◌, ◌++◌, Option, None, Some, get_or, length, nat_eq, set, sym, refl, ap, ◌∙◌, subst, arith}
+use Rattle.std.proofs.Common.{◌≡◌, ℕ, ◌+◌, ◌<◌, ◌≤◌, All, true, false, cond, List, [], ◌∷◌, ◌++◌}
+use Rattle.std.proofs.Common.{Option, None, Some, get_or, length, nat_eq, set, sym, refl, ap, ◌∙◌}
+use Rattle.std.proofs.Common.{subst, arith}
 use native.Mathlib.Decide.{ℕ_discrete}
 use Rattle.std.proofs.lemmas.Bool.{eq-eqb, ne_eqb}
-use Rattle.std.proofs.lemmas.List.{append-nil, get_or_default, get_or-set_other, get_or-set_same, length_push}
+use Rattle.std.proofs.lemmas.List.{append-nil, get_or_default, get_or-set_other, get_or-set_same}
+use Rattle.std.proofs.lemmas.List.{length_push}
 use Rattle.std.proofs.lemmas.List.Elements.{All-set}
-use Rattle.admission_rules.specs.declared.rules.Rule.{Ghosts as Rules}
+use Rattle.served_clients.specs.admission.declared.rules.Rule.{Ghosts as Rules}
 use Rattle.batch_command.specs.Batches.{is_of, line_at}
-use Rattle.batch_command.specs.Clerks.{Answers, answers_by, EachWent, IsSound, lines_left, told_of, Went}
+use Rattle.batch_command.specs.Clerks.{Answers, answers_by, EachWent, IsSound, lines_left, told_of}
+use Rattle.batch_command.specs.Clerks.{Went}
 use Rattle.batch_command.specs.declared.batch_server.clerks.Clerk.{Clerk}
 use Rattle.served_clients.specs.Seats.{AnswersAt}
 use Rattle.served_clients.proofs.Owned.{filter-append}
-use Rattle.line_sessions.specs.Told.{AreAnswered}
-use Rattle.client_lines.specs.declared.reply_texts.replies.Reply.{Reply}
+use Rattle.served_clients.specs.sessions.Told.{AreAnswered}
+use Rattle.served_clients.specs.lines.declared.reply_texts.replies.Reply.{Reply}
 use Rattle.batch_command.proofs.Clerking.{answered_append, length_told, told_append}
 
 -- those of the answers that are to lines of one worker, with one answer more

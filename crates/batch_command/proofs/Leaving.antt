@@ -1,17 +1,17 @@
 -- Workers that leave their seats, one after another.
 use Rattle.std.proofs.Common.{◌≡◌, List, [], ◌∷◌, ◌++◌, All, sym, subst, ◌∙◌, arith}
 use Rattle.std.proofs.lemmas.List.Elements.{All-nil, All-push}
-use Rattle.admission_rules.specs.declared.rules.Rule.{Ghosts as Rules}
+use Rattle.served_clients.specs.admission.declared.rules.Rule.{Ghosts as Rules}
 use Rattle.batch_command.specs.Seating.{HaveLeft}
 use Rattle.batch_command.specs.declared.batch_server.clerks.Clerk.{Clerk}
-use Rattle.book_gate.specs.Passes.{view}
-use Rattle.book_gate.specs.Views.{StartsWith}
+use Rattle.served_clients.specs.gate.Passes.{view}
+use Rattle.served_clients.specs.gate.Views.{StartsWith}
 use Rattle.served_clients.specs.Joins.{AreJoined}
 use Rattle.served_clients.specs.Seats.{IsDone}
 use Rattle.served_clients.specs.Talks.{Talk}
 use Rattle.served_clients.proofs.Joins.{joined_none}
-use Rattle.ask_turns.specs.Turns.{Sight}
-use Rattle.line_answers.specs.declared.shared.Shared.{Shared}
+use Rattle.served_clients.specs.turns.Turns.{Sight}
+use Rattle.served_clients.specs.answers.declared.shared.Shared.{Shared}
 use Rattle.rail_types.specs.declared.entries.Entry.{Entry}
 use Rattle.batch_command.proofs.Matched.{All-left, All-right, last_of, matched_none}
 

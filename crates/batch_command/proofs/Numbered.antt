@@ -1,6 +1,6 @@
 -- Numbers of lines, one more.
 use Rattle.std.proofs.Common.{ℕ, List, [], ◌∷◌, ◌++◌, Option}
-use Rattle.client_lines.specs.Names.{Names}
+use Rattle.served_clients.specs.lines.Names.{Names}
 use Rattle.batch_command.specs.Numbers.{AreNumbered, IsNumbered}
 
 pub numbered_more : (known : Names) (lines : List (List ℕ)) (numbers : List (Option ℕ)) (line : List ℕ) (number : Option ℕ)

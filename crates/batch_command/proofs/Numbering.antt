@@ -1,12 +1,13 @@
 -- The number by which a line asks is one.
-use Rattle.std.proofs.Common.{◌≡◌, ◌∙◌, ap, sym, refl, ℕ, List, [], ◌∷◌, None, Option, Some, Ok, Result}
-use Rattle.client_lines.specs.Cuts.{fields_of}
-use Rattle.client_lines.specs.Forms.{Spells}
-use Rattle.client_lines.specs.Lines.{a_line}
-use Rattle.client_lines.specs.Names.{Names}
-use Rattle.client_lines.specs.declared.asks.Line.{Line}
-use Rattle.client_lines.proofs.FormLaws.{spelled_line}
-use Rattle.client_lines.proofs.Meanings.{NameLaws}
+use Rattle.std.proofs.Common.{◌≡◌, ◌∙◌, ap, sym, refl, ℕ, List, [], ◌∷◌, None, Option, Some, Ok}
+use Rattle.std.proofs.Common.{Result}
+use Rattle.served_clients.specs.lines.Cuts.{fields_of}
+use Rattle.served_clients.specs.lines.Forms.{Spells}
+use Rattle.served_clients.specs.lines.Lines.{a_line}
+use Rattle.served_clients.specs.lines.Names.{Names}
+use Rattle.served_clients.specs.lines.declared.asks.Line.{Line}
+use Rattle.served_clients.proofs.lines_lemmas.FormLaws.{spelled_line}
+use Rattle.served_clients.proofs.lines_lemmas.Meanings.{NameLaws}
 use Rattle.batch_command.specs.Numbers.{AreNumbered, asked_number, IsNumbered}
 
 same_value : (a b : Line) → ◌≡◌ {A = Result Line ℕ} (Ok a) (Ok b) → a ≡ b

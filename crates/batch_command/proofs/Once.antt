@@ -1,7 +1,8 @@
 -- A list comes to one flaw at most.
-use Rattle.std.proofs.Common.{◌≡◌, ◌∙◌, ap, sym, subst, ℕ, ◌<◌, ◌⊎◌, inl, inr, ⊎_elim, true≢false, List, [], None, Option, Some, arith}
+use Rattle.std.proofs.Common.{◌≡◌, ◌∙◌, ap, sym, subst, ℕ, ◌<◌, ◌⊎◌, inl, inr, ⊎_elim, true≢false}
+use Rattle.std.proofs.Common.{List, [], None, Option, Some, arith}
 use Rattle.batch_command.specs.Flaws.{needed_line, no_ask_line, twice_line}
-use Rattle.client_lines.specs.Names.{Names}
+use Rattle.served_clients.specs.lines.Names.{Names}
 use Rattle.batch_command.specs.Asks.{first_no_ask}
 use Rattle.batch_command.specs.Numbers.{first_repeat, NumbersAreOne}
 use Rattle.rail_types.specs.declared.entries.Entry.{Entry}

@@ -1,9 +1,12 @@
 -- What came of a list, once all workers have left their seats.
-use Rattle.std.proofs.Common.{◌≡◌, ℕ, ◌<◌, All, IsPermutation, List, [], ◌∷◌, ◌++◌, Option, None, Some, IfSome, flat_map, length, map, option_map, sym, refl, ap, ◌∙◌, subst, arith}
+use Rattle.std.proofs.Common.{◌≡◌, ℕ, ◌<◌, All, IsPermutation, List, [], ◌∷◌, ◌++◌, Option, None}
+use Rattle.std.proofs.Common.{Some, IfSome, flat_map, length, map, option_map, sym, refl, ap, ◌∙◌}
+use Rattle.std.proofs.Common.{subst, arith}
 use Rattle.std.proofs.lemmas.List.{length-map, map-append}
-use Rattle.std.proofs.lemmas.List.Sorted.{IsPermutation-append, IsPermutation-append_right, IsPermutation-trans, length_permutation}
+use Rattle.std.proofs.lemmas.List.Sorted.{IsPermutation-append, IsPermutation-append_right}
+use Rattle.std.proofs.lemmas.List.Sorted.{IsPermutation-trans, length_permutation}
 use Rattle.std.specs.List.{range_with_len}
-use Rattle.admission_rules.specs.declared.rules.Rule.{Ghosts as Rules}
+use Rattle.served_clients.specs.admission.declared.rules.Rule.{Ghosts as Rules}
 use Rattle.batch_pool.specs.Batches.{all_places, AreMatched}
 use Rattle.batch_pool.specs.declared.workers.Served.{Served}
 use Rattle.batch_pool.proofs.Ends.{all_mapped}
@@ -14,13 +17,15 @@ use Rattle.batch_command.specs.Seating.{HaveLeft, IsClerkOf, worked_of}
 use Rattle.batch_command.specs.declared.batch_server.clerks.Clerk.{Clerk}
 use Rattle.batch_command.specs.declared.batch_server.members.Member.{Member}
 use Rattle.served_clients.specs.Seats.{IsBack}
-use Rattle.ask_turns.specs.Turns.{Sight}
-use Rattle.line_answers.specs.declared.shared.Shared.{Shared}
+use Rattle.served_clients.specs.turns.Turns.{Sight}
+use Rattle.served_clients.specs.answers.declared.shared.Shared.{Shared}
 use Rattle.batch_command.specs.InOrder.{all_answers, AreInOrder, AreWhole, places, reply_at}
-use Rattle.client_lines.specs.declared.reply_texts.replies.Reply.{Reply}
+use Rattle.served_clients.specs.lines.declared.reply_texts.replies.Reply.{Reply}
 use Rattle.batch_command.proofs.Matched.{All-left, All-right}
 use Rattle.batch_command.proofs.Places.{all_own, owned_and_free}
-use Rattle.batch_command.proofs.Shares.{all_back, all_done, all_given, all_still, all_told, all_worked, AreOnes, IsServedOne, names_are, One, own_first, shares_are, shares_from, talks_from, Zipped, zipped}
+use Rattle.batch_command.proofs.Shares.{all_back, all_done, all_given, all_still, all_told}
+use Rattle.batch_command.proofs.Shares.{all_worked, AreOnes, IsServedOne, names_are, One, own_first}
+use Rattle.batch_command.proofs.Shares.{shares_are, shares_from, talks_from, Zipped, zipped}
 
 -- the places that come back from a batch, worker by worker
 served_places : {W : Type 0} (served : List (Served W Reply)) → all_places served ≡ places (flat_map (λ part. part) (map (λ s. s.answers) served))

@@ -1,17 +1,23 @@
 -- Places of the lines of a list: whose they are, and how workers share them.
-use Rattle.std.proofs.Common.{◌≡◌, ◌≢◌, ℕ, zero, suc, ◌+◌, ◌<◌, ◌≤◌, Bool, true, false, cond, not, ◌||◌, All, List, [], ◌∷◌, ◌++◌, IsPermutation, Option, None, Some, IfSome, filter, flat_map, get_or, is_none, is_some, length, ap, sym, ◌∙◌, subst, refl, arith, length-append, ⊎_elim, true≢false}
+use Rattle.std.proofs.Common.{◌≡◌, ◌≢◌, ℕ, zero, suc, ◌+◌, ◌<◌, ◌≤◌, Bool, true, false, cond, not}
+use Rattle.std.proofs.Common.{◌||◌, All, List, [], ◌∷◌, ◌++◌, IsPermutation, Option, None, Some}
+use Rattle.std.proofs.Common.{IfSome, filter, flat_map, get_or, is_none, is_some, length, ap, sym}
+use Rattle.std.proofs.Common.{◌∙◌, subst, refl, arith, length-append, ⊎_elim, true≢false}
 use Rattle.std.proofs.lemmas.Bool.{eqb-true, ne_eqb}
 use Rattle.std.proofs.lemmas.Bool.Decides.{eqb_tells}
 use Rattle.std.proofs.lemmas.List.{length-map}
 use Rattle.std.proofs.lemmas.List.Elements.{All-cons, All-head, All-nil, All-tail}
 use Rattle.std.proofs.lemmas.List.FromFn.{get_or-range_with_len, length-range_with_len}
-use Rattle.std.proofs.lemmas.List.Sorted.{IsPermutation-append_right, IsPermutation-cons, IsPermutation-filter_both, IsPermutation-middle, IsPermutation-refl, IsPermutation-sym, IsPermutation-trans, length_permutation}
+use Rattle.std.proofs.lemmas.List.Sorted.{IsPermutation-append_right, IsPermutation-cons}
+use Rattle.std.proofs.lemmas.List.Sorted.{IsPermutation-filter_both, IsPermutation-middle}
+use Rattle.std.proofs.lemmas.List.Sorted.{IsPermutation-refl, IsPermutation-sym}
+use Rattle.std.proofs.lemmas.List.Sorted.{IsPermutation-trans, length_permutation}
 use Rattle.std.specs.List.{range_with_len}
 use Rattle.batch_command.specs.Batches.{is_of, own_places}
 use Rattle.batch_command.specs.Clerks.{free_places, owned_places}
 use Rattle.served_clients.proofs.Owned.{All-filtered, filter-alike, filter-append}
 use Rattle.batch_command.specs.InOrder.{places}
-use Rattle.client_lines.specs.declared.reply_texts.replies.Reply.{Reply}
+use Rattle.served_clients.specs.lines.declared.reply_texts.replies.Reply.{Reply}
 
 -- ---- filters
 

@@ -1,33 +1,40 @@
 -- The workers, each with what it answered, together.
-use Rattle.std.proofs.Common.{◌≡◌, ℕ, zero, suc, ◌+◌, ◌<◌, All, Bool, true, false, cond, IsPermutation, List, [], ◌∷◌, ◌++◌, Option, None, Some, filter, flat_map, get_or, is_some, length, map, sym, refl, ap, ◌∙◌, subst, arith, append_assoc, length-append, true≢false}
+use Rattle.std.proofs.Common.{◌≡◌, ℕ, zero, suc, ◌+◌, ◌<◌, All, Bool, true, false, cond}
+use Rattle.std.proofs.Common.{IsPermutation, List, [], ◌∷◌, ◌++◌, Option, None, Some, filter}
+use Rattle.std.proofs.Common.{flat_map, get_or, is_some, length, map, sym, refl, ap, ◌∙◌, subst}
+use Rattle.std.proofs.Common.{arith, append_assoc, length-append, true≢false}
 use Rattle.std.proofs.lemmas.List.{map-append}
 use Rattle.std.proofs.lemmas.List.Elements.{All-cons, All-head, All-nil, All-tail}
-use Rattle.std.proofs.lemmas.List.Sorted.{IsPermutation-append_comm, IsPermutation-append_left, IsPermutation-append_right, IsPermutation-refl, IsPermutation-trans}
+use Rattle.std.proofs.lemmas.List.Sorted.{IsPermutation-append_comm, IsPermutation-append_left}
+use Rattle.std.proofs.lemmas.List.Sorted.{IsPermutation-append_right, IsPermutation-refl}
+use Rattle.std.proofs.lemmas.List.Sorted.{IsPermutation-trans}
 use Rattle.std.specs.List.{range_with_len}
-use Rattle.admission_rules.specs.declared.rules.Rule.{Ghosts as Rules}
+use Rattle.served_clients.specs.admission.declared.rules.Rule.{Ghosts as Rules}
 use Rattle.batch_pool.specs.Batches.{AreMatched, IsServed, Leads}
 use Rattle.batch_pool.specs.declared.workers.Served.{Served}
-use Rattle.batch_command.specs.Batches.{AreGiven, AreTold, BeginWithOwn, HasWorked, is_of, line_at, own_places}
-use Rattle.batch_command.specs.Clerks.{Answers, answers_by, EachWent, IsFresh, IsSound, lines_left, owned_places, told_of, Went}
+use Rattle.batch_command.specs.Batches.{AreGiven, AreTold, BeginWithOwn, HasWorked, is_of, line_at}
+use Rattle.batch_command.specs.Batches.{own_places}
+use Rattle.batch_command.specs.Clerks.{Answers, answers_by, EachWent, IsFresh, IsSound, lines_left}
+use Rattle.batch_command.specs.Clerks.{owned_places, told_of, Went}
 use Rattle.batch_command.specs.Seating.{IsClerkOf, worked_of}
 use Rattle.batch_command.specs.InOrder.{places, reply_at}
 use Rattle.batch_command.specs.declared.batch_server.clerks.Clerk.{Clerk}
 use Rattle.batch_command.specs.declared.batch_server.members.Member.{Member}
-use Rattle.book_gate.specs.Passes.{view}
-use Rattle.book_gate.specs.Views.{StartsWith}
-use Rattle.admission_rules.specs.Ruled.{stand}
-use Rattle.admission_rules.specs.Told.{told_at}
+use Rattle.served_clients.specs.gate.Passes.{view}
+use Rattle.served_clients.specs.gate.Views.{StartsWith}
+use Rattle.served_clients.specs.admission.Ruled.{stand}
+use Rattle.served_clients.specs.admission.Told.{told_at}
 use Rattle.served_clients.specs.ClientRuns.{AreMatched as AreMatched3, owned}
 use Rattle.served_clients.specs.Seats.{AnswersAt, callers_at, found_at, IsBack, IsDone}
 use Rattle.served_clients.specs.Talks.{printed, Talk}
 use Rattle.served_clients.proofs.Done.{seat_done, talk_at}
 use Rattle.served_clients.proofs.Histories.{given_within}
 use Rattle.served_clients.proofs.Owned.{told_at-longer, told_whole}
-use Rattle.line_answers.specs.declared.shared.Shared.{Shared}
-use Rattle.line_sessions.specs.Ends.{Traffic}
-use Rattle.line_sessions.specs.Told.{AreAnswered, lines_told, Told}
+use Rattle.served_clients.specs.answers.declared.shared.Shared.{Shared}
+use Rattle.served_clients.specs.sessions.Ends.{Traffic}
+use Rattle.served_clients.specs.sessions.Told.{AreAnswered, lines_told, Told}
 use Rattle.rail_types.specs.declared.entries.Entry.{Entry}
-use Rattle.client_lines.specs.declared.reply_texts.replies.Reply.{Reply}
+use Rattle.served_clients.specs.lines.declared.reply_texts.replies.Reply.{Reply}
 use Rattle.batch_command.proofs.Clerking.{answered_append, leads_led, Led, length_told, told_append}
 use Rattle.batch_command.proofs.Matched.{All-left, All-right}
 use Rattle.batch_command.proofs.Places.{filter_within, map_filter}

@@ -1,9 +1,13 @@
 -- A table to whose places all answers were put, each to its own, has all of them.
-use Rattle.std.proofs.Common.{◌≡◌, ◌≢◌, ℕ, zero, suc, ◌+◌, ◌<◌, add-one, All, AllPairs, Contains, IsPermutation, List, [], ◌∷◌, ◌++◌, eqb, flat_map, get_or, length, map, replicate, set, sym, refl, ap, ◌∙◌, subst, arith, drop, drop-cons}
+use Rattle.std.proofs.Common.{◌≡◌, ◌≢◌, ℕ, zero, suc, ◌+◌, ◌<◌, add-one, All, AllPairs, Contains}
+use Rattle.std.proofs.Common.{IsPermutation, List, [], ◌∷◌, ◌++◌, eqb, flat_map, get_or, length}
+use Rattle.std.proofs.Common.{map, replicate, set, sym, refl, ap, ◌∙◌, subst, arith, drop}
+use Rattle.std.proofs.Common.{drop-cons}
 use Rattle.std.proofs.Math.Dec.{eqb-suc-suc, eqb-suc-zero, eqb-zero-suc}
 use Rattle.std.proofs.Math.ListN.{get_or-map}
 use Rattle.std.proofs.lemmas.Bool.Decides.{Decides-eqb}
-use Rattle.std.proofs.lemmas.List.{ext_get_or, get_or_default, get_or-set_other, get_or-set_same, length-map, length-replicate, length-set, map-append, map-set}
+use Rattle.std.proofs.lemmas.List.{ext_get_or, get_or_default, get_or-set_other, get_or-set_same}
+use Rattle.std.proofs.lemmas.List.{length-map, length-replicate, length-set, map-append, map-set}
 use Rattle.std.proofs.lemmas.List.Elements.{All-cons, All-head, All-nil, All-tail}
 use Rattle.std.proofs.lemmas.List.FromFn.{get_or-range_with_len, length-range_with_len}
 use Rattle.std.proofs.lemmas.List.Sorted.{All-permutation, Contains-permutation, IsPermutation-sym}
@@ -12,9 +16,9 @@ use Rattle.std.proofs.lemmas.Map.Made.{AllPairs-from_IsDistinct, IsDistinct-from
 use Rattle.std.specs.List.{range_with_len}
 use Rattle.batch_command.specs.InOrder.{AreInOrder, AreWhole, places}
 use Rattle.batch_command.specs.Tables.{filled, texts_by}
-use Rattle.client_lines.specs.Replies.{reply_text}
-use Rattle.client_lines.specs.declared.reply_texts.replies.Reply.{Reply}
-use Rattle.client_lines.specs.declared.reply_texts.replies.Reply.TheVariants as reply
+use Rattle.served_clients.specs.lines.Replies.{reply_text}
+use Rattle.served_clients.specs.lines.declared.reply_texts.replies.Reply.{Reply}
+use Rattle.served_clients.specs.lines.declared.reply_texts.replies.Reply.TheVariants as reply
 
 -- ---- the places of a whole list differ
 

@@ -1,14 +1,14 @@
 -- A list that was read as a whole, and then answered or refused.
 use Rattle.std.proofs.Common.{ℕ, List, Result, Ok, Err, inr}
-use Rattle.admission_rules.specs.declared.rules.Rule.{Ghosts as Rules}
-use Rattle.client_lines.specs.Names.{Names}
-use Rattle.admission_rules.specs.declared.client_rules.clients.ClientRules.{ClientRules}
+use Rattle.served_clients.specs.admission.declared.rules.Rule.{Ghosts as Rules}
+use Rattle.served_clients.specs.lines.Names.{Names}
+use Rattle.served_clients.specs.admission.declared.client_rules.clients.ClientRules.{ClientRules}
 use Rattle.command_reports.specs.declared.refusals.Refusal.{Refusal}
 use Rattle.batch_command.specs.LineLists.{IsWhole}
 use Rattle.outside_io.specs.declared.disks.Disk.{Ghosts as Disks}
 use Rattle.outside_io.specs.declared.sinks.Sink.{Ghosts as Sinks}
 use Rattle.outside_io.specs.declared.sources.Source.{Ghosts as Sources}
-use Rattle.path_commit.specs.Ledgers.{Ledger}
+use Rattle.served_clients.specs.book.Ledgers.{Ledger}
 use Rattle.served_clients.specs.declared.serve_reports.ends.Ends.{Ends}
 use Rattle.batch_command.specs.Lists.{LinesSay, ListSays}
 

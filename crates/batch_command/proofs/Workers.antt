@@ -1,27 +1,31 @@
 -- The workers of a batch, and the lines that are theirs.
-use Rattle.std.proofs.Common.{◌≡◌, ◌≢◌, ◌∙◌, ℕ, zero, suc, ◌+◌, ◌<◌, ◌≤◌, Bool, true, false, List, [], ◌∷◌, All, AllPairs, Option, None, Some, Vec, IfSome, drop, get_or, length, map, take, ◌++◌, refl, sym, ap, subst, arith, add-one}
+use Rattle.std.proofs.Common.{◌≡◌, ◌≢◌, ◌∙◌, ℕ, zero, suc, ◌+◌, ◌<◌, ◌≤◌, Bool, true, false, List}
+use Rattle.std.proofs.Common.{[], ◌∷◌, All, AllPairs, Option, None, Some, Vec, IfSome, drop, get_or}
+use Rattle.std.proofs.Common.{length, map, take, ◌++◌, refl, sym, ap, subst, arith, add-one}
 use native.Mathlib.Decide.{ℕ_discrete}
 use Rattle.std.specs.Global.{Global}
 use Rattle.std.specs.Prelude.{if◌then◌else◌, option_map}
-use Rattle.std.proofs.lemmas.List.{append-nil, get_or-map, get_or_append_left, length-append, length-map, map-append, take_all}
+use Rattle.std.proofs.lemmas.List.{append-nil, get_or-map, get_or_append_left, length-append}
+use Rattle.std.proofs.lemmas.List.{length-map, map-append, take_all}
 use Rattle.std.proofs.lemmas.List.Elements.{All-cons, All-nil}
 use Rattle.std.proofs.Math.ListN.{drop_of_length-le}
 use Rattle.std.proofs.Math.Seq.{get_or-append_seam}
-use Rattle.admission_rules.specs.declared.rules.Rule.{Ghosts as Rules}
+use Rattle.served_clients.specs.admission.declared.rules.Rule.{Ghosts as Rules}
 use Rattle.batch_command.specs.Batches.{WereAnswered}
 use Rattle.batch_command.specs.declared.batch_server.members.Member.{Member}
 use Rattle.batch_command.specs.declared.batch_server.members.Worked.{Worked}
 use Rattle.command_line.specs.Workers.{two_digits, underscore, worker_name, worker_names}
-use Rattle.command_line.specs.declared.batch_words.clients.TheConstants.{MAX_BATCH_NAME_BYTES, MAX_WORKERS}
-use Rattle.client_lines.specs.Names.{Names}
-use Rattle.admission_rules.specs.Clients.{rules_named}
-use Rattle.admission_rules.specs.declared.client_rules.clients.ClientRules.{ClientRules}
+use Rattle.command_line.specs.declared.batch_words.clients.TheConstants.{MAX_BATCH_NAME_BYTES}
+use Rattle.command_line.specs.declared.batch_words.clients.TheConstants.{MAX_WORKERS}
+use Rattle.served_clients.specs.lines.Names.{Names}
+use Rattle.served_clients.specs.admission.Clients.{rules_named}
+use Rattle.served_clients.specs.admission.declared.client_rules.clients.ClientRules.{ClientRules}
 use Rattle.batch_command.specs.Numbers.{AreNumbered}
-use Rattle.path_commit.specs.Ledgers.{Ledger}
+use Rattle.served_clients.specs.book.Ledgers.{Ledger}
 use Rattle.rail_types.specs.Limits.{IsClientName}
 use Rattle.rail_types.specs.declared.limits.TheConstants.{MAX_OWNER_BYTES}
 use Rattle.rail_types.specs.declared.entries.Entry.{Entry}
-use Rattle.client_lines.specs.Replies.{reply_text}
+use Rattle.served_clients.specs.lines.Replies.{reply_text}
 use Rattle.batch_command.specs.Owners.{owner_from, owner_of, owners_of, stands}
 use Rattle.batch_command.specs.Lists.{AreMembers}
 

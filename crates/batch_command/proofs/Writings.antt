@@ -3,7 +3,7 @@ use Rattle.std.proofs.Common.{◌≡◌, ◌∙◌, ℕ, ◌<◌, List, [], ◌+
 use Rattle.std.proofs.lemmas.List.{get_or_default}
 use Rattle.std.proofs.KnownBytes.{Appends-trans}
 use Rattle.command_reports.specs.Writing.{TookAll}
-use Rattle.line_sessions.specs.declared.sessions.Why.TheVariants.{WriteFault}
+use Rattle.served_clients.specs.sessions.declared.sessions.Why.TheVariants.{WriteFault}
 use Rattle.outside_io.specs.Stops.{StopsAt}
 use Rattle.outside_io.specs.declared.sinks.Sink.{Ghosts as Sinks}
 use Rattle.batch_command.specs.Writing.{text_of_all, WroteSome}

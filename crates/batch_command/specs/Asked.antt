@@ -1,7 +1,7 @@
 -- What a list asks for, and the flaws for which it is refused.
 use Rattle.std.specs.Prelude.{◌≡◌, ◌⊎◌, ℕ, List, [], Option, None, Some}
 use Rattle.batch_command.specs.Flaws.{needed_line, no_ask_line, twice_line}
-use Rattle.client_lines.specs.Names.{Names}
+use Rattle.served_clients.specs.lines.Names.{Names}
 use Rattle.command_reports.specs.Refusals.{IsTold}
 use Rattle.command_reports.specs.declared.refusals.Refusal.{Refusal}
 use Rattle.command_reports.specs.declared.refusals.Refusal.TheVariants.{Memory}

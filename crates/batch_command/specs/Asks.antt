@@ -1,7 +1,7 @@
 -- Lines that ask for a path.
 use Rattle.std.specs.Prelude.{ℕ, ◌+◌, Bool, List, [], ◌∷◌, Option, None, Some, bytes_eq, codes}
 use Rattle.std.specs.Prelude.{get_or, if◌then◌else◌}
-use Rattle.client_lines.specs.Cuts.{fields_of}
+use Rattle.served_clients.specs.lines.Cuts.{fields_of}
 
 -- the first field of a line
 abbrev pub first_field : List ℕ → List ℕ

@@ -2,20 +2,20 @@
 use Rattle.std.specs.Prelude.{◌≡◌, ℕ, ◌<◌, IsPermutation, List, [], ◌∷◌, Option, None, Some, filter}
 use Rattle.std.specs.Prelude.{flat_map, get_or, length, map, nat_eq, Bool, false}
 use Rattle.std.specs.List.{range_with_len}
-use Rattle.admission_rules.specs.declared.rules.Rule.{Ghosts as Rules}
+use Rattle.served_clients.specs.admission.declared.rules.Rule.{Ghosts as Rules}
 use Rattle.batch_command.specs.declared.batch_server.members.Member.{Member}
 use Rattle.batch_command.specs.declared.batch_server.members.Worked.{Worked}
-use Rattle.book_gate.specs.Views.{StartsWith}
-use Rattle.client_lines.specs.Names.{Names}
-use Rattle.admission_rules.specs.Ruled.{stand}
+use Rattle.served_clients.specs.gate.Views.{StartsWith}
+use Rattle.served_clients.specs.lines.Names.{Names}
+use Rattle.served_clients.specs.admission.Ruled.{stand}
 use Rattle.served_clients.specs.ClientRuns.{AreMatched, IsRun, told_own}
 use Rattle.served_clients.specs.Talks.{Talk}
-use Rattle.line_sessions.specs.Told.{lines_told}
+use Rattle.served_clients.specs.sessions.Told.{lines_told}
 use Rattle.batch_command.specs.InOrder.{reply_at}
-use Rattle.path_commit.specs.Ledgers.{Ledger}
+use Rattle.served_clients.specs.book.Ledgers.{Ledger}
 use Rattle.rail_types.specs.declared.entries.Entry.{Entry}
-use Rattle.client_lines.specs.Replies.{reply_text}
-use Rattle.client_lines.specs.declared.reply_texts.replies.Reply.{Reply}
+use Rattle.served_clients.specs.lines.Replies.{reply_text}
+use Rattle.served_clients.specs.lines.declared.reply_texts.replies.Reply.{Reply}
 
 -- the line of a list at a place
 abbrev pub line_at : List (List ℕ) → ℕ → List ℕ

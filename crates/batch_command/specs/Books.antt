@@ -1,8 +1,8 @@
 -- What a list over an opened journal comes to: its streams are opened, used, and put back.
 use Rattle.std.specs.Prelude.{◌≡◌, ◌⊎◌, ℕ, All, List, Result, Ok, Err}
-use Rattle.admission_rules.specs.declared.rules.Rule.{Ghosts as Rules}
-use Rattle.client_lines.specs.Names.{Names}
-use Rattle.admission_rules.specs.declared.client_rules.clients.ClientRules.{ClientRules}
+use Rattle.served_clients.specs.admission.declared.rules.Rule.{Ghosts as Rules}
+use Rattle.served_clients.specs.lines.Names.{Names}
+use Rattle.served_clients.specs.admission.declared.client_rules.clients.ClientRules.{ClientRules}
 use Rattle.served_clients.specs.StreamClients.{IsExchanged, pair_calls}
 use Rattle.served_clients.specs.Refusing.{IsOpen}
 use Rattle.command_line.specs.declared.client_words.clients.ClientWord.{ClientWord}
@@ -11,7 +11,7 @@ use Rattle.command_reports.specs.Scenes.{Scene}
 use Rattle.outside_io.specs.declared.disks.Disk.{Ghosts as Disks}
 use Rattle.outside_io.specs.declared.sinks.Sink.{Ghosts as Sinks}
 use Rattle.outside_io.specs.declared.sources.Source.{Ghosts as Sources}
-use Rattle.path_commit.specs.Ledgers.{Ledger}
+use Rattle.served_clients.specs.book.Ledgers.{Ledger}
 use Rattle.served_clients.specs.declared.serve_reports.ends.Ends.{Ends}
 use Rattle.served_clients.specs.Rounds.{IsUnserved}
 use Rattle.batch_command.specs.Lists.{IsAnswered, IsRefused}

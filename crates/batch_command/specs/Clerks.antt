@@ -2,14 +2,14 @@
 use Rattle.std.specs.Prelude.{◌≡◌, ℕ, ◌+◌, ◌-◌, ◌/◌, ◌<◌, ◌≤◌, false, List, [], filter, get_or}
 use Rattle.std.specs.Prelude.{is_none, is_some, length, map, min, Option, None, set}
 use Rattle.std.specs.List.{range_with_len}
-use Rattle.admission_rules.specs.declared.rules.Rule.{Ghosts as Rules}
+use Rattle.served_clients.specs.admission.declared.rules.Rule.{Ghosts as Rules}
 use Rattle.batch_command.specs.Batches.{is_of, line_at}
 use Rattle.batch_command.specs.declared.batch_server.clerks.Clerk.{Clerk}
-use Rattle.book_gate.specs.Passes.{turns_left}
+use Rattle.served_clients.specs.gate.Passes.{turns_left}
 use Rattle.served_clients.specs.Seats.{AnswersAt, IsSeated, IsTaken}
-use Rattle.line_answers.specs.declared.shared.Shared.{Shared}
-use Rattle.line_sessions.specs.Told.{AreAnswered, Told}
-use Rattle.client_lines.specs.declared.reply_texts.replies.Reply.{Reply}
+use Rattle.served_clients.specs.answers.declared.shared.Shared.{Shared}
+use Rattle.served_clients.specs.sessions.Told.{AreAnswered, Told}
+use Rattle.served_clients.specs.lines.declared.reply_texts.replies.Reply.{Reply}
 
 -- the greatest number of a line
 abbrev pub max_number : ℕ

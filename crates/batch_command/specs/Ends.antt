@@ -1,10 +1,10 @@
 -- The report of a batch.
 use Rattle.std.specs.Prelude.{ℕ, List, ◌++◌, codes, flat_map}
-use Rattle.admission_rules.specs.declared.rules.Rule.{Ghosts as Rules}
+use Rattle.served_clients.specs.admission.declared.rules.Rule.{Ghosts as Rules}
 use Rattle.batch_command.specs.declared.batch_server.members.Worked.{Worked}
-use Rattle.admission_rules.specs.Ruled.{stand}
-use Rattle.line_sessions.specs.declared.sessions.Ended.{Ended}
-use Rattle.line_sessions.specs.declared.sessions.Why.TheVariants.{Input}
+use Rattle.served_clients.specs.admission.Ruled.{stand}
+use Rattle.served_clients.specs.sessions.declared.sessions.Ended.{Ended}
+use Rattle.served_clients.specs.sessions.declared.sessions.Why.TheVariants.{Input}
 use Rattle.served_clients.specs.Ends.{ComeTo, end_line, status_at}
 use Rattle.served_clients.specs.Rules.{rule_lines}
 use Rattle.served_clients.specs.declared.serve_reports.ends.Ends.{Ends}

@@ -4,8 +4,8 @@ use Rattle.command_reports.specs.Refusals.{IsTold}
 use Rattle.command_reports.specs.declared.refusals.Refusal.{Refusal}
 use Rattle.command_reports.specs.declared.refusals.Refusal.TheVariants as refusal
 use Rattle.command_reports.specs.declared.exit_status.Status.TheVariants.{ClientEnd}
-use Rattle.line_sessions.specs.declared.sessions.Why.{Why}
-use Rattle.line_sessions.specs.declared.sessions.Why.TheVariants as why
+use Rattle.served_clients.specs.sessions.declared.sessions.Why.{Why}
+use Rattle.served_clients.specs.sessions.declared.sessions.Why.TheVariants as why
 use Rattle.batch_command.specs.declared.list_lines.lists.ListFault.{ListFault}
 use Rattle.batch_command.specs.declared.list_lines.lists.ListFault.TheVariants.{ReadFault, LongLine}
 use Rattle.batch_command.specs.declared.list_lines.lists.ListFault.TheVariants.{LineCount}

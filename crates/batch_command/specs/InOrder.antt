@@ -1,9 +1,9 @@
 -- Replies to the lines of a list, in the order of the list.
 use Rattle.std.specs.Prelude.{◌≡◌, ℕ, All, IsPermutation, List, ◌++◌, flat_map, get_or, length, map}
 use Rattle.std.specs.List.{range_with_len}
-use Rattle.client_lines.specs.Replies.{reply_text}
-use Rattle.client_lines.specs.declared.reply_texts.replies.Reply.{Reply}
-use Rattle.client_lines.specs.declared.reply_texts.replies.Reply.TheVariants as reply
+use Rattle.served_clients.specs.lines.Replies.{reply_text}
+use Rattle.served_clients.specs.lines.declared.reply_texts.replies.Reply.{Reply}
+use Rattle.served_clients.specs.lines.declared.reply_texts.replies.Reply.TheVariants as reply
 
 -- the places of answers
 abbrev pub places : List (ℕ × Reply) → List ℕ

@@ -1,7 +1,7 @@
 -- A journal that is opened for a list and put back.
 use Rattle.std.specs.Prelude.{◌⊎◌, ℕ, List, ◌∷◌, Result, Ok, Err}
-use Rattle.admission_rules.specs.declared.rules.Rule.{Ghosts as Rules}
-use Rattle.admission_rules.specs.declared.client_rules.clients.ClientRules.{ClientRules}
+use Rattle.served_clients.specs.admission.declared.rules.Rule.{Ghosts as Rules}
+use Rattle.served_clients.specs.admission.declared.client_rules.clients.ClientRules.{ClientRules}
 use Rattle.served_clients.specs.StreamClients.{IsExchanged, pair_calls}
 use Rattle.served_clients.specs.Refusing.{IsOpen}
 use Rattle.command_line.specs.declared.client_words.clients.ClientWord.{ClientWord}
@@ -13,7 +13,7 @@ use Rattle.outside_io.specs.Places.{Untouched}
 use Rattle.outside_io.specs.declared.disks.Disk.{Ghosts as Disks}
 use Rattle.outside_io.specs.declared.sinks.Sink.{Ghosts as Sinks}
 use Rattle.outside_io.specs.declared.sources.Source.{Ghosts as Sources}
-use Rattle.path_commit.specs.Ledgers.{Ledger}
+use Rattle.served_clients.specs.book.Ledgers.{Ledger}
 use Rattle.served_clients.specs.declared.serve_reports.ends.Ends.{Ends}
 use Rattle.served_clients.specs.Files.{known_by}
 use Rattle.served_clients.specs.ServedJournals.{IsFound, Remains}

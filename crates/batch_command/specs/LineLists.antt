@@ -1,10 +1,10 @@
 -- A list that is read as a whole, or why it is not.
 use Rattle.std.specs.Prelude.{◌≡◌, ◌≢◌, ℕ, ◌<◌, ◌≤◌, List, [], ◌++◌, length}
 use Rattle.std.specs.Io.KnownBytes.{Consumes, IsAtEnd}
-use Rattle.client_lines.specs.declared.lines.TheConstants.{MAX_LINE_BYTES}
-use Rattle.line_sessions.specs.Ends.{AreAll, Begins}
-use Rattle.line_sessions.specs.Lines.{HasNoEnd}
-use Rattle.line_sessions.specs.declared.sessions.TheConstants.{MAX_LINES}
+use Rattle.served_clients.specs.lines.declared.lines.TheConstants.{MAX_LINE_BYTES}
+use Rattle.served_clients.specs.sessions.Ends.{AreAll, Begins}
+use Rattle.served_clients.specs.sessions.Lines.{HasNoEnd}
+use Rattle.served_clients.specs.sessions.declared.sessions.TheConstants.{MAX_LINES}
 use Rattle.batch_command.specs.declared.list_lines.lists.ListFault.{ListFault}
 use Rattle.batch_command.specs.declared.list_lines.lists.ListFault.TheVariants.{ReadFault, LongLine}
 use Rattle.batch_command.specs.declared.list_lines.lists.ListFault.TheVariants.{LineCount}

@@ -1,18 +1,18 @@
 -- A list that is read, answered and written, over the book of a journal.
 use Rattle.std.specs.Prelude.{◌≡◌, ◌⊎◌, ℕ, List, Option, None, Some, map, Result, Ok, Err}
-use Rattle.admission_rules.specs.declared.rules.Rule.{Ghosts as Rules}
+use Rattle.served_clients.specs.admission.declared.rules.Rule.{Ghosts as Rules}
 use Rattle.batch_command.specs.Ends.{IsEnds}
 use Rattle.batch_command.specs.Flaws.{TellsStop}
 use Rattle.batch_command.specs.Batches.{WereAnswered}
 use Rattle.batch_command.specs.declared.batch_server.members.Member.{Member}
 use Rattle.batch_command.specs.declared.batch_server.members.Worked.{Worked}
 use Rattle.command_line.specs.Workers.{worker_names}
-use Rattle.client_lines.specs.Names.{Names}
-use Rattle.admission_rules.specs.Clients.{rules_named}
-use Rattle.admission_rules.specs.declared.client_rules.clients.ClientRules.{ClientRules}
+use Rattle.served_clients.specs.lines.Names.{Names}
+use Rattle.served_clients.specs.admission.Clients.{rules_named}
+use Rattle.served_clients.specs.admission.declared.client_rules.clients.ClientRules.{ClientRules}
 use Rattle.command_reports.specs.declared.refusals.Refusal.{Refusal}
-use Rattle.line_sessions.specs.declared.sessions.Ended.{Ended}
-use Rattle.line_sessions.specs.declared.sessions.Why.TheVariants.{Memory}
+use Rattle.served_clients.specs.sessions.declared.sessions.Ended.{Ended}
+use Rattle.served_clients.specs.sessions.declared.sessions.Why.TheVariants.{Memory}
 use Rattle.batch_command.specs.LineLists.{IsWhole, Refuses}
 use Rattle.batch_command.specs.declared.list_lines.lists.ListFault.{ListFault}
 use Rattle.batch_command.specs.Writing.{Writes}
@@ -20,8 +20,8 @@ use Rattle.outside_io.specs.declared.betweens.NoBetween.{NoBetween}
 use Rattle.outside_io.specs.declared.disks.Disk.{Ghosts as Disks}
 use Rattle.outside_io.specs.declared.sinks.Sink.{Ghosts as Sinks}
 use Rattle.outside_io.specs.declared.sources.Source.{Ghosts as Sources}
-use Rattle.path_commit.specs.Footings.{footing_of}
-use Rattle.path_commit.specs.Ledgers.{Ledger}
+use Rattle.served_clients.specs.book.Footings.{footing_of}
+use Rattle.served_clients.specs.book.Ledgers.{Ledger}
 use Rattle.served_clients.specs.declared.serve_reports.ends.Ends.{Ends}
 use Rattle.served_clients.specs.ServedJournals.{IsClosed}
 use Rattle.batch_command.specs.Owners.{owners_of}

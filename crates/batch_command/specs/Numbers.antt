@@ -2,13 +2,13 @@
 use Rattle.std.specs.Prelude.{◌≡◌, ℕ, Bool, List, [], ◌∷◌, ◌++◌, Option, None, Some, if◌then◌else◌}
 use Rattle.std.specs.Prelude.{nat_eq}
 use Rattle.std.specs.List.{list_any}
-use Rattle.client_lines.specs.Cuts.{fields_of}
-use Rattle.client_lines.specs.Forms.{Spells}
-use Rattle.client_lines.specs.Lines.{a_line}
-use Rattle.client_lines.specs.Names.{Names}
-use Rattle.client_lines.specs.declared.asks.Ask.{Ask}
-use Rattle.client_lines.specs.declared.asks.Ask.TheVariants as asks
-use Rattle.client_lines.specs.declared.asks.Line.{Line}
+use Rattle.served_clients.specs.lines.Cuts.{fields_of}
+use Rattle.served_clients.specs.lines.Forms.{Spells}
+use Rattle.served_clients.specs.lines.Lines.{a_line}
+use Rattle.served_clients.specs.lines.Names.{Names}
+use Rattle.served_clients.specs.lines.declared.asks.Ask.{Ask}
+use Rattle.served_clients.specs.lines.declared.asks.Ask.TheVariants as asks
+use Rattle.served_clients.specs.lines.declared.asks.Line.{Line}
 
 -- the number by which a path is asked for, None where something else is
 abbrev pub asked_number : Ask → Option ℕ

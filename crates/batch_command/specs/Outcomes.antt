@@ -1,16 +1,16 @@
 -- *inside*: what came of a list, once all workers have left their seats.
 use Rattle.std.specs.Prelude.{◌≡◌, ℕ, All, List, [], Option, length, map}
-use Rattle.admission_rules.specs.declared.rules.Rule.{Ghosts as Rules}
+use Rattle.served_clients.specs.admission.declared.rules.Rule.{Ghosts as Rules}
 use Rattle.batch_command.specs.Batches.{AreShared, AreTexts, HasWorked}
 use Rattle.batch_command.specs.declared.batch_server.members.Member.{Member}
 use Rattle.batch_command.specs.declared.batch_server.members.Worked.{Worked}
-use Rattle.book_gate.specs.Views.{StartsWith}
+use Rattle.served_clients.specs.gate.Views.{StartsWith}
 use Rattle.served_clients.specs.Joins.{AreJoined}
 use Rattle.served_clients.specs.ClientRuns.{AreMatched, owned}
 use Rattle.served_clients.specs.Seats.{found_at}
 use Rattle.served_clients.specs.Talks.{printed, Talk}
-use Rattle.ask_turns.specs.Turns.{Sight}
-use Rattle.line_answers.specs.declared.shared.Shared.{Shared}
+use Rattle.served_clients.specs.turns.Turns.{Sight}
+use Rattle.served_clients.specs.answers.declared.shared.Shared.{Shared}
 use Rattle.rail_types.specs.declared.entries.Entry.{Entry}
 
 -- The workers shared the lines of a list, and their passes were taken in by the one that knows v.

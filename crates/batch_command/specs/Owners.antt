@@ -4,7 +4,7 @@ use Rattle.std.specs.Prelude.{Some, if◌then◌else◌, is_some, map}
 use Rattle.std.specs.List.{list_any}
 use Rattle.command_line.specs.Workers.{worker_name}
 use Rattle.command_line.specs.declared.batch_words.clients.TheConstants.{MAX_WORKERS}
-use Rattle.grant_log.specs.Verdict.{place_of}
+use Rattle.served_clients.specs.history.Verdict.{place_of}
 use Rattle.rail_types.specs.declared.entries.Entry.{Entry}
 
 -- whether the owner's number stands in the history

@@ -1,8 +1,8 @@
 -- The run of `batch`.
 use Rattle.std.specs.Prelude.{◌≡◌, ℕ, List, Result, Ok, Err}
-use Rattle.admission_rules.specs.declared.rules.Rule.{Ghosts as Rules}
+use Rattle.served_clients.specs.admission.declared.rules.Rule.{Ghosts as Rules}
 use Rattle.batch_command.specs.Ends.{report_text}
-use Rattle.admission_rules.specs.declared.client_rules.clients.ClientRules.{ClientRules}
+use Rattle.served_clients.specs.admission.declared.client_rules.clients.ClientRules.{ClientRules}
 use Rattle.command_line.specs.declared.client_words.clients.ClientWord.{ClientWord}
 use Rattle.command_files.specs.Files.{BaseStep, NetworkStep, TrainStep}
 use Rattle.command_files.specs.declared.bases.BaseFile.{BaseFile}
@@ -13,13 +13,13 @@ use Rattle.command_reports.specs.declared.refusals.Refusal.{Refusal}
 use Rattle.command_reports.specs.declared.exit_status.Status.{Status}
 use Rattle.command_reports.specs.Scenes.{ChangesOnlyReport, Scene}
 use Rattle.command_reports.specs.Writing.{ReportSays}
-use Rattle.line_sessions.specs.declared.sessions.Why.TheVariants.{Input}
+use Rattle.served_clients.specs.sessions.declared.sessions.Why.TheVariants.{Input}
 use Rattle.batch_command.specs.LineLists.{IsWhole}
 use Rattle.outside_io.specs.Places.{IsKeptAt}
 use Rattle.outside_io.specs.declared.disks.Disk.{Ghosts as Disks}
 use Rattle.outside_io.specs.declared.sinks.Sink.{Ghosts as Sinks}
 use Rattle.outside_io.specs.declared.sources.Source.{Ghosts as Sources}
-use Rattle.path_commit.specs.Ledgers.{Ledger}
+use Rattle.served_clients.specs.book.Ledgers.{Ledger}
 use Rattle.rail_types.specs.declared.trains.Train.{Train}
 use Rattle.served_clients.specs.Ends.{EndsSay}
 use Rattle.served_clients.specs.declared.serve_reports.ends.Ends.{Ends}

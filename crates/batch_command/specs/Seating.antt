@@ -1,20 +1,20 @@
 -- *inside*: workers as they take their seats, and leave them.
 use Rattle.std.specs.Prelude.{◌≡◌, All, List, []}
-use Rattle.admission_rules.specs.declared.rules.Rule.{Ghosts as Rules}
+use Rattle.served_clients.specs.admission.declared.rules.Rule.{Ghosts as Rules}
 use Rattle.batch_pool.specs.Batches.{AreMatched}
 use Rattle.batch_command.specs.Clerks.{IsFresh}
 use Rattle.batch_command.specs.declared.batch_server.clerks.Clerk.{Clerk}
 use Rattle.batch_command.specs.declared.batch_server.members.Member.{Member}
 use Rattle.batch_command.specs.declared.batch_server.members.Worked.{Worked}
-use Rattle.book_gate.specs.Passes.{view}
-use Rattle.book_gate.specs.Views.{StartsWith}
-use Rattle.admission_rules.specs.Ruled.{stand}
+use Rattle.served_clients.specs.gate.Passes.{view}
+use Rattle.served_clients.specs.gate.Views.{StartsWith}
+use Rattle.served_clients.specs.admission.Ruled.{stand}
 use Rattle.served_clients.specs.Joins.{AreJoined}
 use Rattle.served_clients.specs.ClientRuns.{told_own}
 use Rattle.served_clients.specs.Seats.{found_at, IsDone}
 use Rattle.served_clients.specs.Talks.{Talk}
-use Rattle.ask_turns.specs.Turns.{Sight}
-use Rattle.line_answers.specs.declared.shared.Shared.{Shared}
+use Rattle.served_clients.specs.turns.Turns.{Sight}
+use Rattle.served_clients.specs.answers.declared.shared.Shared.{Shared}
 use Rattle.rail_types.specs.declared.entries.Entry.{Entry}
 
 -- this worker sits at its seat, and its rules were told its entries of the history found

@@ -1,7 +1,7 @@
 -- *inside*: answers put to their places in a table.
 use Rattle.std.specs.Prelude.{ℕ, List, [], ◌∷◌, map, set}
-use Rattle.client_lines.specs.Replies.{reply_text}
-use Rattle.client_lines.specs.declared.reply_texts.replies.Reply.{Reply}
+use Rattle.served_clients.specs.lines.Replies.{reply_text}
+use Rattle.served_clients.specs.lines.declared.reply_texts.replies.Reply.{Reply}
 
 -- a table, once these were put to their places, one after another
 abbrev pub filled : {T : Type 0} → List T → List (ℕ × T) → List T

@@ -1,8 +1,8 @@
 -- Texts written one after another.
 use Rattle.std.specs.Prelude.{◌≡◌, ◌⊎◌, ℕ, ◌<◌, List, [], ◌++◌, flat_map, get_or, length, take}
 use Rattle.command_reports.specs.Writing.{TookAll}
-use Rattle.line_sessions.specs.declared.sessions.Ended.{Ended}
-use Rattle.line_sessions.specs.declared.sessions.Why.TheVariants.{Input, WriteFault}
+use Rattle.served_clients.specs.sessions.declared.sessions.Ended.{Ended}
+use Rattle.served_clients.specs.sessions.declared.sessions.Why.TheVariants.{Input, WriteFault}
 use Rattle.outside_io.specs.Stops.{StopsAt}
 use Rattle.outside_io.specs.declared.sinks.Sink.{Ghosts as Sinks}
 

@@ -3,28 +3,28 @@
 ghost use Rattle.std.specs.Prelude.{◌≡◌, length};
 ghost use Rattle.batch_command.specs.Books.{BookSays};
 ghost use Rattle.command_line.specs.Workers.{AreWorkers, IsBatchClient};
-ghost use Rattle.client_lines.specs.Within.{AreSound};
+ghost use Rattle.served_clients.specs.lines.Within.{AreSound};
 ghost use Rattle.served_clients.specs.StreamClients.{pair_calls};
 ghost use Rattle.command_reports.specs.Works.{KeepsTo};
 ghost use Rattle.command_reports.specs.Scenes.{scene};
-ghost use Rattle.path_commit.specs.Ledgers.{settled_of};
+ghost use Rattle.served_clients.specs.book.Ledgers.{settled_of};
 ghost use Rattle.served_clients.specs.Files.{names_of};
 
 use crate::lists::serve_list;
-use admission_rules::Rule;
-use admission_rules::client_rules::ClientRules;
-use client_lines::Known;
+use command_files::train::Trains;
 use command_line::client_words::ClientWord;
 use command_reports::Refusal;
 use outside_io::Outside;
-use path_commit::Book;
 use rail_types::named_network::Named;
+use served_clients::admission::Rule;
+use served_clients::admission::client_rules::ClientRules;
+use served_clients::book::Book;
 use served_clients::client_streams::{open_streams, put_back_client};
+use served_clients::lines::Known;
 use served_clients::serve_reports::Ends;
 use std::alloc::AllocGlobal;
 use std::sync::Wait;
 use std::thread::Threads;
-use train_file::Trains;
 
 /// Opens the streams of the client, answers its list over a book by workers, puts the streams back,
 /// and hands back the book's disk.

@@ -6,17 +6,17 @@ ghost use Rattle.command_line.specs.declared.batch_words.clients.TheConstants.{
   MAX_BATCH_NAME_BYTES,
 };
 ghost use Rattle.command_line.specs.declared.batch_words.clients.TheConstants.{MAX_WORKERS};
-ghost use Rattle.client_lines.specs.declared.lines.TheConstants.{MAX_LINE_BYTES};
-ghost use Rattle.line_sessions.specs.declared.sessions.TheConstants.{MAX_LINES};
+ghost use Rattle.served_clients.specs.lines.declared.lines.TheConstants.{MAX_LINE_BYTES};
+ghost use Rattle.served_clients.specs.sessions.declared.sessions.TheConstants.{MAX_LINES};
 
 use crate::batch_reports::{no_ask, number_twice, workers_needed};
 use crate::list_lines::{first_no_ask, first_twice, numbers_of};
 use crate::worker_numbers::needed_worker;
-use client_lines::Known;
 use command_reports::Refusal;
-use grant_log::History;
 use no_memory::NoMemory;
 use rail_types::Name;
+use served_clients::history::History;
+use served_clients::lines::Known;
 use std::alloc::Global;
 
 /// The numbers of the lines of a list, each of which asks for a path: they differ, and

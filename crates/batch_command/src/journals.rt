@@ -8,11 +8,11 @@ ghost use Rattle.command_reports.specs.Scenes.{scene};
 ghost use Rattle.served_clients.specs.Files.{AreFiles};
 
 use crate::books::serve_book;
-use admission_rules::Rule;
-use admission_rules::client_rules::ClientRules;
 use command_line::client_words::ClientWord;
 use command_reports::Refusal;
 use outside_io::Outside;
+use served_clients::admission::Rule;
+use served_clients::admission::client_rules::ClientRules;
 use served_clients::serve_reports::Ends;
 use served_clients::served_journals::{Files, Opened, not_opened, open_book};
 use std::alloc::AllocGlobal;

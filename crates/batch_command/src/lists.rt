@@ -6,12 +6,12 @@ ghost use Rattle.command_line.specs.Workers.{AreWorkers, worker_names as names_o
 ghost use Rattle.command_line.specs.declared.batch_words.clients.TheConstants.{
   MAX_BATCH_NAME_BYTES,
 };
-ghost use Rattle.client_lines.specs.Within.{AreSound};
+ghost use Rattle.served_clients.specs.lines.Within.{AreSound};
 ghost use Rattle.served_clients.specs.Lending.{IsUnchanged};
 ghost use Rattle.command_reports.specs.Scenes.{scene};
-ghost use Rattle.client_lines.specs.declared.lines.TheConstants.{MAX_LINE_BYTES};
-ghost use Rattle.line_sessions.specs.declared.sessions.TheConstants.{MAX_LINES};
-ghost use Rattle.path_commit.specs.Ledgers.{settled_of};
+ghost use Rattle.served_clients.specs.lines.declared.lines.TheConstants.{MAX_LINE_BYTES};
+ghost use Rattle.served_clients.specs.sessions.declared.sessions.TheConstants.{MAX_LINES};
+ghost use Rattle.served_clients.specs.book.Ledgers.{settled_of};
 ghost use Rattle.rail_types.specs.Limits.{IsClientName};
 ghost use Rattle.batch_command.specs.Owners.{owners_of};
 
@@ -22,19 +22,19 @@ use crate::list_lines::read_list;
 use crate::list_replies::write_texts;
 use crate::members::members_of;
 use crate::worker_numbers::owners_of;
-use admission_rules::Rule;
-use admission_rules::client_rules::ClientRules;
-use client_lines::Known;
 use command_line::batch_words::{worker_names, worker_names_are_names, worker_names_differ};
 use command_reports::Refusal;
-use grant_log::History;
-use line_sessions::{Ended, Why};
 use no_memory::NoMemory;
 use outside_io::{Disk, Outside, Sink, Source};
-use path_commit::Book;
 use rail_types::{List, Name};
+use served_clients::admission::Rule;
+use served_clients::admission::client_rules::ClientRules;
+use served_clients::book::Book;
+use served_clients::history::History;
+use served_clients::lines::Known;
 use served_clients::serve_reports::Ends;
 use served_clients::served_journals::close_book;
+use served_clients::sessions::{Ended, Why};
 use std::alloc::{AllocGlobal, Global};
 use std::sync::Wait;
 use std::thread::Threads;

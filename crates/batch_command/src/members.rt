@@ -10,12 +10,12 @@ ghost use Rattle.served_clients.specs.Lending.{IsUnchanged};
 ghost use Rattle.command_reports.specs.Scenes.{scene};
 
 use crate::batch_server::Member;
-use admission_rules::Rule;
-use admission_rules::client_rules::{ClientRules, take_rules};
 use command_line::batch_words::{worker_name, worker_names_differ};
 use no_memory::NoMemory;
 use outside_io::Outside;
 use rail_types::Name;
+use served_clients::admission::Rule;
+use served_clients::admission::client_rules::{ClientRules, take_rules};
 use served_clients::client_streams::between_of;
 use std::alloc::Global;
 

@@ -8,12 +8,12 @@ ghost use Rattle.outside_io.specs.Openings.{Undisturbed};
 ghost use Rattle.outside_io.specs.Places.{Untouched};
 
 use crate::works::batch;
-use admission_rules::Rule;
-use admission_rules::client_rules::ClientRules;
 use command_line::client_words::ClientWord;
 use command_reports::exit_status::Status;
 use command_reports::{Refusal, finish};
 use outside_io::Outside;
+use served_clients::admission::Rule;
+use served_clients::admission::client_rules::ClientRules;
 use served_clients::serve_reports::{Ends, tell_ends};
 use std::alloc::AllocGlobal;
 use std::sync::Wait;

@@ -8,19 +8,19 @@ ghost use Rattle.served_clients.specs.Files.{IsNetworkRead};
 ghost use Rattle.std.specs.Prelude.{All};
 
 use crate::journals::serve_files;
-use admission_rules::Rule;
-use admission_rules::client_rules::ClientRules;
-use base_file::bases_make_timetables;
+use command_files::base::bases_make_timetables;
+use command_files::train::Trains;
 use command_files::{NetworkFile, read_base_file, read_network_file, read_train_file};
 use command_line::client_words::ClientWord;
 use command_reports::Refusal;
 use outside_io::Outside;
+use served_clients::admission::Rule;
+use served_clients::admission::client_rules::ClientRules;
 use served_clients::serve_reports::Ends;
 use served_clients::served_journals::Files;
 use std::alloc::AllocGlobal;
 use std::sync::Wait;
 use std::thread::Threads;
-use train_file::Trains;
 
 /// The work of `batch`.
 pub(crate) fn batch<R: AllocGlobal + Threads + Wait + Sync, O: Outside, L: Rule + Send>(

@@ -1,15 +1,16 @@
 -- What is told again of an entry that was carried.
-use Rattle.std.proofs.Common.{◌≡◌, ◌∙◌, ℕ, true, false, List, take, Some, None, slice_get, All, sym, ap, subst}
+use Rattle.std.proofs.Common.{◌≡◌, ◌∙◌, ℕ, true, false, List, take, Some, None, slice_get, All, sym}
+use Rattle.std.proofs.Common.{ap, subst}
 use Rattle.rail_types.specs.declared.entries.Deed.{Deed}
 use Rattle.rail_types.specs.declared.entries.Deed.TheVariants.{Free}
 use Rattle.rail_types.specs.declared.entries.Entry.{Entry}
 use Rattle.rail_types.specs.Timetables.{Timetable}
-use Rattle.grant_log.specs.declared.verdicts.Verdict.TheVariants.{Kept}
-use Rattle.grant_log.specs.Content.{HaveSameContent}
-use Rattle.grant_log.specs.Live.{freed_by}
-use Rattle.grant_log.specs.Meanings.{IsNumbered, Says}
-use Rattle.grant_log.specs.Verdict.{takes, verdict_on}
-use Rattle.grant_log.proofs.Bringing.{unfreed_by}
+use Rattle.path_recover.specs.history.declared.verdicts.Verdict.TheVariants.{Kept}
+use Rattle.path_recover.specs.history.Content.{HaveSameContent}
+use Rattle.path_recover.specs.history.Live.{freed_by}
+use Rattle.path_recover.specs.history.Meanings.{IsNumbered, Says}
+use Rattle.path_recover.specs.history.Verdict.{takes, verdict_on}
+use Rattle.path_recover.proofs.history_lemmas.Bringing.{unfreed_by}
 use Rattle.carry_command.specs.Carried.{AreKept, IsCarriedTo}
 use Rattle.carry_command.specs.declared.carried_history.reasons.LeftOut.{LeftOut}
 

@@ -2,14 +2,14 @@
 use Rattle.std.proofs.Common.{◌≡◌, ◌∙◌, ℕ, ◌+◌, List, [], ◌∷◌, ◌++◌, length, sym, ap, subst}
 use Rattle.std.proofs.lemmas.List.{append-nil}
 use Rattle.std.proofs.lemmas.List.Elements.{All-nil}
-use Rattle.entry_codec.specs.Body.{body_of}
-use Rattle.entry_codec.specs.Within.{HasBody}
-use Rattle.grant_journal.specs.Histories.{bodies_of, counted, front_of}
-use Rattle.grant_log.specs.Following.{AreLive}
-use Rattle.grant_log.specs.Legal.{Joins}
-use Rattle.grant_log.specs.Verdict.{verdict_on}
-use Rattle.grant_log.proofs.Legals.{legal_push}
-use Rattle.occupation_book.specs.Held.{held}
+use Rattle.path_recover.specs.spelling.Body.{body_of}
+use Rattle.path_recover.specs.spelling.Within.{HasBody}
+use Rattle.path_recover.specs.journal.Histories.{bodies_of, counted, front_of}
+use Rattle.path_recover.specs.history.Following.{AreLive}
+use Rattle.path_recover.specs.history.Legal.{Joins}
+use Rattle.path_recover.specs.history.Verdict.{verdict_on}
+use Rattle.path_recover.proofs.history_lemmas.Legals.{legal_push}
+use Rattle.path_recover.specs.claims.Held.{held}
 use Rattle.rail_types.specs.declared.entries.Entry.{Entry}
 use Rattle.rail_types.specs.Timetables.{Timetable}
 use Rattle.carry_command.specs.Carried.{entries_at, IsCarriedTo, IsReason}

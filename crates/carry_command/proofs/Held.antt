@@ -1,11 +1,12 @@
 -- Claims of an entry that are held one by one.
-use Rattle.std.proofs.Common.{◌≡◌, ◌∙◌, ℕ, ◌+◌, ◌<◌, List, [], ◌∷◌, ◌++◌, length, map, take, get_or, sym, arith}
+use Rattle.std.proofs.Common.{◌≡◌, ◌∙◌, ℕ, ◌+◌, ◌<◌, List, [], ◌∷◌, ◌++◌, length, map, take, get_or}
+use Rattle.std.proofs.Common.{sym, arith}
 use Rattle.std.proofs.lemmas.List.{get_or-map, length-map, map_more}
-use Rattle.occupation_book.specs.Zones.{Zone}
+use Rattle.path_recover.specs.claims.Zones.{Zone}
 use Rattle.rail_types.specs.declared.paths.Claim.{Claim}
 use Rattle.rail_types.specs.declared.entries.Owner.TheVariants.{Entry as of_entry}
 use Rattle.rail_types.specs.Occupation.{HeldClaim}
-use Rattle.grant_log.specs.Live.{owned_by}
+use Rattle.path_recover.specs.history.Live.{owned_by}
 
 pub owned_within : (place : ℕ) (claims : List Claim) (at : ℕ) → at < length claims → at < length (owned_by place claims)
 owned_within place claims at within =

@@ -1,15 +1,20 @@
 -- What a hold or a grant with a new number is told.
-use Rattle.std.proofs.Common.{◌≡◌, ◌↔◌, ◌∙◌, ℕ, true, false, List, length, slice_get, Contains, Some, None, refl, sym, ap, arith}
+use Rattle.std.proofs.Common.{◌≡◌, ◌↔◌, ◌∙◌, ℕ, true, false, List, length, slice_get, Contains}
+use Rattle.std.proofs.Common.{Some, None, refl, sym, ap, arith}
 use Rattle.std.proofs.lemmas.List.Elements.{All-contains}
 use Rattle.std.proofs.lemmas.Option.{slice_get_within}
-use Rattle.grant_log.specs.declared.verdicts.Verdict.{Verdict}
-use Rattle.grant_log.specs.declared.verdicts.Verdict.TheVariants.{Kept, Gone, Other, BreaksRequest, Taken, Unknown, NotYours, AlreadyFreed, Fresh}
-use Rattle.grant_log.specs.Live.{claims_of, freed_by, live_claims}
-use Rattle.grant_log.specs.Meanings.{IsNew, IsNumbered, Says, StandsAt}
-use Rattle.grant_log.specs.Verdict.{breaks, freed_position, taken_or_fresh, takes, verdict_by_place, verdict_on}
-use Rattle.grant_log.proofs.Places.{is_new}
-use Rattle.grant_log.proofs.Repeats.{told_of_claims}
-use Rattle.grant_log.proofs.Slices.{is_contained}
+use Rattle.path_recover.specs.history.declared.verdicts.Verdict.{Verdict}
+use Rattle.path_recover.specs.history.declared.verdicts.Verdict.TheVariants.{Kept, Gone, Other}
+use Rattle.path_recover.specs.history.declared.verdicts.Verdict.TheVariants.{BreaksRequest, Taken}
+use Rattle.path_recover.specs.history.declared.verdicts.Verdict.TheVariants.{Unknown, NotYours}
+use Rattle.path_recover.specs.history.declared.verdicts.Verdict.TheVariants.{AlreadyFreed, Fresh}
+use Rattle.path_recover.specs.history.Live.{claims_of, freed_by, live_claims}
+use Rattle.path_recover.specs.history.Meanings.{IsNew, IsNumbered, Says, StandsAt}
+use Rattle.path_recover.specs.history.Verdict.{breaks, freed_position, taken_or_fresh, takes}
+use Rattle.path_recover.specs.history.Verdict.{verdict_by_place, verdict_on}
+use Rattle.path_recover.proofs.history_lemmas.Places.{is_new}
+use Rattle.path_recover.proofs.history_lemmas.Repeats.{told_of_claims}
+use Rattle.path_recover.proofs.history_lemmas.Slices.{is_contained}
 use Rattle.rail_types.specs.declared.entries.Deed.{Deed}
 use Rattle.rail_types.specs.declared.entries.Deed.TheVariants.{Hold, Grant, Free}
 use Rattle.rail_types.specs.declared.entries.Entry.{Entry}

@@ -1,12 +1,13 @@
 -- Entries that are carried one by one, and spelled.
-use Rattle.std.proofs.Common.{◌≡◌, ◌∙◌, ℕ, zero, suc, ◌<◌, ◌^◌, List, [], ◌∷◌, ◌++◌, map, length, append_assoc, All, Contains, Some, slice_get, sym, ap, arith}
+use Rattle.std.proofs.Common.{◌≡◌, ◌∙◌, ℕ, zero, suc, ◌<◌, ◌^◌, List, [], ◌∷◌, ◌++◌, map, length}
+use Rattle.std.proofs.Common.{append_assoc, All, Contains, Some, slice_get, sym, ap, arith}
 use Rattle.std.proofs.lemmas.List.{append-nil}
 use Rattle.std.proofs.lemmas.List.Concat.{flat_map-append}
 use Rattle.std.proofs.lemmas.List.Elements.{All-append, All-cons, All-contains, All-nil}
-use Rattle.entry_codec.specs.Body.{body_of}
-use Rattle.grant_journal.specs.Histories.{bodies_of, counted, front_of, opened}
-use Rattle.grant_log.proofs.Elements.{contains_tail, no_element}
-use Rattle.grant_log.proofs.Slices.{is_contained}
+use Rattle.path_recover.specs.spelling.Body.{body_of}
+use Rattle.path_recover.specs.journal.Histories.{bodies_of, counted, front_of, opened}
+use Rattle.path_recover.proofs.history_lemmas.Elements.{contains_tail, no_element}
+use Rattle.path_recover.proofs.history_lemmas.Slices.{is_contained}
 use Rattle.rail_types.specs.declared.entries.Entry.{Entry}
 use Rattle.carry_command.specs.Carried.{alone, entries_at}
 

@@ -1,5 +1,6 @@
 -- The steps of the command keep to its opening calls.
-use Rattle.std.proofs.Common.{◌≡◌, ◌≢◌, ◌∙◌, ◌++◌, ℕ, zero, suc, List, [], ◌∷◌, Option, None, Some, is_some, Result, Ok, Err, inl, inr, sym, ap, subst, take}
+use Rattle.std.proofs.Common.{◌≡◌, ◌≢◌, ◌∙◌, ◌++◌, ℕ, zero, suc, List, [], ◌∷◌, Option, None, Some}
+use Rattle.std.proofs.Common.{is_some, Result, Ok, Err, inl, inr, sym, ap, subst, take}
 use Rattle.std.proofs.lemmas.List.{append_assoc}
 use Rattle.outside_io.specs.Openings.{Opening, Opens as CallsOf, source_at, sink_at, disk_at}
 use Rattle.outside_io.specs.declared.disks.Disk.{Ghosts as Disks}
@@ -9,8 +10,9 @@ use Rattle.command_reports.specs.Scenes.{ChangesOnlySink, Scene}
 use Rattle.command_reports.specs.Works.{Keeps, KeepsTo, Misses, OpensInTurn}
 use Rattle.command_reports.specs.declared.refusals.Refusal.{Refusal}
 use Rattle.command_reports.proofs.Steps.{alone, follows_keep, keeps_more, silent}
-use Rattle.grant_log.specs.Legal.{Register}
-use Rattle.command_files.specs.Files.{BaseStep, HasBaseFault, HasNetworkFault, IsBaseFile, IsNetworkFile, NetworkStep}
+use Rattle.path_recover.specs.history.Legal.{Register}
+use Rattle.command_files.specs.Files.{BaseStep, HasBaseFault, HasNetworkFault, IsBaseFile}
+use Rattle.command_files.specs.Files.{IsNetworkFile, NetworkStep}
 use Rattle.command_files.specs.declared.bases.BaseFile.{BaseFile}
 use Rattle.command_files.specs.declared.files.FileKind.TheVariants as kind
 use Rattle.command_files.specs.declared.networks.NetworkFile.{NetworkFile}
@@ -22,7 +24,9 @@ use Rattle.carry_command.specs.Lent.{IsLent, IsReturned}
 use Rattle.carry_command.specs.Names.{Names}
 use Rattle.carry_command.specs.Olds.{IsHeldOver, LentSays, OldStep, Over}
 use Rattle.carry_command.specs.Prepared.{Prepares}
-use Rattle.carry_command.specs.Works.{carry_calls, CarriesOver, Finds, FindsEmpty, left_calls, LeftStep, ReadsBase, ReadsBefore, ReadsNetwork, ReadsOld, writing_calls, WritesAll, WritesJournal}
+use Rattle.carry_command.specs.Works.{carry_calls, CarriesOver, Finds, FindsEmpty, left_calls}
+use Rattle.carry_command.specs.Works.{LeftStep, ReadsBase, ReadsBefore, ReadsNetwork, ReadsOld}
+use Rattle.carry_command.specs.Works.{writing_calls, WritesAll, WritesJournal}
 use Rattle.carry_command.specs.declared.preparing.Prepared.{Prepared}
 
 -- ---- which names the calls are not of

@@ -1,18 +1,26 @@
 -- What is carried of the first entries of a history, and of one more.
-use Rattle.std.proofs.Common.{◌≡◌, ◌⊎◌, ◌∙◌, ℕ, ◌+◌, ◌<◌, List, [], ◌∷◌, ◌++◌, length, take, drop, get_or, Some, slice_get, All, AllPairs, Any, Contains, inl, inr, refl, sym, ap, subst, arith}
+use Rattle.std.proofs.Common.{◌≡◌, ◌⊎◌, ◌∙◌, ℕ, ◌+◌, ◌<◌, List, [], ◌∷◌, ◌++◌, length, take, drop}
+use Rattle.std.proofs.Common.{get_or, Some, slice_get, All, AllPairs, Any, Contains, inl, inr, refl}
+use Rattle.std.proofs.Common.{sym, ap, subst, arith}
 use Rattle.std.proofs.lemmas.Bool.{cases_eq}
-use Rattle.std.proofs.lemmas.List.{drop-append-le, drop_all, get_or_append_left, length-append, take-append-le, take_all}
-use Rattle.std.proofs.lemmas.List.Elements.{All-append, All-contains, All-cons, All-nil, Contains-append_left, Contains-append_right}
+use Rattle.std.proofs.lemmas.List.{drop-append-le, drop_all, get_or_append_left, length-append}
+use Rattle.std.proofs.lemmas.List.{take-append-le, take_all}
+use Rattle.std.proofs.lemmas.List.Elements.{All-append, All-contains, All-cons, All-nil}
+use Rattle.std.proofs.lemmas.List.Elements.{Contains-append_left, Contains-append_right}
 use Rattle.std.proofs.lemmas.List.Quantifiers.{Any-push}
 use Rattle.std.proofs.lemmas.Option.{slice_get-get_or, slice_get_within}
-use Rattle.grant_log.specs.declared.verdicts.Verdict.{Verdict}
-use Rattle.grant_log.specs.declared.verdicts.Verdict.TheVariants.{Kept, Gone, Other, BreaksRequest, Taken, Unknown, NotYours, AlreadyFreed, Fresh}
-use Rattle.grant_log.specs.Legal.{IsLegal}
-use Rattle.grant_log.specs.Meanings.{IsNew, IsNumbered}
-use Rattle.grant_log.specs.Verdict.{verdict_on}
-use Rattle.grant_log.proofs.Slices.{is_contained, slice_get_kept, slice_get_last, slice_get_push, take_slice_get}
-use Rattle.grant_log.proofs.Elements.{all_by, contains_head}
-use Rattle.grant_log.proofs.Pairs.{all_pairs_append}
+use Rattle.path_recover.specs.history.declared.verdicts.Verdict.{Verdict}
+use Rattle.path_recover.specs.history.declared.verdicts.Verdict.TheVariants.{Kept, Gone, Other}
+use Rattle.path_recover.specs.history.declared.verdicts.Verdict.TheVariants.{BreaksRequest, Taken}
+use Rattle.path_recover.specs.history.declared.verdicts.Verdict.TheVariants.{Unknown, NotYours}
+use Rattle.path_recover.specs.history.declared.verdicts.Verdict.TheVariants.{AlreadyFreed, Fresh}
+use Rattle.path_recover.specs.history.Legal.{IsLegal}
+use Rattle.path_recover.specs.history.Meanings.{IsNew, IsNumbered}
+use Rattle.path_recover.specs.history.Verdict.{verdict_on}
+use Rattle.path_recover.proofs.history_lemmas.Slices.{is_contained, slice_get_kept, slice_get_last}
+use Rattle.path_recover.proofs.history_lemmas.Slices.{slice_get_push, take_slice_get}
+use Rattle.path_recover.proofs.history_lemmas.Elements.{all_by, contains_head}
+use Rattle.path_recover.proofs.history_lemmas.Pairs.{all_pairs_append}
 use Rattle.rail_types.specs.declared.entries.Entry.{Entry}
 use Rattle.rail_types.specs.declared.entries.Owner.TheVariants.{Base as of_train, Entry as of_entry}
 use Rattle.rail_types.specs.Timetables.{Timetable}

@@ -1,8 +1,9 @@
 -- What a journal begins with.
-use Rattle.std.proofs.Common.{◌≡◌, ℕ, List, ◌∷◌, ◌++◌, length, take, drop, inl, inr, sym, ap, ◌∙◌, arith}
+use Rattle.std.proofs.Common.{◌≡◌, ℕ, List, ◌∷◌, ◌++◌, length, take, drop, inl, inr, sym, ap, ◌∙◌}
+use Rattle.std.proofs.Common.{arith}
 use Rattle.path_recover.specs.Files.{TellsHistory}
-use Rattle.grant_journal.specs.Headers.{header_of_version}
-use Rattle.grant_journal.specs.Histories.{bodies_of, front_of, ReadsAs}
+use Rattle.path_recover.specs.journal.Headers.{header_of_version}
+use Rattle.path_recover.specs.journal.Histories.{bodies_of, front_of, ReadsAs}
 use Rattle.rail_types.specs.declared.entries.Entry.{Entry}
 use Rattle.rail_types.specs.Timetables.{Timetable}
 use Rattle.carry_command.specs.Unfinished.{IsUnfinished}

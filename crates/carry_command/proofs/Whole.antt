@@ -1,15 +1,16 @@
 -- The bytes of a journal as a whole, and what is told of them.
-use Rattle.std.proofs.Common.{◌≡◌, Bool, ℕ, ◌<◌, ◌^◌, Some, List, [], ◌∷◌, ◌++◌, length, All, Contains, Result, Ok, Err, inl, inr, ap, ◌∙◌, subst, arith}
+use Rattle.std.proofs.Common.{◌≡◌, Bool, ℕ, ◌<◌, ◌^◌, Some, List, [], ◌∷◌, ◌++◌, length, All}
+use Rattle.std.proofs.Common.{Contains, Result, Ok, Err, inl, inr, ap, ◌∙◌, subst, arith}
 use Rattle.std.proofs.lemmas.List.Elements.{All-contains, All-map}
 use Rattle.std.proofs.lemmas.Option.{slice_get-get_or}
-use Rattle.entry_codec.specs.Body.{body_of}
-use Rattle.entry_codec.specs.Within.{HasBody}
-use Rattle.grant_log.proofs.Elements.{all_by}
-use Rattle.grant_log.specs.Legal.{IsLegal, Register}
-use Rattle.grant_log.proofs.Slices.{is_contained}
+use Rattle.path_recover.specs.spelling.Body.{body_of}
+use Rattle.path_recover.specs.spelling.Within.{HasBody}
+use Rattle.path_recover.proofs.history_lemmas.Elements.{all_by}
+use Rattle.path_recover.specs.history.Legal.{IsLegal, Register}
+use Rattle.path_recover.proofs.history_lemmas.Slices.{is_contained}
 use Rattle.path_recover.specs.Files.{TellsHistory}
-use Rattle.grant_journal.specs.Headers.{header_of}
-use Rattle.grant_journal.specs.Histories.{bodies_of, front_of}
+use Rattle.path_recover.specs.journal.Headers.{header_of}
+use Rattle.path_recover.specs.journal.Histories.{bodies_of, front_of}
 use Rattle.rail_types.specs.declared.entries.Entry.{Entry}
 use Rattle.rail_types.specs.Timetables.{Timetable}
 use Rattle.command_files.specs.declared.bases.BaseFile.{BaseFile}

@@ -1,11 +1,11 @@
 -- What is carried of a history into another timetable, and what is left out.
 use Rattle.std.specs.Prelude.{◌≡◌, ◌⊎◌, ℕ, ◌<◌, ◌≤◌, true, List, length, take, drop, None, Some}
 use Rattle.std.specs.Prelude.{slice_get, All, AllPairs, Any, Contains, [], ◌∷◌, Option, flat_map}
-use Rattle.grant_log.specs.declared.verdicts.Verdict.{Verdict}
-use Rattle.grant_log.specs.declared.verdicts.Verdict.TheVariants.{BreaksRequest, Taken}
-use Rattle.grant_log.specs.Legal.{IsLegal}
-use Rattle.grant_log.specs.Live.{freed_by}
-use Rattle.grant_log.specs.Verdict.{takes, verdict_on}
+use Rattle.path_recover.specs.history.declared.verdicts.Verdict.{Verdict}
+use Rattle.path_recover.specs.history.declared.verdicts.Verdict.TheVariants.{BreaksRequest, Taken}
+use Rattle.path_recover.specs.history.Legal.{IsLegal}
+use Rattle.path_recover.specs.history.Live.{freed_by}
+use Rattle.path_recover.specs.history.Verdict.{takes, verdict_on}
 use Rattle.rail_types.specs.declared.entries.Entry.{Entry}
 use Rattle.rail_types.specs.declared.entries.Owner.TheVariants.{Base as of_train, Entry as of_entry}
 use Rattle.rail_types.specs.Timetables.{Timetable}

@@ -1,14 +1,15 @@
 -- Inside: what is carried, with the claims that are live in it.
 use Rattle.std.specs.Prelude.{◌≡◌, ℕ, ◌+◌, ◌<◌, ◌^◌, List, length, All}
-use Rattle.entry_codec.specs.Body.{body_of}
-use Rattle.entry_codec.specs.Within.{HasBody}
-use Rattle.grant_journal.specs.Histories.{bodies_of, front_of}
-use Rattle.grant_log.specs.declared.verdicts.Verdict.{Verdict}
-use Rattle.grant_log.specs.declared.verdicts.Verdict.TheVariants.{BreaksRequest, Taken, Fresh}
-use Rattle.grant_log.specs.Following.{AreLive}
-use Rattle.grant_log.specs.Legal.{IsInRange}
-use Rattle.grant_log.specs.Meanings.{IsNew}
-use Rattle.occupation_book.specs.Held.{held}
+use Rattle.path_recover.specs.spelling.Body.{body_of}
+use Rattle.path_recover.specs.spelling.Within.{HasBody}
+use Rattle.path_recover.specs.journal.Histories.{bodies_of, front_of}
+use Rattle.path_recover.specs.history.declared.verdicts.Verdict.{Verdict}
+use Rattle.path_recover.specs.history.declared.verdicts.Verdict.TheVariants.{BreaksRequest, Taken}
+use Rattle.path_recover.specs.history.declared.verdicts.Verdict.TheVariants.{Fresh}
+use Rattle.path_recover.specs.history.Following.{AreLive}
+use Rattle.path_recover.specs.history.Legal.{IsInRange}
+use Rattle.path_recover.specs.history.Meanings.{IsNew}
+use Rattle.path_recover.specs.claims.Held.{held}
 use Rattle.rail_types.specs.declared.entries.Entry.{Entry}
 use Rattle.rail_types.specs.declared.entries.Owner.TheVariants.{Base as of_train, Entry as of_entry}
 use Rattle.rail_types.specs.Timetables.{Timetable}

@@ -3,7 +3,7 @@
 use Rattle.std.specs.Prelude.{◌≡◌, ◌⊎◌, ℕ, List, Result, Ok, Err}
 use Rattle.outside_io.specs.declared.disks.Disk.{Ghosts}
 use Rattle.command_reports.specs.Scenes.{Scene}
-use Rattle.grant_log.specs.Legal.{Register}
+use Rattle.path_recover.specs.history.Legal.{Register}
 use Rattle.path_recover.specs.declared.journal_reading.faults.OpenFault.{OpenFault}
 use Rattle.command_files.specs.declared.bases.BaseFile.{BaseFile}
 use Rattle.command_files.specs.declared.networks.NetworkFile.{NetworkFile}

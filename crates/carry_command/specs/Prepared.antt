@@ -2,9 +2,9 @@
 use Rattle.std.specs.Prelude.{◌≡◌, ◌⊎◌, ℕ, List, [], ◌∷◌, ◌++◌, Bool, false, length, Result, Ok}
 use Rattle.std.specs.Prelude.{Err}
 use Rattle.command_reports.specs.declared.exit_status.Status.TheVariants.{No}
-use Rattle.grant_log.specs.Legal.{Register}
-use Rattle.grant_journal.specs.Headers.{header_of}
-use Rattle.grant_journal.specs.Histories.{bodies_of, front_of}
+use Rattle.path_recover.specs.history.Legal.{Register}
+use Rattle.path_recover.specs.journal.Headers.{header_of}
+use Rattle.path_recover.specs.journal.Histories.{bodies_of, front_of}
 use Rattle.rail_types.specs.declared.entries.Entry.{Entry}
 use Rattle.rail_types.specs.Timetables.{Timetable}
 use Rattle.command_files.specs.declared.bases.BaseFile.{BaseFile}

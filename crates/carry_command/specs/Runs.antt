@@ -9,7 +9,7 @@ use Rattle.command_reports.specs.declared.exit_status.Status.TheVariants.{Done, 
 use Rattle.command_reports.specs.Scenes.{ChangesOnlyReport, Scene}
 use Rattle.command_reports.specs.Writing.{ReportSays}
 use Rattle.command_reports.specs.declared.file_rounds.writing.OutFault.{OutFault}
-use Rattle.grant_log.specs.Legal.{Register}
+use Rattle.path_recover.specs.history.Legal.{Register}
 use Rattle.path_recover.specs.Beginning.{IsAsItWas, WasEmpty}
 use Rattle.command_files.specs.Files.{BaseStep, NetworkStep}
 use Rattle.command_files.specs.declared.bases.BaseFile.{BaseFile}

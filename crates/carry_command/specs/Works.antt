@@ -11,7 +11,7 @@ use Rattle.command_reports.specs.declared.exit_status.Status.TheVariants.{Report
 use Rattle.command_reports.specs.Refusals.{IsTold, line_with}
 use Rattle.command_reports.specs.Scenes.{ChangesOnlySink, Scene}
 use Rattle.command_reports.specs.Writing.{TookAll, TookPart}
-use Rattle.grant_log.specs.Legal.{Register}
+use Rattle.path_recover.specs.history.Legal.{Register}
 use Rattle.command_files.specs.Files.{BaseStep, NetworkStep}
 use Rattle.command_files.specs.Outs.{IsNotWritten, Writes}
 use Rattle.command_files.specs.declared.bases.BaseFile.{BaseFile}

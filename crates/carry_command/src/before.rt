@@ -2,7 +2,7 @@
 
 ghost use Rattle.std.specs.Prelude.{◌≡◌, ◌++◌, codes, IfOk};
 ghost use Rattle.command_reports.specs.declared.exit_status.Status.TheVariants.{Base};
-ghost use Rattle.base_file.specs.Sound.{IsBaseOn};
+ghost use Rattle.command_files.specs.base.Sound.{IsBaseOn};
 ghost use Rattle.command_reports.specs.Refusals.{IsTold};
 ghost use Rattle.command_reports.specs.Scenes.{scene};
 ghost use Rattle.carry_command.specs.Before.{BeforeStep, IsRenamed};

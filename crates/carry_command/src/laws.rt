@@ -3,10 +3,10 @@
 ghost use Rattle.std.specs.Prelude.{◌≡◌, ℕ, List, Some, slice_get};
 ghost use Rattle.rail_types.specs.declared.entries.Entry.{Entry as entry_type};
 ghost use Rattle.rail_types.specs.Timetables.{Timetable};
-ghost use Rattle.grant_log.specs.declared.verdicts.Verdict.TheVariants.{Kept};
-ghost use Rattle.grant_log.specs.Content.{HaveSameContent};
-ghost use Rattle.grant_log.specs.Meanings.{IsNumbered};
-ghost use Rattle.grant_log.specs.Verdict.{verdict_on};
+ghost use Rattle.path_recover.specs.history.declared.verdicts.Verdict.TheVariants.{Kept};
+ghost use Rattle.path_recover.specs.history.Content.{HaveSameContent};
+ghost use Rattle.path_recover.specs.history.Meanings.{IsNumbered};
+ghost use Rattle.path_recover.specs.history.Verdict.{verdict_on};
 ghost use Rattle.path_recover.specs.Files.{TellsHistory};
 ghost use Rattle.carry_command.specs.Carried.{IsCarriedTo};
 ghost use Rattle.carry_command.specs.Unfinished.{IsUnfinished};
@@ -14,7 +14,7 @@ ghost use Rattle.carry_command.specs.declared.carried_history.reasons.LeftOut.{
   LeftOut as left_type,
 };
 
-use grant_log::verdicts_say_what_they_mean;
+use path_recover::history::verdicts_say_what_they_mean;
 
 /// Bytes that are told from a journal by their first byte, or are at most one, are no journal of
 /// any version, of any files, and so are refused by opening.

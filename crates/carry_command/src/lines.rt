@@ -11,10 +11,10 @@ use crate::carried_history::{LeftOut, Reason};
 use byte_fields::Buffer;
 use command_reports::Refusal;
 use command_reports::exit_status::Status;
-use grant_log::History;
 use itoa::Buffer as Digits;
 use json_fields::name_text::push_escaped;
 use no_memory::NoMemory;
+use path_recover::history::History;
 use rail_types::{Entry, List};
 use std::alloc::Global;
 

@@ -2,7 +2,7 @@
 
 ghost use Rattle.std.specs.Prelude.{◌≡◌, ◌<◌, ◌^◌, All, IfOk, length};
 ghost use Rattle.init_command.specs.Moves.{timetable_on};
-ghost use Rattle.grant_journal.specs.Histories.{bodies_of};
+ghost use Rattle.path_recover.specs.journal.Histories.{bodies_of};
 ghost use Rattle.rail_types.specs.Timetables.{IsTimetable};
 ghost use Rattle.carry_command.specs.Unfinished.{IsMarked};
 ghost use Rattle.carry_command.specs.Inside.{TellsOf};
@@ -12,8 +12,8 @@ use crate::carried_history::{Carried, carry};
 use crate::lines::{left_refusal, lines_of, told_of};
 use command_files::{BaseFile, NetworkFile};
 use command_reports::Refusal;
-use grant_log::History;
 use no_memory::NoMemory;
+use path_recover::history::History;
 use path_recover::history_reading::Found;
 use rail_types::List;
 use std::alloc::Global;

@@ -1,14 +1,14 @@
 //! An entry as it stands in a journal.
 
 ghost use Rattle.std.specs.Prelude.{◌≡◌, ◌∷◌, ◌++◌, ◌<◌, ◌^◌, OnOk, length};
-ghost use Rattle.entry_codec.specs.Body.{body_of};
-ghost use Rattle.entry_codec.specs.Within.{HasBody};
-ghost use Rattle.grant_journal.specs.Histories.{counted};
+ghost use Rattle.path_recover.specs.spelling.Body.{body_of};
+ghost use Rattle.path_recover.specs.spelling.Within.{HasBody};
+ghost use Rattle.path_recover.specs.journal.Histories.{counted};
 ghost use Rattle.rail_types.specs.Limits.{IsEntryWithinLimits};
 
 use byte_fields::{Buffer, put_u8, put_u32};
-use entry_codec::{body_len, write};
 use no_memory::NoMemory;
+use path_recover::spelling::{body_len, write};
 use rail_types::Entry;
 
 /// Puts an open gate, and an entry's body behind its length, behind a text.

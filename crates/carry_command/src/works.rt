@@ -10,7 +10,7 @@ use crate::before::read_before;
 use crate::disks::find_empty;
 use crate::names::CarryNames;
 use crate::olds::carry_from;
-use base_file::bases_make_timetables;
+use command_files::base::bases_make_timetables;
 use command_files::{BaseFile, NetworkFile, read_base_file, read_network_file};
 use command_reports::Refusal;
 use outside_io::Outside;

@@ -11,13 +11,13 @@ use Rattle.rail_types.specs.declared.trains.Request.{Request}
 use Rattle.rail_types.specs.FirstClash.{HoldAlike}
 use Rattle.rail_types.specs.Occupation.{Clash, Fits, HeldClaim}
 use Rattle.refusal_proof.specs.Proofs.{IsProof}
-use Rattle.stair_pieces.specs.declared.places.Place.{Place}
-use Rattle.stair_pieces.specs.declared.places.Step.{Step}
-use Rattle.stair_pieces.specs.Pieces.{kept, later_by, pieces_of}
-use Rattle.stair_pieces.specs.Places.{place_after, standing_zones}
-use Rattle.tail_states.specs.declared.certificates.Closed.{Closed}
-use Rattle.tail_states.specs.declared.certificates.Member.{Member}
-use Rattle.tail_states.specs.Closing.{GoesOn, IsAdmitted, IsClosed, IsFreeMove}
+use Rattle.refusal_proof.specs.pieces.declared.places.Place.{Place}
+use Rattle.refusal_proof.specs.pieces.declared.places.Step.{Step}
+use Rattle.refusal_proof.specs.pieces.Pieces.{kept, later_by, pieces_of}
+use Rattle.refusal_proof.specs.pieces.Places.{place_after, standing_zones}
+use Rattle.refusal_proof.specs.tails.declared.certificates.Closed.{Closed}
+use Rattle.refusal_proof.specs.tails.declared.certificates.Member.{Member}
+use Rattle.refusal_proof.specs.tails.Closing.{GoesOn, IsAdmitted, IsClosed, IsFreeMove}
 
 abbrev pub claims_in : List HeldClaim → List Claim
 claims_in list = map (λ one. one.0) list

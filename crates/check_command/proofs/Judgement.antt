@@ -1,8 +1,9 @@
 -- What a proof at the beginning of a text comes to.
-use Rattle.std.proofs.Common.{◌≡◌, ◌≢◌, ◌∙◌, ap, sym, refl, subst, ℕ, ◌<◌, ◌≤◌, List, [], length, take, drop, arith}
-use Rattle.client_lines.specs.Names.{Names}
-use Rattle.grant_log.specs.Live.{live_claims}
-use Rattle.occupation_book.specs.Held.{held}
+use Rattle.std.proofs.Common.{◌≡◌, ◌≢◌, ◌∙◌, ap, sym, refl, subst, ℕ, ◌<◌, ◌≤◌, List, [], length}
+use Rattle.std.proofs.Common.{take, drop, arith}
+use Rattle.proof_texts.specs.lines.Names.{Names}
+use Rattle.path_recover.specs.history.Live.{live_claims}
+use Rattle.path_recover.specs.claims.Held.{held}
 use Rattle.rail_types.specs.declared.entries.Entry.{Entry}
 use Rattle.rail_types.specs.declared.entries.Settings.{Settings}
 use Rattle.rail_types.specs.declared.tracks.Network.{Network}
@@ -10,7 +11,8 @@ use Rattle.rail_types.specs.Timetables.{Timetable}
 use Rattle.refusal_proof.specs.Proofs.{IsProof, claims_held}
 use Rattle.proof_texts.specs.declared.refusals.Proof.{Proof}
 use Rattle.proof_texts.specs.Read.{BeginsWith as Reads, ProofsAreReadOnce}
-use Rattle.check_command.specs.Checks.{BeginsWith, IsFailing, IsNotUnderstood, IsTooWide, IsWide, Proves, live_in}
+use Rattle.check_command.specs.Checks.{BeginsWith, IsFailing, IsNotUnderstood, IsTooWide, IsWide}
+use Rattle.check_command.specs.Checks.{Proves, live_in}
 use Rattle.check_command.specs.Doubts.{BeginsWell}
 use Rattle.check_command.specs.Replays.{IsJudged, IsUp, entries_of}
 use Rattle.check_command.specs.declared.judging.Judged.{Judged}

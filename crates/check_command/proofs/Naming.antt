@@ -1,9 +1,9 @@
 -- The network of a history has the names of its file.
 use Rattle.std.proofs.Common.{◌≡◌, ◌∙◌, ap, List}
-use Rattle.client_lines.specs.Within.{AreSound}
+use Rattle.proof_texts.specs.lines.Within.{AreSound}
 use Rattle.command_files.specs.declared.bases.BaseFile.{BaseFile}
 use Rattle.command_files.specs.declared.networks.NetworkFile.{NetworkFile}
-use Rattle.grant_log.specs.Legal.{Register}
+use Rattle.path_recover.specs.history.Legal.{Register}
 use Rattle.init_command.specs.Moves.{timetable_on}
 use Rattle.rail_types.specs.declared.tracks.Network.{Network}
 use Rattle.rail_types.specs.declared.trains.Train.{Train}

@@ -1,17 +1,19 @@
 -- The bytes of a file of proofs come to one line.
-use Rattle.std.proofs.Common.{◌≡◌, ◌∙◌, ap, sym, refl, subst, inl, inr, ℕ, suc, ◌+◌, ◌≤◌, List, [], ◌∷◌, ◌++◌, length, arith, append_assoc, length-append}
+use Rattle.std.proofs.Common.{◌≡◌, ◌∙◌, ap, sym, refl, subst, inl, inr, ℕ, suc, ◌+◌, ◌≤◌, List, []}
+use Rattle.std.proofs.Common.{◌∷◌, ◌++◌, length, arith, append_assoc, length-append}
 use Rattle.std.specs.List.{flat_map}
 use Rattle.std.proofs.lemmas.List.{append-nil}
 use Rattle.std.proofs.lemmas.List.Elements.{All-head, All-tail}
-use Rattle.client_lines.specs.Names.{Names}
+use Rattle.proof_texts.specs.lines.Names.{Names}
 use Rattle.rail_types.specs.declared.entries.Entry.{Entry}
 use Rattle.rail_types.specs.Timetables.{Timetable}
-use Rattle.client_lines.specs.Fields.{line_of}
+use Rattle.proof_texts.specs.lines.Fields.{line_of}
 use Rattle.proof_texts.specs.declared.refusals.Proof.{Proof}
 use Rattle.proof_texts.specs.Read.{ProofsAreReadOnce}
 use Rattle.proof_texts.specs.Texts.{count_fields, ended, head_fields, member_text, proof_text}
 use Rattle.proof_texts.specs.Told.{IsProofOf}
-use Rattle.check_command.specs.Checks.{AreGood, BeginsWith, HasDoubt, Holds, IsDone, IsDoubted, IsWide, ProofsAreJudgedOnce, Proves, done_line, texts_of}
+use Rattle.check_command.specs.Checks.{AreGood, BeginsWith, HasDoubt, Holds, IsDone, IsDoubted}
+use Rattle.check_command.specs.Checks.{IsWide, ProofsAreJudgedOnce, Proves, done_line, texts_of}
 
 -- the text of a proof has a byte
 some_line : (line : List ℕ) → 1 ≤ length (line ++ 10 ∷ [])

@@ -1,13 +1,14 @@
 -- Entries that are moved from one list to another.
-use Rattle.std.proofs.Common.{◌≡◌, ◌∙◌, ap, sym, refl, subst, ℕ, ◌+◌, ◌≤◌, List, [], ◌∷◌, ◌++◌, length, take, Some, append_assoc, length-append}
+use Rattle.std.proofs.Common.{◌≡◌, ◌∙◌, ap, sym, refl, subst, ℕ, ◌+◌, ◌≤◌, List, [], ◌∷◌, ◌++◌}
+use Rattle.std.proofs.Common.{length, take, Some, append_assoc, length-append}
 use Rattle.std.specs.Prelude.{reverse, slice_get}
 use Rattle.std.proofs.lemmas.List.{length-reverse, reverse-append, take-append-le}
 use Rattle.std.proofs.Math.Seq.{take-append_seam}
 use Rattle.rail_types.specs.declared.entries.Entry.{Entry}
 use Rattle.rail_types.specs.Timetables.{Timetable}
 use Rattle.rail_types.specs.Occupation.{HeldClaim}
-use Rattle.grant_log.specs.Following.{AreLive}
-use Rattle.grant_log.specs.Legal.{IsLegal, Joins}
+use Rattle.path_recover.specs.history.Following.{AreLive}
+use Rattle.path_recover.specs.history.Legal.{IsLegal, Joins}
 
 -- the last one of the entries behind others stands next
 next_of : {A : Type 0} (entries ahead : List A) (x : A) → entries ++ reverse (ahead ++ x ∷ []) ≡ entries ++ x ∷ reverse ahead

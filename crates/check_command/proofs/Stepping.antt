@@ -1,18 +1,21 @@
 -- The steps of the command keep to its opening calls, and only read the journal.
-use Rattle.std.proofs.Common.{◌≡◌, ℕ, List, [], ◌∷◌, Vec, Result, Ok, Err, inl, inr, sym, ap, subst, zero}
+use Rattle.std.proofs.Common.{◌≡◌, ℕ, List, [], ◌∷◌, Vec, Result, Ok, Err, inl, inr, sym, ap, subst}
+use Rattle.std.proofs.Common.{zero}
 use Rattle.std.specs.Global.{Global}
 use Rattle.outside_io.specs.Openings.{source_at, disk_at}
 use Rattle.outside_io.specs.Places.{Place, hidden, kept, lent, empty, Replaces}
 use Rattle.outside_io.specs.declared.disks.Disk.{Ghosts as Disks}
 use Rattle.outside_io.specs.declared.sources.Source.{Ghosts as Sources}
 use Rattle.command_reports.specs.Scenes.{ChangesOnlySource, Scene}
-use Rattle.client_lines.specs.Names.{Names}
-use Rattle.grant_log.specs.Legal.{Register}
+use Rattle.proof_texts.specs.lines.Names.{Names}
+use Rattle.path_recover.specs.history.Legal.{Register}
 use Rattle.path_recover.specs.Failing.{IsOnlyRead}
 use Rattle.command_reports.specs.Works.{Keeps, KeepsTo}
 use Rattle.command_reports.specs.declared.refusals.Refusal.{Refusal}
 use Rattle.command_reports.proofs.Steps.{alone, follows_keep, silent}
-use Rattle.command_files.specs.Files.{BaseStep, HasBaseFault, HasNetworkFault, HasTrainFault, IsBaseFile, IsNetworkFile, IsTrainFile, NetworkStep, TrainStep}
+use Rattle.command_files.specs.Files.{BaseStep, HasBaseFault, HasNetworkFault, HasTrainFault}
+use Rattle.command_files.specs.Files.{IsBaseFile, IsNetworkFile, IsTrainFile, NetworkStep}
+use Rattle.command_files.specs.Files.{TrainStep}
 use Rattle.command_files.specs.declared.bases.BaseFile.{BaseFile}
 use Rattle.command_files.specs.declared.files.FileKind.TheVariants as kind
 use Rattle.command_files.specs.declared.networks.NetworkFile.{NetworkFile}
@@ -23,7 +26,8 @@ use Rattle.print_commands.proofs.Printed.{journal_keeps}
 use Rattle.rail_types.specs.declared.trains.Train.{Train}
 use Rattle.check_command.specs.Checks.{TellsProofs}
 use Rattle.check_command.specs.Files.{ProofFileStep}
-use Rattle.check_command.specs.Works.{check_calls, names_of, plain_of, ReadsBase, ReadsJournal, ReadsNetwork, ReadsProofs, ReadsTrains}
+use Rattle.check_command.specs.Works.{check_calls, names_of, plain_of, ReadsBase, ReadsJournal}
+use Rattle.check_command.specs.Works.{ReadsNetwork, ReadsProofs, ReadsTrains}
 
 -- ---- opening calls
 

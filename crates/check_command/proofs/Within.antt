@@ -5,10 +5,10 @@ use Rattle.std.specs.Str.{bytes_eq}
 use Rattle.rail_types.specs.declared.tracks.Network.{Network}
 use Rattle.rail_types.specs.declared.trains.Request.{Request}
 use Rattle.rail_types.specs.Limits.{IsRequestWithinLimits, IsTrainWithinLimits}
-use Rattle.client_lines.specs.Names.{Names}
-use Rattle.client_lines.specs.Within.{AreSound}
-use Rattle.client_lines.proofs.Found.{found_one}
-use Rattle.tail_states.specs.declared.certificates.Member.{Member}
+use Rattle.proof_texts.specs.lines.Names.{Names}
+use Rattle.proof_texts.specs.lines.Within.{AreSound}
+use Rattle.proof_texts.proofs.lines_lemmas.Found.{found_one}
+use Rattle.refusal_proof.specs.tails.declared.certificates.Member.{Member}
 use Rattle.proof_texts.specs.Told.{IsMemberOn, IsRequestOf}
 
 pub request_within : (known : Names) (request : Request) → AreSound known → IsRequestOf known request → IsRequestWithinLimits request

@@ -1,18 +1,18 @@
 -- What a file of proofs comes to, by a history: its timetable and its entries.
 use Rattle.std.specs.Prelude.{◌≡◌, ◌≢◌, ◌⊎◌, ◌≤◌, ℕ, List, [], ◌++◌, length, take, map, All, codes}
 use Rattle.std.specs.Prelude.{decimal, flat_map, Result, Ok, Err}
-use Rattle.client_lines.specs.Names.{Names}
+use Rattle.proof_texts.specs.lines.Names.{Names}
 use Rattle.command_reports.specs.Refusals.{IsTold, line_with}
 use Rattle.command_reports.specs.declared.refusals.Refusal.{Refusal}
 use Rattle.command_reports.specs.declared.refusals.Refusal.TheVariants.{Memory}
 use Rattle.command_reports.specs.declared.exit_status.Status.TheVariants.{No}
-use Rattle.grant_log.specs.Live.{live_claims}
+use Rattle.path_recover.specs.history.Live.{live_claims}
 use Rattle.rail_types.specs.declared.limits.TheConstants.{MAX_PLACES}
 use Rattle.rail_types.specs.declared.entries.Entry.{Entry}
 use Rattle.rail_types.specs.declared.paths.Claim.{Claim}
 use Rattle.rail_types.specs.Timetables.{Timetable}
 use Rattle.refusal_proof.specs.Proofs.{IsProof}
-use Rattle.tail_states.specs.Listed.{HasMoreThan}
+use Rattle.refusal_proof.specs.tails.Listed.{HasMoreThan}
 use Rattle.proof_texts.specs.declared.refusals.Proof.{Proof}
 use Rattle.proof_texts.specs.Texts.{proof_text}
 use Rattle.proof_texts.specs.Told.{IsProofOf}

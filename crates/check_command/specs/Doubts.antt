@@ -1,6 +1,6 @@
 -- Inside: the first doubt, and what is reported of it.
 use Rattle.std.specs.Prelude.{◌≡◌, ◌≢◌, ◌⊎◌, ℕ, List, [], ◌++◌, codes, drop, length, take}
-use Rattle.client_lines.specs.Names.{Names}
+use Rattle.proof_texts.specs.lines.Names.{Names}
 use Rattle.command_reports.specs.Refusals.{IsTold}
 use Rattle.command_reports.specs.declared.refusals.Refusal.{Refusal}
 use Rattle.command_reports.specs.declared.refusals.Refusal.TheVariants.{Memory}

@@ -1,15 +1,15 @@
 -- Inside: a history that is gone through, with the claims that are live in it.
 use Rattle.std.specs.Prelude.{◌≡◌, List, ◌++◌, length, reverse}
-use Rattle.grant_log.specs.Following.{AreLive}
-use Rattle.grant_log.specs.Legal.{Register}
-use Rattle.occupation_book.specs.Held.{held}
+use Rattle.path_recover.specs.history.Following.{AreLive}
+use Rattle.path_recover.specs.history.Legal.{Register}
+use Rattle.path_recover.specs.claims.Held.{held}
 use Rattle.rail_types.specs.declared.entries.Entry.{Entry}
 use Rattle.rail_types.specs.declared.entries.Settings.{Settings}
 use Rattle.rail_types.specs.declared.paths.Claim.{Claim}
 use Rattle.rail_types.specs.declared.tracks.Network.{Network}
 use Rattle.rail_types.specs.declared.limits.TheConstants.{MAX_PLACES}
 use Rattle.refusal_proof.specs.Proofs.{IsProof}
-use Rattle.tail_states.specs.Listed.{HasMoreThan}
+use Rattle.refusal_proof.specs.tails.Listed.{HasMoreThan}
 use Rattle.proof_texts.specs.declared.refusals.Proof.{Proof}
 use Rattle.check_command.specs.declared.judging.Judged.{Judged}
 use Rattle.check_command.specs.declared.judging.Judged.TheVariants.{Good, Wide, Fails}

@@ -13,7 +13,7 @@ use Rattle.command_reports.specs.Reading.{GaveTooMuch}
 use Rattle.command_reports.specs.Scenes.{ChangesOnlyReport, Scene}
 use Rattle.command_reports.specs.Writing.{ReportSays}
 use Rattle.command_reports.specs.declared.file_rounds.writing.OutFault.{OutFault}
-use Rattle.grant_log.specs.Legal.{Register}
+use Rattle.path_recover.specs.history.Legal.{Register}
 use Rattle.print_commands.specs.Journals.{JournalStep}
 use Rattle.outside_io.specs.Places.{Replaces}
 use Rattle.outside_io.specs.declared.disks.Disk.{Ghosts as Disks}

@@ -2,15 +2,15 @@
 -- network and the base timetable, and then the proofs.
 use Rattle.std.specs.Prelude.{ℕ, List, [], ◌∷◌, Vec, Result}
 use Rattle.std.specs.Global.{Global}
-use Rattle.base_file.specs.Sound.{IsBaseOn}
-use Rattle.client_lines.specs.Names.{Names}
+use Rattle.command_files.specs.base.Sound.{IsBaseOn}
+use Rattle.proof_texts.specs.lines.Names.{Names}
 use Rattle.command_files.specs.Files.{BaseStep, NetworkStep, TrainStep}
 use Rattle.command_files.specs.declared.bases.BaseFile.{BaseFile}
 use Rattle.command_files.specs.declared.networks.NetworkFile.{NetworkFile}
 use Rattle.command_reports.specs.Works.{Follows}
 use Rattle.command_reports.specs.declared.refusals.Refusal.{Refusal}
 use Rattle.command_reports.specs.Scenes.{Scene}
-use Rattle.grant_log.specs.Legal.{Register}
+use Rattle.path_recover.specs.history.Legal.{Register}
 use Rattle.print_commands.specs.Journals.{JournalStep}
 use Rattle.print_commands.specs.Steps.{Tells}
 use Rattle.rail_types.specs.Named.{IsNamed}
@@ -19,7 +19,7 @@ use Rattle.outside_io.specs.declared.disks.Disk.{Ghosts as Disks}
 use Rattle.outside_io.specs.declared.sources.Source.{Ghosts as Sources}
 use Rattle.rail_types.specs.declared.tracks.Network.{Network}
 use Rattle.rail_types.specs.declared.trains.Train.{Train}
-use Rattle.train_file.specs.Trains.{AreTrains}
+use Rattle.command_files.specs.train.Trains.{AreTrains}
 use Rattle.check_command.specs.Checks.{TellsProofs}
 use Rattle.check_command.specs.Files.{ProofFileStep}
 use Rattle.check_command.specs.declared.journals.Parts.{Parts}

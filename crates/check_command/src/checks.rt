@@ -1,11 +1,11 @@
 //! A file of proofs, judged one by one.
 
 ghost use Rattle.std.specs.Prelude.{◌≡◌, ◌≢◌, ◌≤◌, [], length, IfErr, IfOk, OnOk};
-ghost use Rattle.client_lines.specs.Within.{AreSound};
-ghost use Rattle.grant_log.specs.Legal.{IsLegal};
+ghost use Rattle.proof_texts.specs.lines.Within.{AreSound};
+ghost use Rattle.path_recover.specs.history.Legal.{IsLegal};
 ghost use Rattle.proof_texts.specs.declared.reading.TheConstants.{MAX_PROOF_FILE_BYTES};
 ghost use Rattle.rail_types.specs.Flaws.{first_flaw};
-ghost use Rattle.tail_states.specs.Following.{AreFollowers};
+ghost use Rattle.refusal_proof.specs.tails.Following.{AreFollowers};
 ghost use Rattle.check_command.specs.Checks.{TellsProofs};
 ghost use Rattle.check_command.specs.Doubts.{BeginsWell, HasGood, IsDoubtIn, Refutes};
 ghost use Rattle.check_command.specs.Replays.{IsUp, entries_of};
@@ -13,14 +13,14 @@ ghost use Rattle.check_command.specs.Replays.{IsUp, entries_of};
 use crate::doubts::{Doubt, Why, done_told, refusal_of};
 use crate::judging::{Judged, followers_of, judge};
 use crate::replays::{Replay, begin, go_to};
-use client_lines::Known;
 use command_reports::Refusal;
-use grant_log::History;
 use no_memory::NoMemory;
+use path_recover::history::History;
+use proof_texts::lines::Known;
 use proof_texts::{ProofFault, proofs_are_read_once, read_proof};
 use rail_types::List;
+use refusal_proof::tails::Followers;
 use std::alloc::Global;
-use tail_states::Followers;
 
 // Judges the proof at the beginning of a text, and tells how long its text is.
 fn check_first(

@@ -1,7 +1,7 @@
 //! The journal, and what its history says of the proofs.
 
 ghost use Rattle.std.specs.Prelude.{◌≡◌, ◌≤◌, length, IfOk};
-ghost use Rattle.client_lines.specs.Within.{AreSound};
+ghost use Rattle.proof_texts.specs.lines.Within.{AreSound};
 ghost use Rattle.command_reports.specs.Scenes.{scene};
 ghost use Rattle.proof_texts.specs.declared.reading.TheConstants.{MAX_PROOF_FILE_BYTES};
 ghost use Rattle.check_command.specs.Checks.{TellsProofs};
@@ -10,18 +10,18 @@ ghost use Rattle.check_command.specs.Works.{names_of, plain_of};
 
 use crate::checks::tell_proofs;
 use crate::files::read_proof_file;
-use base_file::bases_make_timetables;
-use client_lines::Known;
+use command_files::base::bases_make_timetables;
+use command_files::train::Trains;
 use command_files::{BaseFile, NetworkFile};
 use command_reports::Refusal;
-use grant_log::History;
 use no_memory::NoMemory;
 use outside_io::Outside;
+use path_recover::history::History;
 use print_commands::read_journal_file;
+use proof_texts::lines::Known;
 use rail_types::named_network::{BlockName, Named, ZoneName};
 use rail_types::{List, Name, networks_without_flaws};
 use std::alloc::Global;
-use train_file::Trains;
 
 /// The names of a network's parts, and trains.
 #[derive(Debug, Drop)]

@@ -4,16 +4,16 @@ ghost use Rattle.std.specs.Prelude.{◌≡◌, ◌≤ℤ◌, None, length, All, 
 ghost use Rattle.rail_types.specs.Flaws.{first_flaw};
 ghost use Rattle.rail_types.specs.Limits.{IsRequestWithinLimits, IsSettingsWithinLimits};
 ghost use Rattle.refusal_proof.specs.Proofs.{claims_held};
-ghost use Rattle.tail_states.specs.Following.{AreFollowers};
+ghost use Rattle.refusal_proof.specs.tails.Following.{AreFollowers};
 ghost use Rattle.check_command.specs.Replays.{IsJudged};
 
 use no_memory::NoMemory;
-use occupation_book::Occupations;
+use path_recover::claims::Occupations;
 use proof_texts::Proof;
 use rail_types::{Network, Settings, networks_without_flaws};
 use refusal_proof::check;
+use refusal_proof::tails::{Followers, PlacesFault, places, sound_networks_are_asked};
 use std::alloc::Global;
-use tail_states::{Followers, PlacesFault, places, sound_networks_are_asked};
 
 /// What a proof comes to.
 #[derive(Clone, Copy, Debug, PartialEq, Eq)]

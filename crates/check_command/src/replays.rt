@@ -2,13 +2,13 @@
 //! that are live where it stands.
 
 ghost use Rattle.std.specs.Prelude.{◌≡◌, ◌≤◌, length, IfOk, OnOk};
-ghost use Rattle.grant_log.specs.Legal.{IsLegal};
+ghost use Rattle.path_recover.specs.history.Legal.{IsLegal};
 ghost use Rattle.check_command.specs.Replays.{IsUp, all_of, entries_of};
 
-use grant_log::History;
-use grant_log::copy_since::{bring_up, copy_of};
 use no_memory::NoMemory;
-use occupation_book::Occupations;
+use path_recover::claims::Occupations;
+use path_recover::history::History;
+use path_recover::history::copy_since::{bring_up, copy_of};
 use rail_types::Entry;
 use std::alloc::Global;
 

@@ -5,12 +5,12 @@ ghost use Rattle.rail_types.specs.Named.{IsNamed};
 ghost use Rattle.check_command.specs.Works.{AreRead, ReadsBase, ReadsNetwork, ReadsTrains};
 
 use crate::journals::check_journal;
+use command_files::train::Trains;
 use command_files::{NetworkFile, read_base_file, read_network_file, read_train_file};
 use command_reports::Refusal;
 use outside_io::Outside;
 use rail_types::List;
 use std::alloc::Global;
-use train_file::Trains;
 
 /// Reads all that the command names, in order, and tells the line that is
 /// reported where all proofs hold.

@@ -2,3 +2,5 @@ pub mod Kinds
 pub mod Steps
 pub mod Files
 pub mod Outs
+pub use Rattle.base_file.specs as base
+pub use Rattle.train_file.specs as train

@@ -8,9 +8,11 @@ mod networks;
 mod outs;
 mod trains;
 
+pub use base_file as base;
 pub use bases::{BaseFile, read_base_file};
 #[doc(hidden)]
 pub use files::FileKind;
 pub use networks::{NetworkFile, network_of_bytes, read_network_file};
 pub use outs::write_out;
+pub use train_file as train;
 pub use trains::read_train_file;

@@ -1,12 +1,13 @@
 -- Replies counted in their text.
-use Rattle.std.proofs.Common.{◌≡◌, ◌∙◌, ℕ, List, [], ◌∷◌, Bool, true, false, refl, ap, arith, append_assoc, length}
+use Rattle.std.proofs.Common.{◌≡◌, ◌∙◌, ℕ, List, [], ◌∷◌, Bool, true, false, refl, ap, arith}
+use Rattle.std.proofs.Common.{append_assoc, length}
 use Rattle.std.specs.Prelude.{filter, if◌then◌else◌, nat_eq}
 use Rattle.std.specs.List.{slice_split}
 use Rattle.std.proofs.lemmas.List.Splits.{slice_split_at}
 use Rattle.client_lines.specs.declared.reply_texts.replies.Reply.{Reply}
 use Rattle.client_lines.specs.Fields.{line_of}
 use Rattle.client_lines.specs.Replies.{reply_fields}
-use Rattle.line_sessions.specs.Told.{text_told, Told}
+use Rattle.served_clients.specs.sessions.Told.{text_told, Told}
 use Rattle.demo_command.specs.Counts.{begins, count_lines}
 use Rattle.demo_command.specs.Sessions.{count_told}
 use Rattle.demo_command.proofs.Plain.{reply_plain}

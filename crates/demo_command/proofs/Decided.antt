@@ -1,10 +1,11 @@
 -- All lines are decided where they are as many as the replies of both kinds.
-use Rattle.std.proofs.Common.{◌≡◌, ℕ, ◌+◌, ◌≤◌, List, [], ◌∷◌, All, Bool, true, false, arith, length, refl}
+use Rattle.std.proofs.Common.{◌≡◌, ℕ, ◌+◌, ◌≤◌, List, [], ◌∷◌, All, Bool, true, false, arith}
+use Rattle.std.proofs.Common.{length, refl}
 use Rattle.std.specs.Prelude.{◌||◌, filter, if◌then◌else◌}
 use Rattle.std.proofs.lemmas.List.Elements.{All-cons, All-nil}
 use Rattle.client_lines.specs.declared.reply_texts.replies.Reply.{Reply}
 use Rattle.client_lines.specs.declared.reply_texts.replies.Reply.TheVariants as reply
-use Rattle.line_sessions.specs.Told.{Told}
+use Rattle.served_clients.specs.sessions.Told.{Told}
 use Rattle.demo_command.specs.Sessions.{count_told, IsDecided, is_granted, is_no_path}
 
 -- no reply is of both kinds

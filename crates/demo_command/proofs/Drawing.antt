@@ -1,6 +1,7 @@
 -- The lines of the demo, one after another.
-use Rattle.std.proofs.Common.{◌≡◌, ℕ, ◌+◌, List, [], ◌∷◌, ◌++◌, ◌∙◌, ap, refl, sym, add-one, append_assoc}
-use Rattle.line_sessions.specs.Lines.{ended}
+use Rattle.std.proofs.Common.{◌≡◌, ℕ, ◌+◌, List, [], ◌∷◌, ◌++◌, ◌∙◌, ap, refl, sym, add-one}
+use Rattle.std.proofs.Common.{append_assoc}
+use Rattle.served_clients.specs.sessions.Lines.{ended}
 use Rattle.demo_command.specs.Lines.{ask_text, departure, drawn, first_lines, next}
 
 pub drawn_first : (number : ℕ) → drawn number 0 ≡ number

@@ -1,13 +1,15 @@
 -- The entries of the demo are those of its grants.
-use Rattle.std.proofs.Common.{◌≡◌, ◌∙◌, ℕ, ◌+◌, ◌-◌, ◌<◌, zero, suc, List, [], ◌∷◌, All, Any, Bool, true, false, ap, arith, drop, length, length-append, refl, slice_get, subst, sym}
+use Rattle.std.proofs.Common.{◌≡◌, ◌∙◌, ℕ, ◌+◌, ◌-◌, ◌<◌, zero, suc, List, [], ◌∷◌, All, Any, Bool}
+use Rattle.std.proofs.Common.{true, false, ap, arith, drop, length, length-append, refl, slice_get}
+use Rattle.std.proofs.Common.{subst, sym}
 use Rattle.std.specs.Prelude.{◌||◌, filter, if◌then◌else◌, IsTrue}
 use Rattle.std.proofs.lemmas.List.Elements.{All-head, All-tail, All-weaker}
 use Rattle.std.proofs.lemmas.Slice.Eq.{bytes_eq-Decides}
-use Rattle.book_gate.specs.Views.{positions}
-use Rattle.line_answers.specs.Points.{added}
-use Rattle.line_sessions.specs.Told.{Told}
+use Rattle.served_clients.specs.gate.Views.{positions}
+use Rattle.served_clients.specs.answers.Points.{added}
+use Rattle.served_clients.specs.sessions.Told.{Told}
 use Rattle.outside_io.specs.StoredDisks.{DiskInMemory}
-use Rattle.path_commit.specs.Ledgers.{Ledger}
+use Rattle.served_clients.specs.book.Ledgers.{Ledger}
 use Rattle.rail_types.specs.declared.entries.Entry.{Entry}
 use Rattle.client_lines.specs.declared.reply_texts.replies.Reply.{Reply}
 use Rattle.client_lines.specs.declared.reply_texts.replies.Reply.TheVariants as reply

@@ -1,5 +1,6 @@
 -- The session of the demo: from what its client was told to what is counted.
-use Rattle.std.proofs.Common.{◌≡◌, ◌∙◌, ℕ, ◌+◌, zero, suc, List, [], ◌∷◌, ◌++◌, Some, All, false, ap, arith, length, length-append, refl, subst, sym, codes}
+use Rattle.std.proofs.Common.{◌≡◌, ◌∙◌, ℕ, ◌+◌, zero, suc, List, [], ◌∷◌, ◌++◌, Some, All, false}
+use Rattle.std.proofs.Common.{ap, arith, length, length-append, refl, subst, sym, codes}
 use Rattle.std.specs.Prelude.{decimal}
 use Rattle.std.specs.Io.KnownBytes.{IsAtEnd}
 use Rattle.std.proofs.lemmas.List.Elements.{All-append, All-cons, All-nil}
@@ -8,21 +9,22 @@ use Rattle.admission_rules.specs.declared.quotas.Quota.{Quota}
 use Rattle.admission_rules.specs.declared.rules.Rule.{Ghosts as Rules}
 use Rattle.client_lines.specs.Names.{Names}
 use Rattle.admission_rules.specs.Ruled.{stand}
-use Rattle.line_sessions.specs.Ends.{EndsAtInput, EndsBy, streams, Streams}
-use Rattle.line_sessions.specs.Lines.{ended, HasNoEnd, lines_of}
-use Rattle.line_sessions.specs.Told.{lines_told, text_told}
-use Rattle.line_sessions.specs.declared.sessions.Why.{Why}
-use Rattle.line_sessions.specs.declared.sessions.Why.TheVariants.{Input}
-use Rattle.line_sessions.proofs.SessionSteps.{lines_of-ended}
+use Rattle.served_clients.specs.sessions.Ends.{EndsAtInput, EndsBy, streams, Streams}
+use Rattle.served_clients.specs.sessions.Lines.{ended, HasNoEnd, lines_of}
+use Rattle.served_clients.specs.sessions.Told.{lines_told, text_told}
+use Rattle.served_clients.specs.sessions.declared.sessions.Why.{Why}
+use Rattle.served_clients.specs.sessions.declared.sessions.Why.TheVariants.{Input}
+use Rattle.served_clients.proofs.sessions_lemmas.SessionSteps.{lines_of-ended}
 use Rattle.outside_io.specs.Memory.{InputInMemory, OutputInMemory}
 use Rattle.outside_io.specs.StoredDisks.{DiskInMemory}
-use Rattle.path_commit.specs.Ledgers.{Ledger}
+use Rattle.served_clients.specs.book.Ledgers.{Ledger}
 use Rattle.served_clients.specs.ClientRuns.{AreMatched, IsRun, told_own}
 use Rattle.served_clients.specs.Talks.{Talk}
-use Rattle.line_sessions.specs.Proofs.{is_wanted}
+use Rattle.served_clients.specs.sessions.Proofs.{is_wanted}
 use Rattle.request_server.specs.Runs.{IsServed, WereServed}
 use Rattle.demo_command.specs.declared.summaries.Counts.{Counts}
-use Rattle.demo_command.specs.Counts.{AreHeld, count_lines, DemoPlan, DemoSession, IsCount, IsCounted, IsOnePlan}
+use Rattle.demo_command.specs.Counts.{AreHeld, count_lines, DemoPlan, DemoSession, IsCount}
+use Rattle.demo_command.specs.Counts.{IsCounted, IsOnePlan}
 use Rattle.demo_command.specs.Lines.{ask_text, demo_lines, departure, first_lines}
 use Rattle.demo_command.specs.Railways.{demo_timetable}
 use Rattle.demo_command.specs.Sessions.{client_name, count_told, demo_names, is_granted, is_no_path}

@@ -3,14 +3,14 @@ use Rattle.std.specs.Prelude.{◌≡◌, ℕ, ◌+◌, All, Bool, false, List, [
 use Rattle.std.specs.Prelude.{nat_eq}
 use Rattle.std.specs.List.{slice_split, starts_with}
 use Rattle.admission_rules.specs.declared.quotas.Quota.{Quota}
-use Rattle.line_sessions.specs.Told.{Told}
-use Rattle.line_sessions.specs.declared.sessions.Why.TheVariants.{Input}
-use Rattle.line_sessions.specs.Lines.{ended}
-use Rattle.line_sessions.specs.Proofs.{is_wanted}
+use Rattle.served_clients.specs.sessions.Told.{Told}
+use Rattle.served_clients.specs.sessions.declared.sessions.Why.TheVariants.{Input}
+use Rattle.served_clients.specs.sessions.Lines.{ended}
+use Rattle.served_clients.specs.sessions.Proofs.{is_wanted}
 use Rattle.outside_io.specs.Memory.{InputInMemory, OutputInMemory}
 use Rattle.outside_io.specs.StoredDisks.{DiskInMemory}
 use Rattle.outside_io.specs.declared.betweens.NoBetween.{NoBetween}
-use Rattle.path_commit.specs.Ledgers.{Ledger}
+use Rattle.served_clients.specs.book.Ledgers.{Ledger}
 use Rattle.served_clients.specs.declared.plans.Plan.{Plan}
 use Rattle.served_clients.specs.declared.plans.Session.{Session}
 use Rattle.demo_command.specs.declared.summaries.Counts.{Counts}

@@ -2,9 +2,9 @@
 use Rattle.std.specs.Prelude.{◌≡◌, ◌||◌, ℕ, All, Bool, true, false, IsTrue, List, [], ◌∷◌, ◌++◌}
 use Rattle.std.specs.Prelude.{codes, decimal, filter, length}
 use Rattle.client_lines.specs.Names.{Names}
-use Rattle.line_sessions.specs.Told.{lines_told, Told}
+use Rattle.served_clients.specs.sessions.Told.{lines_told, Told}
 use Rattle.outside_io.specs.StoredDisks.{DiskInMemory}
-use Rattle.path_commit.specs.Ledgers.{Ledger}
+use Rattle.served_clients.specs.book.Ledgers.{Ledger}
 use Rattle.client_lines.specs.declared.reply_texts.replies.Reply.{Reply}
 use Rattle.client_lines.specs.declared.reply_texts.replies.Reply.TheVariants as reply
 use Rattle.served_clients.specs.ClientRuns.{IsRun}

@@ -1,16 +1,16 @@
 //! The journal of the demo, in memory.
 
 ghost use Rattle.std.specs.Prelude.{◌≡◌, [], length, IfOk};
-ghost use Rattle.path_commit.specs.Ledgers.{settled_of};
+ghost use Rattle.served_clients.specs.book.Ledgers.{settled_of};
 ghost use Rattle.demo_command.specs.Railways.{demo_network, demo_timetable};
 
 use crate::railways::base;
 use no_memory::NoMemory;
 use outside_io::MemDisk;
-use path_commit::Book;
 use path_recover::history_reading::one_reading;
 use path_recover::{init, open};
 use rail_types::Network;
+use served_clients::book::Book;
 use std::alloc::Global;
 
 /// How many bytes a disk or a sink of the demo has room for.

@@ -1,7 +1,7 @@
 //! The thousand lines of the demo.
 
 ghost use Rattle.std.specs.Prelude.{◌≡◌, ◌++◌, ◌∷◌, ◌<◌, ◌^◌, [], IfOk, OnOk};
-ghost use Rattle.line_sessions.specs.Lines.{ended};
+ghost use Rattle.served_clients.specs.sessions.Lines.{ended};
 ghost use Rattle.demo_command.specs.Lines.{ask_text, demo_lines, next};
 
 use itoa::Buffer;

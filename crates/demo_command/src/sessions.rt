@@ -1,7 +1,7 @@
 //! The session of the demo.
 
 ghost use Rattle.std.specs.Prelude.{◌≡◌, ◌∷◌, [], IfErr, IfOk};
-ghost use Rattle.line_sessions.specs.declared.sessions.Why.TheVariants.{Input};
+ghost use Rattle.served_clients.specs.sessions.declared.sessions.Why.TheVariants.{Input};
 ghost use Rattle.demo_command.specs.Counts.{AreHeld, IsCount, IsCounted, IsDemoPlan, IsOnePlan};
 ghost use Rattle.demo_command.specs.Sessions.{demo_names, IsDemo};
 
@@ -14,11 +14,11 @@ use crate::trains::trains;
 use admission_rules::Quota;
 use client_lines::Known;
 use command_reports::Refusal;
-use line_sessions::{Proofs, Why};
 use no_memory::NoMemory;
 use outside_io::{MemSink, MemSource, NoBetween};
 use rail_types::Name;
 use request_server::serve_clients;
+use served_clients::sessions::{Proofs, Why};
 use served_clients::{Plan, Session};
 use std::alloc::{AllocGlobal, Global};
 use std::sync::Wait;

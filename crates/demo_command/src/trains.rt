@@ -3,10 +3,10 @@
 ghost use Rattle.std.specs.Prelude.{◌≡◌, ◌∷◌, [], codes, IfOk, IsTrue};
 ghost use Rattle.demo_command.specs.Railways.{demo_train};
 
+use command_files::train::{Trains, read_trains};
 use no_memory::NoMemory;
 use rail_types::Train;
 use std::alloc::Global;
-use train_file::{Trains, read_trains};
 
 const TRAINS: &str = concat!(
     "{\"trains\":[{\"name\":\"F1\",\"length_m\":400,\"speed\":20000,",

@@ -1,14 +1,15 @@
 -- The turn of a call, and the reply that it gives.
-use Rattle.std.proofs.Common.{◌≡◌, ◌≢◌, ℕ, ◌+◌, ◌-◌, ◌≤◌, true, false, Bool, All, List, [], ◌∷◌, ◌++◌, length, take, ap, sym, ◌∙◌, subst, refl, arith, length-append}
+use Rattle.std.proofs.Common.{◌≡◌, ◌≢◌, ℕ, ◌+◌, ◌-◌, ◌≤◌, true, false, Bool, All, List, [], ◌∷◌}
+use Rattle.std.proofs.Common.{◌++◌, length, take, ap, sym, ◌∙◌, subst, refl, arith, length-append}
 use Rattle.std.proofs.lemmas.Bool.{cases_lt}
 use Rattle.std.proofs.lemmas.List.{append-nil, length_push, take_at, take_all}
 use Rattle.std.proofs.lemmas.List.Elements.{All-nil, All-push}
 use mathlib.Core.Logic.{inl, inr, ⊎_elim}
 use Rattle.book_gate.specs.declared.views.Turn.{Turn}
 use Rattle.book_gate.specs.Views.{StartsWith, turn, positions}
-use Rattle.grant_journal.specs.declared.journals.Stage.TheVariants.{Record, Gate}
-use Rattle.grant_log.specs.Verdict.{takes}
-use Rattle.grant_log.specs.Legal.{Joins}
+use Rattle.ask_turns.specs.journal.declared.journals.Stage.TheVariants.{Record, Gate}
+use Rattle.ask_turns.specs.history.Verdict.{takes}
+use Rattle.ask_turns.specs.history.Legal.{Joins}
 use Rattle.outside_io.specs.Faults.{Rose}
 use Rattle.plan_core.specs.declared.events.Event.TheVariants as event
 use Rattle.plan_core.specs.Pairs.{Pair}
@@ -17,7 +18,9 @@ use Rattle.client_lines.specs.declared.reply_texts.replies.Reply.{Reply}
 use Rattle.client_lines.specs.declared.reply_texts.replies.Reply.TheVariants as reply
 use Rattle.ask_turns.specs.Turns.{CannotBegin, CannotSettle, IsAdded, Looks, Sight, TakesTurn}
 use Rattle.line_answers.specs.Answers.{Caller, GivesLine}
-use Rattle.line_answers.specs.Calls.{AnswersBetween, AreSearches, EndInFault, HasTurns, IsOf, IsSettled, IsToldIn, IsTurnOf, Settle, TakesEvent, TakesEvents, pair}
+use Rattle.line_answers.specs.Calls.{AnswersBetween, AreSearches, EndInFault, HasTurns, IsOf}
+use Rattle.line_answers.specs.Calls.{IsSettled, IsToldIn, IsTurnOf, Settle, TakesEvent, TakesEvents}
+use Rattle.line_answers.specs.Calls.{pair}
 use Rattle.line_answers.specs.Points.{added, unsettled_by}
 
 pub starts_refl : {X : Type 0} (a : List X) → StartsWith a a

@@ -1,11 +1,12 @@
 -- What a line is told that a rule denies.
-use Rattle.std.proofs.Common.{◌≡◌, ℕ, ◌≤◌, List, Option, Some, None, length, ap, sym, ◌∙◌, subst, refl}
+use Rattle.std.proofs.Common.{◌≡◌, ℕ, ◌≤◌, List, Option, Some, None, length, ap, sym, ◌∙◌, subst}
+use Rattle.std.proofs.Common.{refl}
 use Rattle.std.proofs.lemmas.Option.{slice_get_past}
 use mathlib.Core.Logic.{inl}
 use Rattle.client_lines.specs.declared.asks.Ask.TheVariants as asks
 use Rattle.client_lines.specs.declared.asks.Line.{Line}
-use Rattle.grant_log.specs.Live.{freed_by}
-use Rattle.grant_log.specs.Verdict.{place_of, verdict_by_place, verdict_on_free}
+use Rattle.ask_turns.specs.history.Live.{freed_by}
+use Rattle.ask_turns.specs.history.Verdict.{place_of, verdict_by_place, verdict_on_free}
 use Rattle.rail_types.specs.declared.entries.Deed.{Deed}
 use Rattle.rail_types.specs.declared.entries.Deed.TheVariants.{Free}
 use Rattle.rail_types.specs.declared.entries.Entry.{Entry}
@@ -15,7 +16,8 @@ use Rattle.admission_rules.specs.declared.rule_names.RuleName.{RuleName}
 use Rattle.ask_turns.specs.declared.client_turns.told.Refusal.{Refusal}
 use Rattle.ask_turns.specs.Told.{IsFoundAgain, IsRefusal}
 use Rattle.ask_turns.specs.Turns.{Looks, Sight}
-use Rattle.line_answers.specs.Answers.{Caller, IsDeedOf, IsNewNumber, IsReached, MayBeDenied, entry_of, number_of}
+use Rattle.line_answers.specs.Answers.{Caller, IsDeedOf, IsNewNumber, IsReached, MayBeDenied}
+use Rattle.line_answers.specs.Answers.{entry_of, number_of}
 use Rattle.line_answers.specs.Callers.{AnswersLine}
 use Rattle.line_answers.specs.Tells.{TellsAgain}
 use Rattle.line_answers.proofs.Calls.{looked}

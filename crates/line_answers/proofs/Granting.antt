@@ -1,5 +1,6 @@
 -- A path that nothing hinders is granted.
-use Rattle.std.proofs.Common.{◌≡◌, ℕ, All, List, [], ◌∷◌, ◌++◌, Option, Some, None, Result, Ok, Err, length, ap, sym, ◌∙◌, subst, arith}
+use Rattle.std.proofs.Common.{◌≡◌, ℕ, All, List, [], ◌∷◌, ◌++◌, Option, Some, None, Result, Ok, Err}
+use Rattle.std.proofs.Common.{length, ap, sym, ◌∙◌, subst, arith}
 use Rattle.std.proofs.lemmas.List.Elements.{All-head, All-tail}
 use mathlib.Core.Logic.{⊎_elim}
 use Rattle.ask_turns.specs.Searched.{AreMissed, IsPossibleAt}
@@ -11,10 +12,11 @@ use Rattle.client_lines.specs.declared.asks.Line.{Line}
 use Rattle.client_lines.specs.declared.faults.LineFault.{LineFault}
 use Rattle.client_lines.specs.declared.faults.LineFault.TheVariants as fault
 use Rattle.ask_turns.specs.Turns.{Sight}
-use Rattle.grant_log.proofs.Places.{is_new}
-use Rattle.grant_log.specs.declared.verdicts.Verdict.{Verdict}
-use Rattle.grant_log.specs.declared.verdicts.Verdict.TheVariants as verdict
-use Rattle.grant_log.specs.Verdict.{breaks, broken_or_else, first_taken, taken_or_fresh, verdict_by_place, verdict_on, verdict_on_deed}
+use Rattle.ask_turns.proofs.history_lemmas.Places.{is_new}
+use Rattle.ask_turns.specs.history.declared.verdicts.Verdict.{Verdict}
+use Rattle.ask_turns.specs.history.declared.verdicts.Verdict.TheVariants as verdict
+use Rattle.ask_turns.specs.history.Verdict.{breaks, broken_or_else, first_taken, taken_or_fresh}
+use Rattle.ask_turns.specs.history.Verdict.{verdict_by_place, verdict_on, verdict_on_deed}
 use Rattle.outside_io.specs.Faults.{Rose}
 use Rattle.rail_types.specs.declared.entries.Deed.TheVariants.{Grant}
 use Rattle.rail_types.specs.declared.entries.Entry.{Entry}
@@ -24,8 +26,9 @@ use Rattle.rail_types.specs.declared.trains.Request.{Request}
 use Rattle.rail_types.specs.Occupation.{HeldClaim}
 use Rattle.client_lines.specs.declared.reply_texts.replies.Reply.{Reply}
 use Rattle.client_lines.specs.declared.reply_texts.replies.Reply.TheVariants as reply
-use Rattle.tail_states.specs.Listed.{HasMoreThan}
-use Rattle.line_answers.specs.Answers.{Caller, Gives, IsAllowed, IsFull, IsNarrow, IsNewNumber, IsReached, IsTold, entry_of}
+use Rattle.ask_turns.specs.tails.Listed.{HasMoreThan}
+use Rattle.line_answers.specs.Answers.{Caller, Gives, IsAllowed, IsFull, IsNarrow, IsNewNumber}
+use Rattle.line_answers.specs.Answers.{IsReached, IsTold, entry_of}
 use Rattle.line_answers.specs.Asked.{asking}
 use Rattle.line_answers.specs.Calls.{AnswersBetween, EndInFault, Settle}
 use Rattle.line_answers.specs.Granting.{IsGranted, IsUnhindered}

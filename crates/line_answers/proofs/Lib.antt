@@ -9,3 +9,4 @@ pub mod Behind
 pub mod Denied
 pub mod Proved
 pub mod Granting
+pub use Rattle.book_gate.proofs as gate_lemmas

@@ -1,5 +1,7 @@
 -- What texts show beside replies.
-use Rattle.std.proofs.Common.{◌≡◌, ℕ, zero, suc, ◌+◌, ◌≤◌, Bool, true, false, List, [], ◌∷◌, ◌++◌, length, Option, Some, None, ap, sym, ◌∙◌, subst, refl, arith, append_assoc, length-append}
+use Rattle.std.proofs.Common.{◌≡◌, ℕ, zero, suc, ◌+◌, ◌≤◌, Bool, true, false, List, [], ◌∷◌, ◌++◌}
+use Rattle.std.proofs.Common.{length, Option, Some, None, ap, sym, ◌∙◌, subst, refl, arith}
+use Rattle.std.proofs.Common.{append_assoc, length-append}
 use Rattle.book_gate.specs.declared.views.Turn.{Turn}
 use Rattle.book_gate.specs.Views.{StartsWith, turn}
 use Rattle.client_lines.specs.Cuts.{fields_of}
@@ -11,7 +13,7 @@ use Rattle.client_lines.specs.declared.asks.Line.{Line}
 use Rattle.client_lines.specs.declared.faults.LineFault.{LineFault}
 use Rattle.client_lines.specs.declared.faults.LineFault.TheVariants as fault
 use Rattle.admission_rules.specs.Ruled.{Ruled}
-use Rattle.grant_log.specs.declared.verdicts.Verdict.TheVariants as verdict
+use Rattle.ask_turns.specs.history.declared.verdicts.Verdict.TheVariants as verdict
 use Rattle.proof_texts.specs.Read.{AsksCanBeTold}
 use Rattle.rail_types.specs.declared.entries.Entry.{Entry}
 use Rattle.rail_types.specs.declared.paths.Path.{Path}
@@ -33,10 +35,12 @@ use Rattle.ask_turns.specs.declared.asks.Outcome.{Outcome}
 use Rattle.ask_turns.specs.declared.asks.Outcome.TheVariants as outcome
 use Rattle.ask_turns.specs.Shown.{IsShownAt, Shows}
 use Rattle.ask_turns.specs.Tries.{HasSearched, HaveMissed, IsTheFront}
-use Rattle.line_answers.specs.Answers.{Caller, GivesLine, IsReached, IsSearched, IsSought, MayBeDenied}
+use Rattle.line_answers.specs.Answers.{Caller, GivesLine, IsReached, IsSearched, IsSought}
+use Rattle.line_answers.specs.Answers.{MayBeDenied}
 use Rattle.line_answers.specs.Asked.{TellsAsk}
 use Rattle.line_answers.specs.Callers.{AnswersLine, caller_of}
-use Rattle.line_answers.specs.Proved.{FitsIf, FoundBeforeLast, IsProofFor, IsProved, IsProvedBetween, ProvedOr, ShowsLine, kept_text}
+use Rattle.line_answers.specs.Proved.{FitsIf, FoundBeforeLast, IsProofFor, IsProved}
+use Rattle.line_answers.specs.Proved.{IsProvedBetween, ProvedOr, ShowsLine, kept_text}
 use Rattle.line_answers.specs.Rules.{IsReadAs, denial}
 use Rattle.line_answers.specs.Tells.{TellsAgain, fault_reply, halt_reply}
 use Rattle.line_answers.specs.declared.shared.Shared.{Shared}

@@ -1,5 +1,6 @@
 -- What a line is told by what its turn did.
-use Rattle.std.proofs.Common.{◌≡◌, ◌≢◌, ◌⊎◌, ℕ, ◌<◌, ◌≤◌, All, List, [], ◌∷◌, Option, Some, None, length, slice_get, sym, ◌∙◌, subst, refl}
+use Rattle.std.proofs.Common.{◌≡◌, ◌≢◌, ◌⊎◌, ℕ, ◌<◌, ◌≤◌, All, List, [], ◌∷◌, Option, Some, None}
+use Rattle.std.proofs.Common.{length, slice_get, sym, ◌∙◌, subst, refl}
 use Rattle.std.proofs.lemmas.List.Elements.{All-nil}
 use Rattle.std.proofs.lemmas.Option.{slice_get_cases}
 use mathlib.Core.Logic.{inl, inr, ⊎_elim}
@@ -11,9 +12,9 @@ use Rattle.client_lines.specs.declared.asks.Ask.TheVariants as asks
 use Rattle.client_lines.specs.declared.asks.Line.{Line}
 use Rattle.client_lines.specs.declared.faults.LineFault.{LineFault}
 use Rattle.client_lines.specs.declared.faults.LineFault.TheVariants as fault
-use Rattle.grant_log.specs.declared.verdicts.Verdict.TheVariants as verdict
-use Rattle.grant_log.specs.Live.{freed_by}
-use Rattle.grant_log.specs.Verdict.{verdict_on}
+use Rattle.ask_turns.specs.history.declared.verdicts.Verdict.TheVariants as verdict
+use Rattle.ask_turns.specs.history.Live.{freed_by}
+use Rattle.ask_turns.specs.history.Verdict.{verdict_on}
 use Rattle.rail_types.specs.declared.entries.Deed.{Deed}
 use Rattle.rail_types.specs.declared.entries.Entry.{Entry}
 use Rattle.client_lines.specs.Rooms.{IsBehindEntry}
@@ -25,14 +26,19 @@ use Rattle.ask_turns.specs.declared.client_turns.told.Entered.TheVariants.{Settl
 use Rattle.ask_turns.specs.declared.client_turns.told.Refusal.{Refusal}
 use Rattle.ask_turns.specs.declared.client_turns.told.Refusal.TheVariants as refusal
 use Rattle.ask_turns.specs.Told.{IsRefusal}
-use Rattle.ask_turns.specs.Turns.{HasEntered, IsAdded, IsFullIn, IsHalted, IsRefusedIn, IsStopped, Looks, Sight}
-use Rattle.line_answers.specs.Answers.{Adds, Caller, GivesLine, IsAllowed, IsDeedOf, IsEntryOf, IsHold, IsNarrowLine, IsPin, IsReached, Leaves, entry_of, number_of}
+use Rattle.ask_turns.specs.Turns.{HasEntered, IsAdded, IsFullIn, IsHalted, IsRefusedIn, IsStopped}
+use Rattle.ask_turns.specs.Turns.{Looks, Sight}
+use Rattle.line_answers.specs.Answers.{Adds, Caller, GivesLine, IsAllowed, IsDeedOf, IsEntryOf}
+use Rattle.line_answers.specs.Answers.{IsHold, IsNarrowLine, IsPin, IsReached, Leaves, entry_of}
+use Rattle.line_answers.specs.Answers.{number_of}
 use Rattle.line_answers.specs.Callers.{AnswersLine}
 use Rattle.line_answers.specs.Calls.{AnswersBetween, HasTurns, IsOf, IsSettled, Settle}
 use Rattle.line_answers.specs.Points.{added}
 use Rattle.line_answers.specs.Rules.{IsReadAs}
-use Rattle.line_answers.specs.Tells.{AddsNothing, TellsAgain, TellsFree, TellsHold, TellsPin, fault_reply, halt_reply}
-use Rattle.line_answers.proofs.Calls.{IsNotAgain, begun, entered, looked, not_begun, not_settled, untaken}
+use Rattle.line_answers.specs.Tells.{AddsNothing, TellsAgain, TellsFree, TellsHold, TellsPin}
+use Rattle.line_answers.specs.Tells.{fault_reply, halt_reply}
+use Rattle.line_answers.proofs.Calls.{IsNotAgain, begun, entered, looked, not_begun, not_settled}
+use Rattle.line_answers.proofs.Calls.{untaken}
 
 pub leaves : (v w : Sight) → Looks v w → (front : ℕ) → front ≡ length w.found.list
     → Leaves w.found.list w.seen front

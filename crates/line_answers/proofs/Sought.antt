@@ -1,13 +1,16 @@
 -- What an ask is told by what its turns did.
-use Rattle.std.proofs.Common.{◌≡◌, ◌≢◌, ℕ, zero, suc, All, Bool, true, false, if◌then◌else◌, List, [], ◌∷◌, ◌++◌, Option, Some, None, length, slice_get, ap, sym, ◌∙◌, subst, refl}
+use Rattle.std.proofs.Common.{◌≡◌, ◌≢◌, ℕ, zero, suc, All, Bool, true, false, if◌then◌else◌, List}
+use Rattle.std.proofs.Common.{[], ◌∷◌, ◌++◌, Option, Some, None, length, slice_get, ap, sym, ◌∙◌}
+use Rattle.std.proofs.Common.{subst, refl}
 use mathlib.Core.Logic.{inl, inr, ⊎_elim}
 use Rattle.book_gate.specs.declared.views.Turn.{Turn}
 use Rattle.client_lines.specs.declared.asks.Line.{Line}
-use Rattle.grant_log.specs.declared.verdicts.Verdict.{Verdict}
-use Rattle.grant_log.specs.declared.verdicts.Verdict.TheVariants as verdict
-use Rattle.grant_log.specs.Content.{has_same_content}
-use Rattle.grant_log.specs.Live.{freed_by}
-use Rattle.grant_log.specs.Verdict.{kept_or_gone, place_of, repeat_at, verdict_by_place, verdict_on, verdict_on_repeat}
+use Rattle.ask_turns.specs.history.declared.verdicts.Verdict.{Verdict}
+use Rattle.ask_turns.specs.history.declared.verdicts.Verdict.TheVariants as verdict
+use Rattle.ask_turns.specs.history.Content.{has_same_content}
+use Rattle.ask_turns.specs.history.Live.{freed_by}
+use Rattle.ask_turns.specs.history.Verdict.{kept_or_gone, place_of, repeat_at, verdict_by_place}
+use Rattle.ask_turns.specs.history.Verdict.{verdict_on, verdict_on_repeat}
 use Rattle.rail_types.specs.declared.entries.Deed.{Deed}
 use Rattle.rail_types.specs.declared.entries.Deed.TheVariants.{Grant}
 use Rattle.rail_types.specs.declared.entries.Entry.{Entry}
@@ -18,7 +21,7 @@ use Rattle.rail_types.specs.declared.paths.Run.{Run}
 use Rattle.rail_types.specs.declared.trains.Request.{Request}
 use Rattle.client_lines.specs.declared.reply_texts.replies.Reply.{Reply}
 use Rattle.client_lines.specs.declared.reply_texts.replies.Reply.TheVariants as reply
-use Rattle.tail_states.specs.Listed.{HasMoreThan, Listed}
+use Rattle.ask_turns.specs.tails.Listed.{HasMoreThan, Listed}
 use Rattle.ask_turns.specs.declared.client_turns.halts.Halt.{Halt}
 use Rattle.ask_turns.specs.declared.client_turns.halts.Halt.TheVariants as halt
 use Rattle.ask_turns.specs.declared.client_turns.told.Entered.{Entered as Became}
@@ -32,18 +35,23 @@ use Rattle.ask_turns.specs.declared.asks.Outcome.{Outcome}
 use Rattle.ask_turns.specs.declared.asks.Outcome.TheVariants as outcome
 use Rattle.ask_turns.specs.Finds.{IsNewNumber}
 use Rattle.ask_turns.specs.Searched.{AreMissed, IsMissed}
-use Rattle.ask_turns.specs.Tries.{HasSearched, HasStopped, HaveMissed, IsJudged, IsOfNumber, IsTheFront, Stops}
+use Rattle.ask_turns.specs.Tries.{HasSearched, HasStopped, HaveMissed, IsJudged, IsOfNumber}
+use Rattle.ask_turns.specs.Tries.{IsTheFront, Stops}
 use Rattle.ask_turns.specs.Tries.{SoFar as Searched}
-use Rattle.line_answers.specs.Answers.{Adds, Caller, GivesLine, IsAllowed, IsEntryOf, IsNarrow, IsNarrowLine, IsReached, IsSearched, Leaves, entry_of}
+use Rattle.line_answers.specs.Answers.{Adds, Caller, GivesLine, IsAllowed, IsEntryOf, IsNarrow}
+use Rattle.line_answers.specs.Answers.{IsNarrowLine, IsReached, IsSearched, Leaves, entry_of}
 use Rattle.line_answers.specs.Asked.{TellsAsk, asking}
 use Rattle.line_answers.specs.Callers.{AnswersLine}
-use Rattle.line_answers.specs.Calls.{AnswersBetween, HasTurns, IsOf, IsSettled, Settle, TakesOneTurn}
+use Rattle.line_answers.specs.Calls.{AnswersBetween, HasTurns, IsOf, IsSettled, Settle}
+use Rattle.line_answers.specs.Calls.{TakesOneTurn}
 use Rattle.line_answers.specs.Points.{added}
 use Rattle.line_answers.specs.Tells.{TellsAgain, halt_reply}
 use Rattle.line_answers.specs.Rules.{IsReadAs}
 use Rattle.line_answers.proofs.Calls.{IsNotAgain, looked}
 use Rattle.book_gate.specs.Views.{StartsWith}
-use Rattle.line_answers.proofs.Many.{IsLong, SoFar, answered_now, begun_last, entered_last, first_look, looked_last, missed_on, next_look, not_begun_last, not_settled_last}
+use Rattle.line_answers.proofs.Many.{IsLong, SoFar, answered_now, begun_last, entered_last}
+use Rattle.line_answers.proofs.Many.{first_look, looked_last, missed_on, next_look, not_begun_last}
+use Rattle.line_answers.proofs.Many.{not_settled_last}
 
 leaves : (v w : Sight) → Looks v w → (front : ℕ) → front ≡ length w.found.list
     → Leaves w.found.list w.seen front

@@ -1,5 +1,7 @@
 -- What rules are told by a reply.
-use Rattle.std.proofs.Common.{◌≡◌, ℕ, zero, suc, true, false, List, [], ◌∷◌, ◌++◌, Option, Some, None, Result, Ok, Err, length, take, slice_get, option_and_then, ap, sym, ◌∙◌, subst, refl}
+use Rattle.std.proofs.Common.{◌≡◌, ℕ, zero, suc, true, false, List, [], ◌∷◌, ◌++◌, Option, Some}
+use Rattle.std.proofs.Common.{None, Result, Ok, Err, length, take, slice_get, option_and_then, ap}
+use Rattle.std.proofs.Common.{sym, ◌∙◌, subst, refl}
 use Rattle.std.proofs.lemmas.List.{take_at}
 use Rattle.admission_rules.specs.declared.rules.Wish.{Wish}
 use Rattle.book_gate.specs.Views.{StartsWith}
@@ -15,7 +17,7 @@ use Rattle.client_lines.specs.declared.asks.Line.{Line}
 use Rattle.admission_rules.specs.Ruled.{Ruled, denied_by, freed, granted}
 use Rattle.admission_rules.specs.Told.{told_at, told_deed, told_of, wish_at}
 use Rattle.admission_rules.specs.Wishes.{asked_wish, given_wish, wish_of}
-use Rattle.grant_log.proofs.Slices.{slice_get_last}
+use Rattle.ask_turns.proofs.history_lemmas.Slices.{slice_get_last}
 use Rattle.rail_types.specs.declared.entries.Deed.{Deed}
 use Rattle.rail_types.specs.declared.entries.Deed.TheVariants.{Hold, Grant, Free}
 use Rattle.rail_types.specs.declared.entries.Entry.{Entry}
@@ -26,10 +28,12 @@ use Rattle.admission_rules.specs.declared.rule_names.RuleName.{RuleName}
 use Rattle.ask_turns.specs.declared.client_turns.halts.Halt.{Halt}
 use Rattle.ask_turns.specs.declared.client_turns.halts.Halt.TheVariants as halt
 use Rattle.ask_turns.specs.Turns.{Sight}
-use Rattle.line_answers.specs.Answers.{Adds, Caller, Gives, GivesLine, IsDeedOf, MayBeDenied, entry_of}
+use Rattle.line_answers.specs.Answers.{Adds, Caller, Gives, GivesLine, IsDeedOf, MayBeDenied}
+use Rattle.line_answers.specs.Answers.{entry_of}
 use Rattle.line_answers.specs.Calls.{AnswersBetween}
 use Rattle.line_answers.specs.Points.{added}
-use Rattle.line_answers.specs.Rules.{IsNoFree, IsReadAs, is_some_added, told_by, told_free, told_grant, wished}
+use Rattle.line_answers.specs.Rules.{IsNoFree, IsReadAs, is_some_added, told_by, told_free}
+use Rattle.line_answers.specs.Rules.{told_grant, wished}
 use Rattle.line_answers.specs.Tells.{AddsNothing, fault_reply, halt_reply}
 use Rattle.line_answers.proofs.Many.{starts_trans}
 

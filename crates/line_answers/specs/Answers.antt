@@ -8,12 +8,12 @@ use Rattle.client_lines.specs.Names.{Names}
 use Rattle.client_lines.specs.declared.asks.Ask.{Ask}
 use Rattle.client_lines.specs.declared.asks.Ask.TheVariants as asks
 use Rattle.client_lines.specs.declared.asks.Line.{Line}
-use Rattle.grant_log.specs.declared.verdicts.Verdict.{Verdict}
-use Rattle.grant_log.specs.declared.verdicts.Verdict.TheVariants as verdict
-use Rattle.grant_log.specs.Legal.{Joins}
-use Rattle.grant_log.specs.Live.{freed_by}
-use Rattle.grant_log.specs.Meanings.{IsNew}
-use Rattle.grant_log.specs.Verdict.{verdict_on}
+use Rattle.ask_turns.specs.history.declared.verdicts.Verdict.{Verdict}
+use Rattle.ask_turns.specs.history.declared.verdicts.Verdict.TheVariants as verdict
+use Rattle.ask_turns.specs.history.Legal.{Joins}
+use Rattle.ask_turns.specs.history.Live.{freed_by}
+use Rattle.ask_turns.specs.history.Meanings.{IsNew}
+use Rattle.ask_turns.specs.history.Verdict.{verdict_on}
 use Rattle.path_commit.specs.Answers.{bytes_with}
 use Rattle.rail_types.specs.declared.entries.Deed.{Deed}
 use Rattle.rail_types.specs.declared.entries.Deed.TheVariants.{Hold, Grant, Free}
@@ -27,7 +27,7 @@ use Rattle.rail_types.specs.Timetables.{Timetable}
 use Rattle.client_lines.specs.declared.reply_texts.replies.Reply.{Reply}
 use Rattle.client_lines.specs.declared.reply_texts.replies.Reply.TheVariants as reply
 use Rattle.admission_rules.specs.declared.rule_names.RuleName.{RuleName}
-use Rattle.tail_states.specs.Listed.{HasMoreThan}
+use Rattle.ask_turns.specs.tails.Listed.{HasMoreThan}
 use Rattle.ask_turns.specs.Searched.{AreMissed, FitsAt, IsEarliestAt, IsPossibleAt}
 use Rattle.book_gate.specs.Views.{StartsWith}
 

@@ -8,3 +8,8 @@ pub mod Asked
 pub mod Sharing
 pub mod Proved
 pub mod Granting
+pub use Rattle.ask_turns.specs as turns
+pub use Rattle.book_gate.specs as gate
+pub use Rattle.ask_turns.specs.history as history
+pub use Rattle.path_commit.specs as book
+pub use Rattle.ask_turns.specs.tails as tails

@@ -19,7 +19,7 @@ use Rattle.rail_types.specs.declared.trains.Request.{Request}
 use Rattle.rail_types.specs.Timetables.{Timetable}
 use Rattle.client_lines.specs.declared.reply_texts.replies.Reply.{Reply}
 use Rattle.client_lines.specs.declared.reply_texts.replies.Reply.TheVariants as reply
-use Rattle.tail_states.specs.Listed.{Listed}
+use Rattle.ask_turns.specs.tails.Listed.{Listed}
 use Rattle.ask_turns.specs.Turns.{IsReached as IsReachedBy, Looks, Sight, timetable_at}
 use Rattle.ask_turns.specs.Searched.{FitsAt, live_in}
 use Rattle.line_answers.specs.Answers.{IsReached}

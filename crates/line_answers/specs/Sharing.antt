@@ -2,7 +2,7 @@
 use Rattle.std.specs.Prelude.{◌≡◌}
 use Rattle.client_lines.specs.Within.{AreSound}
 use Rattle.rail_types.specs.Limits.{IsSettingsWithinLimits}
-use Rattle.tail_states.specs.Following.{AreFollowers}
+use Rattle.ask_turns.specs.tails.Following.{AreFollowers}
 use Rattle.ask_turns.specs.Turns.{timetable_at}
 use Rattle.line_answers.specs.declared.shared.Shared.{Shared}
 

@@ -2,8 +2,8 @@
 use Rattle.std.specs.Prelude.{◌≡◌, ℕ}
 use Rattle.client_lines.specs.declared.faults.LineFault.{LineFault}
 use Rattle.client_lines.specs.declared.faults.LineFault.TheVariants as fault
-use Rattle.grant_log.specs.declared.verdicts.Verdict.{Verdict}
-use Rattle.grant_log.specs.declared.verdicts.Verdict.TheVariants as verdict
+use Rattle.ask_turns.specs.history.declared.verdicts.Verdict.{Verdict}
+use Rattle.ask_turns.specs.history.declared.verdicts.Verdict.TheVariants as verdict
 use Rattle.client_lines.specs.declared.reply_texts.replies.Reply.{Reply}
 use Rattle.client_lines.specs.declared.reply_texts.replies.Reply.TheVariants as reply
 use Rattle.ask_turns.specs.declared.client_turns.halts.Halt.{Halt}

@@ -19,6 +19,7 @@ ghost use Rattle.line_answers.specs.Tells.{AddsNothing};
 use crate::replies::{ask_told, halted, number_told};
 use crate::shared::Shared;
 use ask_turns::client_turns::{Client, find_again};
+use ask_turns::tails::{PlacesFault, places, sound_networks_are_asked};
 use ask_turns::{Ask, try_searches};
 use book_gate::Pass;
 use byte_fields::Buffer;
@@ -30,7 +31,6 @@ use proof_texts::asks_can_be_told;
 use rail_types::{Deed, List, Network, Path, Request, Wanted};
 use std::alloc::Global;
 use std::sync::Wait;
-use tail_states::{PlacesFault, places, sound_networks_are_asked};
 
 // Seeks a path.
 pub(crate) fn ask<R: Wait, D: Disk, B: Between>(

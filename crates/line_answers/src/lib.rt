@@ -11,4 +11,9 @@ mod shared;
 mod words;
 
 pub use answers::answer_one;
+pub use ask_turns as turns;
+pub use ask_turns::{history, tails};
+pub use book_gate as gate;
+pub use byte_fields as bytes;
+pub use path_commit as book;
 pub use shared::Shared;

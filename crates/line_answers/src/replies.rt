@@ -12,10 +12,10 @@ ghost use Rattle.line_answers.specs.Tells.{halt_reply};
 
 use ask_turns::Outcome;
 use ask_turns::client_turns::{Entered, Halt, Refusal};
+use ask_turns::history::Verdict;
 use byte_fields::Buffer;
 use client_lines::LineFault;
 use client_lines::reply_texts::Reply;
-use grant_log::Verdict;
 use rail_types::{List, Run};
 
 // What a line is told that was not read.

@@ -1,11 +1,11 @@
 //! What all clients share.
 
+use ask_turns::tails::Followers;
 use book_gate::Gate;
 use client_lines::Known;
 use outside_io::Disk;
 use path_commit::Book;
 use rail_types::Settings;
-use tail_states::Followers;
 
 /// The gate that keeps the book, what lines may name, the settings of the book's timetable, and
 /// which blocks of its network follow one another.

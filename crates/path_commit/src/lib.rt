@@ -12,5 +12,8 @@ mod turns;
 
 pub use answers::Committed;
 pub use books::Book;
+pub use grant_journal as journal;
+pub use grant_log as history;
+pub use occupation_book as claims;
 pub use stands::Footing;
 pub use turns::{Sent, run_all, turn};

@@ -7,3 +7,4 @@ pub mod Telling
 pub mod Steps
 pub mod PlanningPlaces
 pub mod Searching
+pub use Rattle.running_time.proofs as running_lemmas

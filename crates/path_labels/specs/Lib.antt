@@ -2,3 +2,6 @@ pub mod Answers
 pub mod Joining
 pub mod Plans
 pub mod Searched
+pub use Rattle.running_time.specs as running
+pub use Rattle.stair_pieces.specs as pieces
+pub use Rattle.tail_states.specs as tails

@@ -11,3 +11,5 @@ mod seeks;
 pub use answers::Sought;
 pub use laws::{closed_plans_are_closed, granted_paths_are_planned, planned_paths_are_granted};
 pub use seeks::{find, label_count, seek};
+pub use stair_pieces as pieces;
+pub use tail_states as tails;

@@ -4,3 +4,4 @@ pub mod Walked
 pub mod Renewed
 pub mod Unrefused
 pub mod Once
+pub use Rattle.grant_log.proofs as history_lemmas

@@ -5,7 +5,7 @@ ghost use Rattle.rail_types.specs.Named.{IsNamed};
 ghost use Rattle.print_commands.specs.Steps.{ReadsHistory, ReadsOn};
 
 use crate::journals::read_journal_file;
-use base_file::bases_make_timetables;
+use command_files::base::bases_make_timetables;
 use command_files::{NetworkFile, read_base_file, read_network_file};
 use command_reports::Refusal;
 use grant_log::History;

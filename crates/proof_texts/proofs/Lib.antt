@@ -8,3 +8,4 @@ pub mod Beginnings
 pub mod Telling
 pub mod Looping
 pub mod Printing
+pub use Rattle.client_lines.proofs as lines_lemmas

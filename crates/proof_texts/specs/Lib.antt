@@ -4,3 +4,4 @@ pub mod Read
 pub mod Forms
 pub mod Lines
 pub mod Prints
+pub use Rattle.client_lines.specs as lines

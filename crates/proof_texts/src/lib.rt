@@ -10,6 +10,7 @@ mod prints;
 mod reading;
 mod refusals;
 
+pub use client_lines as lines;
 pub use faults::ProofFault;
 pub use laws::{asks_can_be_told, limits_are_these, proofs_are_read_once};
 pub use prints::proof_text;

@@ -8,3 +8,4 @@ mod labels;
 mod moves;
 
 pub use checks::check;
+pub use tail_states as tails;

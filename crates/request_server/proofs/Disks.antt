@@ -1,5 +1,6 @@
 -- A journal's disk, opened and put back.
-use Rattle.std.proofs.Common.{◌∙◌, ℕ, List, [], ◌∷◌, ◌++◌, Option, None, Some, Result, Ok, Err, codes, inl, inr, sym}
+use Rattle.std.proofs.Common.{◌∙◌, ℕ, List, [], ◌∷◌, ◌++◌, Option, None, Some, Result, Ok, Err}
+use Rattle.std.proofs.Common.{codes, inl, inr, sym}
 use Rattle.outside_io.specs.declared.failures.Failed.{Failed}
 use Rattle.outside_io.specs.Openings.{disk_at, Opening}
 use Rattle.outside_io.specs.declared.disks.Disk.{Ghosts as Disks}
@@ -20,7 +21,7 @@ use Rattle.served_clients.proofs.StreamStops.{opens_moved_all}
 use Rattle.command_reports.specs.Refusals.{IsTold, line_with}
 use Rattle.command_reports.specs.Works.{KeepsTo, Misses}
 use Rattle.command_reports.specs.declared.refusals.Refusal.{Refusal}
-use Rattle.path_commit.specs.Ledgers.{Ledger}
+use Rattle.served_clients.specs.book.Ledgers.{Ledger}
 use Rattle.outside_io.specs.declared.betweens.NoBetween.{NoBetween}
 use Rattle.served_clients.specs.declared.plans.Plan.{Plan}
 use Rattle.served_clients.specs.declared.plans.Session.{Session}
@@ -31,7 +32,10 @@ use Rattle.served_clients.specs.Rounds.{DiskHalts, DiskRefuses}
 use Rattle.served_clients.specs.declared.served_journals.files.Files.{Files}
 use Rattle.served_clients.proofs.Remains.{remains_by}
 use Rattle.served_clients.proofs.Halts.{halted_round, halted_sinks, halted_sources}
-use Rattle.served_clients.proofs.JournalRounds.{disk_open, DiskIsRefused, exchanged, had_round, IsRound, other_stands, refused_round, round_only, same_sinks, same_sources, unopened_only, unopened_unready}
+use Rattle.served_clients.proofs.JournalRounds.{disk_open, DiskIsRefused, exchanged, had_round}
+use Rattle.served_clients.proofs.JournalRounds.{IsRound, other_stands, refused_round, round_only}
+use Rattle.served_clients.proofs.JournalRounds.{same_sinks, same_sources, unopened_only}
+use Rattle.served_clients.proofs.JournalRounds.{unopened_unready}
 use Rattle.request_server.specs.ServeJournals.{DiskSays, Refuses, ServeStep}
 use Rattle.request_server.specs.Serving.{BookSays, IsServing}
 

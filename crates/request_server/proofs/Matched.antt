@@ -1,11 +1,14 @@
 -- Lists that stand to one another place by place, and clients that are served and taken in one after another.
-use Rattle.std.proofs.Common.{◌≡◌, ◌≢◌, ℕ, suc, ◌+◌, ◌<◌, List, [], ◌∷◌, ◌++◌, All, AllPairs, get_or, length, map, reverse, ap, sym, ◌∙◌, subst, refl, arith, length-append}
+use Rattle.std.proofs.Common.{◌≡◌, ◌≢◌, ℕ, suc, ◌+◌, ◌<◌, List, [], ◌∷◌, ◌++◌, All, AllPairs}
+use Rattle.std.proofs.Common.{get_or, length, map, reverse, ap, sym, ◌∙◌, subst, refl, arith}
+use Rattle.std.proofs.Common.{length-append}
 use Rattle.std.proofs.Math.ListN.{get_or-map}
-use Rattle.std.proofs.lemmas.List.{append-nil, append_assoc, get_or_default, length-map, nil_from_length, reverse-append}
+use Rattle.std.proofs.lemmas.List.{append-nil, append_assoc, get_or_default, length-map}
+use Rattle.std.proofs.lemmas.List.{nil_from_length, reverse-append}
 use Rattle.std.proofs.lemmas.List.Elements.{All-cons, All-head, All-nil, All-tail}
 use Rattle.admission_rules.specs.declared.rules.Rule.{Ghosts as Rules}
-use Rattle.book_gate.specs.Passes.{view}
-use Rattle.book_gate.specs.Views.{StartsWith}
+use Rattle.served_clients.specs.gate.Passes.{view}
+use Rattle.served_clients.specs.gate.Views.{StartsWith}
 use Rattle.admission_rules.specs.Ruled.{stand}
 use Rattle.admission_rules.specs.Told.{told_at}
 use Rattle.served_clients.specs.Joins.{AreJoined}
@@ -16,7 +19,7 @@ use Rattle.served_clients.proofs.Done.{seat_done}
 use Rattle.served_clients.proofs.Histories.{given_within}
 use Rattle.served_clients.proofs.Joins.{joined_none}
 use Rattle.served_clients.proofs.Owned.{told_at-longer, told_whole}
-use Rattle.ask_turns.specs.Turns.{Sight}
+use Rattle.served_clients.specs.turns.Turns.{Sight}
 use Rattle.line_answers.specs.declared.shared.Shared.{Shared}
 use Rattle.line_sessions.specs.Ends.{Streams}
 use Rattle.line_sessions.specs.Told.{Told}
@@ -24,7 +27,8 @@ use Rattle.rail_types.specs.declared.entries.Entry.{Entry}
 use Rattle.request_server.specs.declared.jobs.Job.{Job}
 use Rattle.served_clients.specs.declared.plans.Plan.{Plan}
 use Rattle.served_clients.specs.declared.plans.Session.{Session}
-use Rattle.request_server.specs.Jobs.{Begun, begun, begun_of, HasPassed, IsDoneJob, IsReadyJob, session_of, WasServed}
+use Rattle.request_server.specs.Jobs.{Begun, begun, begun_of, HasPassed, IsDoneJob, IsReadyJob}
+use Rattle.request_server.specs.Jobs.{session_of, WasServed}
 use Rattle.request_server.specs.Runs.{IsServed}
 
 module _ {X Y Z : Type 0} (R : X → Y → Z → Type 0) where

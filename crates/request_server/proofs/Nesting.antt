@@ -1,12 +1,14 @@
 -- Clients served over a book, and their streams.
-use Rattle.std.proofs.Common.{◌≡◌, ◌∙◌, ℕ, List, [], ◌∷◌, All, Option, None, Some, map, take, Ok, inr, refl, sym, ap, subst}
+use Rattle.std.proofs.Common.{◌≡◌, ◌∙◌, ℕ, List, [], ◌∷◌, All, Option, None, Some, map, take, Ok}
+use Rattle.std.proofs.Common.{inr, refl, sym, ap, subst}
 use Rattle.std.proofs.lemmas.List.{append-nil}
 use Rattle.outside_io.specs.Openings.{Opening, Opens as CallsOf}
 use Rattle.command_reports.specs.Scenes.{Scene}
 use Rattle.command_reports.specs.Works.{KeepsTo}
 use Rattle.command_reports.specs.declared.refusals.Refusal.{Refusal}
 use Rattle.command_reports.specs.declared.refusals.Refusal.TheVariants.{Memory}
-use Rattle.request_server.specs.PlannedClients.{AreClients, AreFit, client_calls, client_loans, returned_of, sink_in, streams_of}
+use Rattle.request_server.specs.PlannedClients.{AreClients, AreFit, client_calls, client_loans}
+use Rattle.request_server.specs.PlannedClients.{returned_of, sink_in, streams_of}
 use Rattle.request_server.proofs.PlanLoans.{loan_calls}
 use Rattle.request_server.proofs.PlanRounds.{all_keep, AllKeep, matched_parts}
 use Rattle.served_clients.specs.StreamClients.{HadStreams, IsFit}
@@ -14,14 +16,15 @@ use Rattle.served_clients.specs.Lending.{AreIn, AreOut, Loan}
 use Rattle.served_clients.specs.Refusing.{IsOpen, IsStopped}
 use Rattle.served_clients.specs.declared.client_streams.streams.ClientStreams.{ClientStreams}
 use Rattle.served_clients.proofs.StreamLists.{front_taken}
-use Rattle.served_clients.proofs.StreamLoans.{as_before, in_calls, in_quiet, nested_same, out_calls, out_quiet}
+use Rattle.served_clients.proofs.StreamLoans.{as_before, in_calls, in_quiet, nested_same, out_calls}
+use Rattle.served_clients.proofs.StreamLoans.{out_quiet}
 use Rattle.served_clients.proofs.StreamStops.{outs_open}
 use Rattle.served_clients.proofs.Uses.{Apart, apart_of}
 use Rattle.command_line.specs.declared.client_words.clients.ClientWord.{ClientWord}
 use Rattle.line_sessions.specs.Proofs.{is_wanted}
 use Rattle.line_sessions.specs.declared.proofs.Proofs.{Proofs}
 use Rattle.line_sessions.specs.declared.proofs.Proofs.TheVariants.{Unwanted, To}
-use Rattle.path_commit.specs.Ledgers.{Ledger}
+use Rattle.served_clients.specs.book.Ledgers.{Ledger}
 use Rattle.command_line.specs.Proofs.{proof_of}
 use Rattle.command_line.specs.declared.proof_words.proofs.ProofWord.{ProofWord}
 use Rattle.served_clients.specs.ClientRuns.{AreMatched}

@@ -10,7 +10,7 @@ use Rattle.command_line.specs.declared.client_words.clients.ClientWord.{ClientWo
 use Rattle.command_reports.specs.Scenes.{Scene}
 use Rattle.line_sessions.specs.Ends.{Streams}
 use Rattle.outside_io.specs.declared.betweens.NoBetween.{NoBetween}
-use Rattle.path_commit.specs.Ledgers.{Ledger}
+use Rattle.served_clients.specs.book.Ledgers.{Ledger}
 use Rattle.command_line.specs.Proofs.{proof_of}
 use Rattle.command_line.specs.declared.proof_words.proofs.ProofWord.{ProofWord}
 use Rattle.rail_types.specs.declared.entries.Entry.{Entry}

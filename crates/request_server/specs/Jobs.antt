@@ -1,7 +1,7 @@
 -- *inside*: clients at their seats, before and after they are served.
 use Rattle.std.specs.Prelude.{◌≡◌, ℕ, List}
 use Rattle.admission_rules.specs.declared.rules.Rule.{Ghosts as Rules}
-use Rattle.book_gate.specs.Passes.{view}
+use Rattle.served_clients.specs.gate.Passes.{view}
 use Rattle.admission_rules.specs.Ruled.{Ruled, stand}
 use Rattle.admission_rules.specs.Told.{told_at}
 use Rattle.served_clients.specs.ClientRuns.{told_own}

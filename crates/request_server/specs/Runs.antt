@@ -12,7 +12,7 @@ use Rattle.line_sessions.specs.Ends.{Passes, Streams}
 use Rattle.line_sessions.specs.Proofs.{is_wanted}
 use Rattle.line_sessions.specs.declared.proofs.Proofs.{Proofs}
 use Rattle.line_sessions.specs.declared.sessions.Ended.{Ended}
-use Rattle.path_commit.specs.Ledgers.{Ledger}
+use Rattle.served_clients.specs.book.Ledgers.{Ledger}
 use Rattle.rail_types.specs.declared.entries.Entry.{Entry}
 use Rattle.served_clients.specs.declared.plans.Plan.{Plan}
 use Rattle.served_clients.specs.declared.plans.Session.{Session}

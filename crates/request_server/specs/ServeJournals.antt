@@ -15,7 +15,7 @@ use Rattle.outside_io.specs.Places.{Untouched}
 use Rattle.outside_io.specs.declared.disks.Disk.{Ghosts as Disks}
 use Rattle.outside_io.specs.declared.sinks.Sink.{Ghosts as Sinks}
 use Rattle.outside_io.specs.declared.sources.Source.{Ghosts as Sources}
-use Rattle.path_commit.specs.Ledgers.{Ledger}
+use Rattle.served_clients.specs.book.Ledgers.{Ledger}
 use Rattle.served_clients.specs.declared.serve_reports.ends.Ends.{Ends}
 use Rattle.served_clients.specs.Files.{known_by}
 use Rattle.served_clients.specs.ServedJournals.{IsFound, Remains}

@@ -16,8 +16,8 @@ use Rattle.line_sessions.specs.Ends.{streams, Streams}
 use Rattle.outside_io.specs.declared.disks.Disk.{Ghosts as Disks}
 use Rattle.outside_io.specs.declared.sinks.Sink.{Ghosts as Sinks}
 use Rattle.outside_io.specs.declared.sources.Source.{Ghosts as Sources}
-use Rattle.path_commit.specs.Footings.{footing_of}
-use Rattle.path_commit.specs.Ledgers.{Ledger}
+use Rattle.served_clients.specs.book.Footings.{footing_of}
+use Rattle.served_clients.specs.book.Ledgers.{Ledger}
 use Rattle.served_clients.specs.ClientRuns.{AreMatched}
 use Rattle.request_server.specs.Runs.{WereServed}
 use Rattle.outside_io.specs.declared.betweens.NoBetween.{NoBetween}

@@ -1,10 +1,10 @@
 -- What a client's pass keeps, once lines were answered at its seat.
 use Rattle.std.proofs.Common.{◌≡◌, ℕ, ◌++◌, List, length, ap, sym, ◌∙◌, subst, arith}
 use Rattle.admission_rules.specs.declared.rules.Rule.{Ghosts as Rules}
-use Rattle.book_gate.specs.Passes.{view}
-use Rattle.book_gate.specs.Views.{own, rises}
+use Rattle.line_answers.specs.gate.Passes.{view}
+use Rattle.line_answers.specs.gate.Views.{own, rises}
 use Rattle.admission_rules.specs.Ruled.{stand}
-use Rattle.ask_turns.specs.Turns.{IsReady, timetable_at}
+use Rattle.line_answers.specs.turns.Turns.{IsReady, timetable_at}
 use Rattle.line_answers.specs.Callers.{caller_of}
 use Rattle.line_answers.specs.declared.shared.Shared.{Shared}
 use Rattle.line_sessions.specs.Ends.{Traffic}

@@ -12,11 +12,12 @@ use Rattle.served_clients.specs.Lending.{IsAsBefore}
 use Rattle.served_clients.specs.Refusing.{AreMade, IsStopped}
 use Rattle.served_clients.proofs.StreamLoans.{as_before}
 use Rattle.served_clients.proofs.StreamStops.{stopped_moved}
-use Rattle.path_commit.specs.Ledgers.{Ledger}
+use Rattle.line_answers.specs.book.Ledgers.{Ledger}
 use Rattle.served_clients.specs.ServedJournals.{IsFoundOnly}
 use Rattle.served_clients.specs.Rounds.{DiskHalts, IsHalted, IsUnserved}
 use Rattle.served_clients.specs.declared.served_journals.files.Files.{Files}
-use Rattle.served_clients.proofs.JournalRounds.{disk_open, IsRound, opened_all, other_stands, replaced}
+use Rattle.served_clients.proofs.JournalRounds.{disk_open, IsRound, opened_all, other_stands}
+use Rattle.served_clients.proofs.JournalRounds.{replaced}
 
 -- a scene that is as it was keeps to any calls
 pub same_keeps : {Src Snk Dsk : Type 0} (calls : List Opening) (s0 s1 : Scene Src Snk Dsk) → IsAsBefore s0 s1 → Keeps calls s0 s1

@@ -1,8 +1,9 @@
 -- A longer history says of a session what a shorter one says.
-use Rattle.std.proofs.Common.{◌≡◌, ◌++◌, ◌+◌, ◌≤◌, ◌<◌, ℕ, [], ◌∷◌, All, List, length, Option, Some, None, ap, sym, ◌∙◌, append_assoc, arith, refl, subst}
+use Rattle.std.proofs.Common.{◌≡◌, ◌++◌, ◌+◌, ◌≤◌, ◌<◌, ℕ, [], ◌∷◌, All, List, length, Option, Some}
+use Rattle.std.proofs.Common.{None, ap, sym, ◌∙◌, append_assoc, arith, refl, subst}
 use Rattle.std.proofs.lemmas.List.{append-nil}
 use Rattle.std.proofs.lemmas.List.Elements.{All-append, All-nil}
-use Rattle.book_gate.specs.Views.{StartsWith}
+use Rattle.line_answers.specs.gate.Views.{StartsWith}
 use Rattle.admission_rules.specs.Ruled.{Ruled}
 use Rattle.admission_rules.specs.Told.{told_at}
 use Rattle.line_answers.specs.Answers.{Caller}

@@ -1,20 +1,24 @@
 -- One client's pass more is joined.
-use Rattle.std.proofs.Common.{◌≡◌, ℕ, ◌+◌, ◌-◌, ◌^◌, ◌≤◌, ◌<◌, List, [], ◌∷◌, ◌++◌, All, IsPermutation, flat_map, length, reverse, ap, sym, ◌∙◌, subst, arith}
+use Rattle.std.proofs.Common.{◌≡◌, ℕ, ◌+◌, ◌-◌, ◌^◌, ◌≤◌, ◌<◌, List, [], ◌∷◌, ◌++◌, All}
+use Rattle.std.proofs.Common.{IsPermutation, flat_map, length, reverse, ap, sym, ◌∙◌, subst, arith}
 use Rattle.std.proofs.lemmas.List.{append-nil, append_assoc, reverse-append}
 use Rattle.std.proofs.lemmas.List.Concat.{flat_map-append}
-use Rattle.std.proofs.lemmas.List.Elements.{All-head, All-tail, All-weaker, All-push, All-nil, All-append, Contains-append_left, Contains-append_right}
-use Rattle.std.proofs.lemmas.List.Sorted.{All-permutation, IsPermutation-append, IsPermutation-refl, IsPermutation-sym, IsPermutation-trans}
+use Rattle.std.proofs.lemmas.List.Elements.{All-head, All-tail, All-weaker, All-push, All-nil}
+use Rattle.std.proofs.lemmas.List.Elements.{All-append, Contains-append_left, Contains-append_right}
+use Rattle.std.proofs.lemmas.List.Sorted.{All-permutation, IsPermutation-append, IsPermutation-refl}
+use Rattle.std.proofs.lemmas.List.Sorted.{IsPermutation-sym, IsPermutation-trans}
 use Rattle.std.proofs.lemmas.List.Sums.{sum_by_push}
-use Rattle.book_gate.specs.declared.views.Turn.{Turn}
-use Rattle.book_gate.specs.Steps.{joining}
-use Rattle.book_gate.specs.Views.{StartsWith, own, rises}
-use Rattle.ask_turns.specs.Turns.{Sight, timetable_at}
+use Rattle.line_answers.specs.gate.declared.views.Turn.{Turn}
+use Rattle.line_answers.specs.gate.Steps.{joining}
+use Rattle.line_answers.specs.gate.Views.{StartsWith, own, rises}
+use Rattle.line_answers.specs.turns.Turns.{Sight, timetable_at}
 use Rattle.line_answers.specs.Calls.{IsToldIn}
 use Rattle.line_answers.specs.declared.shared.Shared.{Shared}
 use Rattle.rail_types.specs.declared.entries.Entry.{Entry}
 use Rattle.served_clients.specs.Joins.{AreJoined, AreProofsOf, IsTalkOf}
 use Rattle.served_clients.specs.Seats.{callers_at, found_at}
-use Rattle.served_clients.specs.Talks.{AreBelowEnd, AreSettledWithin, faults, IsWithinSettled, printed, Talk, unsettled}
+use Rattle.served_clients.specs.Talks.{AreBelowEnd, AreSettledWithin, faults, IsWithinSettled}
+use Rattle.served_clients.specs.Talks.{printed, Talk, unsettled}
 use Rattle.served_clients.proofs.Histories.{talk_longer}
 use Rattle.served_clients.proofs.Proved.{all_longer}
 use Rattle.served_clients.proofs.Replies.{All-left, All-right}

@@ -21,3 +21,5 @@ pub mod Remains
 pub mod JournalRounds
 pub mod Halts
 pub mod JournalStatuses
+pub use Rattle.client_lines.proofs as lines_lemmas
+pub use Rattle.line_sessions.proofs as sessions_lemmas

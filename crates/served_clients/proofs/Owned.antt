@@ -1,11 +1,14 @@
 -- What rules are told by entries at positions of a history.
-use Rattle.std.proofs.Common.{◌≡◌, ℕ, zero, suc, ◌+◌, ◌-◌, ◌≤◌, ◌<◌, Bool, true, false, cond, List, [], ◌∷◌, ◌++◌, All, Option, Some, None, filter, flat_map, length, option_map, option_to_list, slice_get, take, ap, sym, ◌∙◌, subst, refl, arith, length-append}
+use Rattle.std.proofs.Common.{◌≡◌, ℕ, zero, suc, ◌+◌, ◌-◌, ◌≤◌, ◌<◌, Bool, true, false, cond, List}
+use Rattle.std.proofs.Common.{[], ◌∷◌, ◌++◌, All, Option, Some, None, filter, flat_map, length}
+use Rattle.std.proofs.Common.{option_map, option_to_list, slice_get, take, ap, sym, ◌∙◌, subst}
+use Rattle.std.proofs.Common.{refl, arith, length-append}
 use mathlib.Core.Logic.{⊎_elim}
 use Rattle.std.proofs.lemmas.Bool.{cases_Bool}
 use Rattle.std.proofs.lemmas.List.{take-append-le}
 use Rattle.std.proofs.lemmas.List.Elements.{All-cons, All-head, All-nil, All-tail}
 use Rattle.admission_rules.specs.declared.rules.Wish.{Wish}
-use Rattle.book_gate.specs.Views.{StartsWith, positions}
+use Rattle.line_answers.specs.gate.Views.{StartsWith, positions}
 use Rattle.admission_rules.specs.Ruled.{Ruled, freed, granted}
 use Rattle.admission_rules.specs.Told.{told_at, told_deed, told_of, wish_at}
 use Rattle.admission_rules.specs.Wishes.{wish_of}
@@ -15,7 +18,8 @@ use Rattle.rail_types.specs.declared.entries.Entry.{Entry}
 use Rattle.served_clients.specs.declared.client_seats.tellings.Telling.{Telling}
 use Rattle.served_clients.specs.declared.client_seats.tellings.Telling.TheVariants.{Granted, Freed}
 use Rattle.served_clients.specs.ClientRuns.{is_owned, owned, told_own}
-use Rattle.served_clients.specs.Tellings.{own_telling, own_tellings, own_tellings_from, telling_of, telling_of_entry, told_each, told_once}
+use Rattle.served_clients.specs.Tellings.{own_telling, own_tellings, own_tellings_from, telling_of}
+use Rattle.served_clients.specs.Tellings.{telling_of_entry, told_each, told_once}
 
 pub told_at-append : (history : List Entry) (ps qs : List ℕ) (rules : List Ruled) → told_at history (ps ++ qs) rules ≡ told_at history qs (told_at history ps rules)
 told_at-append history [] qs rules = refl

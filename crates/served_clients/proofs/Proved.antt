@@ -1,8 +1,8 @@
 -- The proofs that go along with replies, by a history and by a longer one.
 use Rattle.std.proofs.Common.{ℕ, ◌≤◌, Bool, true, false, List, [], ◌∷◌, ◌++◌, length}
-use Rattle.book_gate.specs.Views.{StartsWith}
+use Rattle.line_answers.specs.gate.Views.{StartsWith}
 use Rattle.client_lines.specs.Names.{Names}
-use Rattle.ask_turns.specs.Turns.{Sight}
+use Rattle.line_answers.specs.turns.Turns.{Sight}
 use Rattle.line_answers.specs.Points.{point}
 use Rattle.line_answers.specs.Proved.{IsProvedBetween}
 use Rattle.line_answers.proofs.Proved.{is_proved, proved_longer}

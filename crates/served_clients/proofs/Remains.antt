@@ -1,11 +1,12 @@
 -- What a crash leaves of a book's disk.
-use Rattle.std.proofs.Common.{◌≡◌, ◌∙◌, ◌+◌, ℕ, List, Option, None, Some, length, IfSome, refl, ap, subst, arith}
+use Rattle.std.proofs.Common.{◌≡◌, ◌∙◌, ◌+◌, ℕ, List, Option, None, Some, length, IfSome, refl, ap}
+use Rattle.std.proofs.Common.{subst, arith}
 use Rattle.outside_io.specs.declared.disks.Disk.{Ghosts as Disks}
-use Rattle.grant_journal.specs.Headers.{header_of}
-use Rattle.grant_journal.specs.Histories.{bodies_of, ReadsAsPrefix}
-use Rattle.path_commit.specs.Footings.{footing_of}
-use Rattle.path_commit.specs.Ledgers.{IsPrefixOf, Ledger, settled_of}
-use Rattle.path_commit.specs.declared.stands.Footing.{Footing}
+use Rattle.path_recover.specs.journal.Headers.{header_of}
+use Rattle.path_recover.specs.journal.Histories.{bodies_of, ReadsAsPrefix}
+use Rattle.line_answers.specs.book.Footings.{footing_of}
+use Rattle.line_answers.specs.book.Ledgers.{IsPrefixOf, Ledger, settled_of}
+use Rattle.line_answers.specs.book.declared.stands.Footing.{Footing}
 use Rattle.served_clients.specs.ServedJournals.{IsClosed, IsFound, Remains}
 use Rattle.served_clients.specs.declared.served_journals.files.Files.{Files}
 

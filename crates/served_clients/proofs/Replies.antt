@@ -1,18 +1,22 @@
 -- One reply more in a session.
-use Rattle.std.proofs.Common.{◌≡◌, ℕ, ◌+◌, ◌-◌, ◌^◌, ◌≤◌, ◌<◌, All, AllPairs, List, [], ◌∷◌, ◌++◌, Some, length, get_or, ap, sym, ◌∙◌, subst, refl, arith, append_assoc, length-append}
+use Rattle.std.proofs.Common.{◌≡◌, ℕ, ◌+◌, ◌-◌, ◌^◌, ◌≤◌, ◌<◌, All, AllPairs, List, [], ◌∷◌, ◌++◌}
+use Rattle.std.proofs.Common.{Some, length, get_or, ap, sym, ◌∙◌, subst, refl, arith, append_assoc}
+use Rattle.std.proofs.Common.{length-append}
 use mathlib.Core.Logic.{⊎_elim}
 use Rattle.std.proofs.lemmas.Bool.{cases_lt}
-use Rattle.std.proofs.lemmas.List.{append-nil, length_push, get_or_append_left, get_or_push, get_or-append-add}
+use Rattle.std.proofs.lemmas.List.{append-nil, length_push, get_or_append_left, get_or_push}
+use Rattle.std.proofs.lemmas.List.{get_or-append-add}
 use Rattle.std.proofs.lemmas.List.Concat.{flat_map-append}
-use Rattle.std.proofs.lemmas.List.Elements.{All-head, All-nil, All-push, All-weaker, All-append, Contains-append_left, Contains-append_right}
+use Rattle.std.proofs.lemmas.List.Elements.{All-head, All-nil, All-push, All-weaker, All-append}
+use Rattle.std.proofs.lemmas.List.Elements.{Contains-append_left, Contains-append_right}
 use Rattle.std.proofs.lemmas.List.Sums.{sum_by-append, sum_by_push}
-use Rattle.book_gate.specs.declared.views.Turn.{Turn}
-use Rattle.book_gate.specs.Passes.{view}
-use Rattle.book_gate.specs.Views.{StartsWith, positions, own, rises}
+use Rattle.line_answers.specs.gate.declared.views.Turn.{Turn}
+use Rattle.line_answers.specs.gate.Passes.{view}
+use Rattle.line_answers.specs.gate.Views.{StartsWith, positions, own, rises}
 use Rattle.admission_rules.specs.declared.rules.Rule.{Ghosts as Rules}
 use Rattle.admission_rules.specs.Ruled.{Ruled, stand}
 use Rattle.admission_rules.specs.Told.{told_at}
-use Rattle.ask_turns.specs.Turns.{Sight, timetable_at}
+use Rattle.line_answers.specs.turns.Turns.{Sight, timetable_at}
 use Rattle.line_answers.specs.Answers.{Caller}
 use Rattle.line_answers.specs.Callers.{caller_of}
 use Rattle.line_answers.specs.Calls.{AnswersBetween, EndInFault, IsToldIn, Settle}
@@ -26,8 +30,11 @@ use Rattle.client_lines.specs.declared.reply_texts.replies.Reply.{Reply}
 use Rattle.client_lines.specs.declared.reply_texts.replies.Reply.TheVariants as reply
 use Rattle.served_clients.specs.declared.client_seats.seats.Seat.{Seat}
 use Rattle.served_clients.specs.Seats.{AnswersAt}
-use Rattle.served_clients.specs.Talks.{AreBelowEnd, AreGiven, AreProved, AreSettledWithin, Callers, IsAnswer, IsNoOlder, IsTalk, IsWithinSettled, printed, Serves, unsettled}
-use Rattle.served_clients.proofs.Histories.{given_longer, given_more, given_within, least_behind, least_more, least_within, starts_refl, starts_trans}
+use Rattle.served_clients.specs.Talks.{AreBelowEnd, AreGiven, AreProved, AreSettledWithin, Callers}
+use Rattle.served_clients.specs.Talks.{IsAnswer, IsNoOlder, IsTalk, IsWithinSettled, printed}
+use Rattle.served_clients.specs.Talks.{Serves, unsettled}
+use Rattle.served_clients.proofs.Histories.{given_longer, given_more, given_within, least_behind}
+use Rattle.served_clients.proofs.Histories.{least_more, least_within, starts_refl, starts_trans}
 use Rattle.served_clients.proofs.Proved.{all_longer, proved_more, proved_now}
 use Rattle.served_clients.proofs.Rows.{point_left}
 use Rattle.served_clients.proofs.Settles.{reply_within}

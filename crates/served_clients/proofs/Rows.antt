@@ -1,9 +1,10 @@
 -- What a reply says of the positions and the front that it prints.
-use Rattle.std.proofs.Common.{◌≡◌, ℕ, ◌+◌, ◌≤◌, true, List, [], ◌∷◌, ◌++◌, All, AllPairs, Some, flat_map, length, slice_get, ap, sym, ◌∙◌, refl, arith}
+use Rattle.std.proofs.Common.{◌≡◌, ℕ, ◌+◌, ◌≤◌, true, List, [], ◌∷◌, ◌++◌, All, AllPairs, Some}
+use Rattle.std.proofs.Common.{flat_map, length, slice_get, ap, sym, ◌∙◌, refl, arith}
 use Rattle.std.proofs.lemmas.List.{length_push}
 use Rattle.std.proofs.lemmas.List.Elements.{All-head, All-tail, All-nil, All-cons, All-append}
 use Rattle.std.proofs.lemmas.Slice.Eq.{bytes_eq-Decides}
-use Rattle.book_gate.specs.Views.{StartsWith}
+use Rattle.line_answers.specs.gate.Views.{StartsWith}
 use Rattle.client_lines.specs.declared.asks.Ask.{Ask}
 use Rattle.admission_rules.specs.Ruled.{Ruled}
 use Rattle.line_answers.specs.Answers.{Adds, Caller, GivesLine, Leaves}

@@ -1,9 +1,10 @@
 -- What a reply says is settled, a turn of its call left settled.
-use Rattle.std.proofs.Common.{◌≡◌, ◌≢◌, ◌⊎◌, ℕ, zero, suc, ◌+◌, ◌-◌, ◌≤◌, All, Contains, List, [], ◌∷◌, ◌++◌, Some, length, ap, ◌∙◌, subst, refl, arith}
+use Rattle.std.proofs.Common.{◌≡◌, ◌≢◌, ◌⊎◌, ℕ, zero, suc, ◌+◌, ◌-◌, ◌≤◌, All, Contains, List, []}
+use Rattle.std.proofs.Common.{◌∷◌, ◌++◌, Some, length, ap, ◌∙◌, subst, refl, arith}
 use mathlib.Core.Logic.{⊎_elim, inl, inr}
 use Rattle.std.proofs.lemmas.List.Elements.{All-head, All-tail}
-use Rattle.book_gate.specs.declared.views.Turn.{Turn}
-use Rattle.book_gate.specs.Views.{own, positions}
+use Rattle.line_answers.specs.gate.declared.views.Turn.{Turn}
+use Rattle.line_answers.specs.gate.Views.{own, positions}
 use Rattle.line_answers.specs.Answers.{Caller, Leaves}
 use Rattle.line_answers.specs.Calls.{Answers, IsSettled, IsToldIn, IsTurnOf, LastFound}
 use Rattle.line_answers.specs.Points.{added, unsettled_by}

@@ -1,10 +1,11 @@
 -- Entries that are not settled.
-use Rattle.std.proofs.Common.{◌≡◌, ◌⊎◌, ℕ, suc, ◌+◌, ◌≤◌, All, Contains, List, [], ◌∷◌, ap, sym, ◌∙◌, subst, arith}
+use Rattle.std.proofs.Common.{◌≡◌, ◌⊎◌, ℕ, suc, ◌+◌, ◌≤◌, All, Contains, List, [], ◌∷◌, ap, sym}
+use Rattle.std.proofs.Common.{◌∙◌, subst, arith}
 use mathlib.Core.Logic.{⊎_elim, inl, inr}
 use Rattle.std.proofs.lemmas.List.Elements.{All-cons, All-head, All-nil, All-tail}
-use Rattle.book_gate.specs.declared.views.Mark.{Mark}
-use Rattle.book_gate.specs.declared.views.Turn.{Turn}
-use Rattle.book_gate.specs.Views.{IsChain, Rises}
+use Rattle.line_answers.specs.gate.declared.views.Mark.{Mark}
+use Rattle.line_answers.specs.gate.declared.views.Turn.{Turn}
+use Rattle.line_answers.specs.gate.Views.{IsChain, Rises}
 use Rattle.line_answers.specs.Calls.{IsToldIn}
 use Rattle.served_clients.specs.Talks.{AreSettledWithin}
 

@@ -1,20 +1,23 @@
 -- From the passes of all clients, joined into one, to what the clients were told.
-use Rattle.std.proofs.Common.{◌≡◌, ◌≢◌, ◌⊎◌, ℕ, zero, suc, ◌+◌, ◌-◌, ◌^◌, ◌<◌, true, List, [], ◌∷◌, All, AllPairs, Any, Contains, IsPermutation, Option, Some, None, flat_map, drop, length, slice_get, get_or, ap, sym, ◌∙◌, subst, refl, arith, length-drop}
+use Rattle.std.proofs.Common.{◌≡◌, ◌≢◌, ◌⊎◌, ℕ, zero, suc, ◌+◌, ◌-◌, ◌^◌, ◌<◌, true, List, [], ◌∷◌}
+use Rattle.std.proofs.Common.{All, AllPairs, Any, Contains, IsPermutation, Option, Some, None}
+use Rattle.std.proofs.Common.{flat_map, drop, length, slice_get, get_or, ap, sym, ◌∙◌, subst, refl}
+use Rattle.std.proofs.Common.{arith, length-drop}
 use mathlib.Core.Logic.{inl, inr, ⊎_elim}
 use Rattle.std.proofs.lemmas.Bool.{cases_lt}
 use Rattle.std.proofs.lemmas.List.{get_or-drop, get_or_default}
 use Rattle.std.proofs.lemmas.List.Elements.{All-weaker}
 use Rattle.std.proofs.lemmas.List.Sorted.{All-permutation}
 use Rattle.std.proofs.lemmas.Slice.Eq.{bytes_eq-Decides}
-use Rattle.book_gate.specs.declared.views.Mark.{Mark}
-use Rattle.book_gate.specs.Passes.{opened}
-use Rattle.book_gate.specs.Views.{StartsWith, IsChain, positions, own, rises}
-use Rattle.book_gate.proofs.Turns.{IsWithin, chain_all}
-use Rattle.ask_turns.specs.Turns.{Sight, timetable_at}
-use Rattle.grant_log.specs.Legal.{IsLegal}
+use Rattle.line_answers.specs.gate.declared.views.Mark.{Mark}
+use Rattle.line_answers.specs.gate.Passes.{opened}
+use Rattle.line_answers.specs.gate.Views.{StartsWith, IsChain, positions, own, rises}
+use Rattle.line_answers.proofs.gate_lemmas.Turns.{IsWithin, chain_all}
+use Rattle.line_answers.specs.turns.Turns.{Sight, timetable_at}
+use Rattle.line_answers.specs.history.Legal.{IsLegal}
 use Rattle.line_answers.specs.declared.shared.Shared.{Shared}
-use Rattle.path_commit.specs.declared.stands.Footing.{Footing}
-use Rattle.path_commit.specs.Ledgers.{Ledger, settled_of}
+use Rattle.line_answers.specs.book.declared.stands.Footing.{Footing}
+use Rattle.line_answers.specs.book.Ledgers.{Ledger, settled_of}
 use Rattle.rail_types.specs.declared.entries.Entry.{Entry}
 use Rattle.rail_types.specs.Timetables.{Timetable}
 use Rattle.served_clients.specs.Joins.{AreJoined, IsTalkOf}

@@ -2,14 +2,14 @@
 use Rattle.std.specs.Prelude.{◌≡◌, ◌⊎◌, ℕ, ◌+◌, ◌-◌, ◌^◌, ◌≤◌, Bool, false, bytes_eq, All, Any}
 use Rattle.std.specs.Prelude.{Contains, Option, Some, None, List, [], ◌∷◌, filter, flat_map, drop}
 use Rattle.std.specs.Prelude.{length, slice_get, sum_by}
-use Rattle.book_gate.specs.Views.{StartsWith, positions}
+use Rattle.line_answers.specs.gate.Views.{StartsWith, positions}
 use Rattle.client_lines.specs.Names.{Names}
 use Rattle.admission_rules.specs.Ruled.{Ruled}
 use Rattle.admission_rules.specs.Told.{told_at}
-use Rattle.grant_log.specs.Legal.{IsLegal}
+use Rattle.line_answers.specs.history.Legal.{IsLegal}
 use Rattle.line_answers.specs.Callers.{are_some}
 use Rattle.line_answers.specs.Rules.{denial}
-use Rattle.path_commit.specs.Ledgers.{Ledger, settled_of}
+use Rattle.line_answers.specs.book.Ledgers.{Ledger, settled_of}
 use Rattle.rail_types.specs.declared.entries.Entry.{Entry}
 use Rattle.rail_types.specs.Timetables.{Timetable}
 use Rattle.served_clients.specs.Talks.{AreProved, Callers, faults, IsTalk, IsWithinSettled, printed}

@@ -1,6 +1,6 @@
 -- The files of a run, and what lines may name by them.
 use Rattle.std.specs.Prelude.{All, List}
-use Rattle.base_file.specs.Sound.{IsBaseOn}
+use Rattle.command_files.specs.base.Sound.{IsBaseOn}
 use Rattle.client_lines.specs.Names.{Names}
 use Rattle.command_files.specs.declared.bases.BaseFile.{BaseFile}
 use Rattle.command_files.specs.declared.networks.NetworkFile.{NetworkFile}

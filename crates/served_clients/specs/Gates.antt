@@ -1,14 +1,14 @@
 -- A gate for clients, and those who come to it.
 use Rattle.std.specs.Prelude.{◌≡◌, ℕ, ◌+◌, ◌*◌, List, []}
-use Rattle.book_gate.specs.declared.gates.Pass.{Pass}
-use Rattle.book_gate.specs.Passes.{opened, turns_given, turns_left, view}
+use Rattle.line_answers.specs.gate.declared.gates.Pass.{Pass}
+use Rattle.line_answers.specs.gate.Passes.{opened, turns_given, turns_left, view}
 use Rattle.client_lines.specs.Names.{Names}
-use Rattle.ask_turns.specs.Clients.{IsCopyOf}
-use Rattle.ask_turns.specs.Turns.{IsReady}
+use Rattle.line_answers.specs.turns.Clients.{IsCopyOf}
+use Rattle.line_answers.specs.turns.Turns.{IsReady}
 use Rattle.line_answers.specs.declared.shared.Shared.{Shared}
 use Rattle.line_answers.specs.Sharing.{IsShared}
-use Rattle.path_commit.specs.declared.stands.Footing.{Footing}
-use Rattle.path_commit.specs.Ledgers.{Ledger}
+use Rattle.line_answers.specs.book.declared.stands.Footing.{Footing}
+use Rattle.line_answers.specs.book.Ledgers.{Ledger}
 use Rattle.rail_types.specs.declared.entries.Entry.{Entry}
 use Rattle.rail_types.specs.Limits.{IsClientName}
 use Rattle.rail_types.specs.Timetables.{Timetable}

@@ -1,7 +1,7 @@
 -- *inside*: what is known once the passes of clients are one.
 use Rattle.std.specs.Prelude.{ℕ, ◌≤◌, All, List, flat_map, length, sum_by, IsPermutation}
-use Rattle.book_gate.specs.Views.{StartsWith, own, rises}
-use Rattle.ask_turns.specs.Turns.{Sight, timetable_at}
+use Rattle.line_answers.specs.gate.Views.{StartsWith, own, rises}
+use Rattle.line_answers.specs.turns.Turns.{Sight, timetable_at}
 use Rattle.line_answers.specs.Calls.{IsToldIn}
 use Rattle.line_answers.specs.declared.shared.Shared.{Shared}
 use Rattle.rail_types.specs.declared.entries.Entry.{Entry}

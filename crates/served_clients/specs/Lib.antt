@@ -12,3 +12,11 @@ pub mod Rules
 pub mod Files
 pub mod ServedJournals
 pub mod Rounds
+pub use Rattle.admission_rules.specs as admission
+pub use Rattle.line_answers.specs.turns as turns
+pub use Rattle.line_answers.specs.gate as gate
+pub use Rattle.client_lines.specs as lines
+pub use Rattle.line_answers.specs.history as history
+pub use Rattle.line_answers.specs as answers
+pub use Rattle.line_sessions.specs as sessions
+pub use Rattle.line_answers.specs.book as book

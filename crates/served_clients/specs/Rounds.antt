@@ -11,7 +11,7 @@ use Rattle.outside_io.specs.Faults.{Rose}
 use Rattle.outside_io.specs.Openings.{disk_at, Opening}
 use Rattle.outside_io.specs.Places.{Replaces, Untouched}
 use Rattle.outside_io.specs.declared.disks.Disk.{Ghosts as Disks}
-use Rattle.path_commit.specs.Ledgers.{Ledger}
+use Rattle.line_answers.specs.book.Ledgers.{Ledger}
 use Rattle.served_clients.specs.ServedJournals.{HasNoBook, IsFound, IsFoundOnly, IsNoJournal}
 use Rattle.served_clients.specs.ServedJournals.{TellsOpen}
 use Rattle.served_clients.specs.declared.served_journals.files.Files.{Files}

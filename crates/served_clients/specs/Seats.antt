@@ -1,21 +1,21 @@
 -- A client's seat at the gate, and what an answer there says.
 use Rattle.std.specs.Prelude.{◌≡◌, ℕ, ◌≤◌, All, List, [], length}
 use Rattle.admission_rules.specs.declared.rules.Rule.{Ghosts as Rules}
-use Rattle.book_gate.specs.declared.gates.Gate.{Gate}
-use Rattle.book_gate.specs.Passes.{opened, turns_left, view}
-use Rattle.book_gate.specs.Views.{own, rises}
+use Rattle.line_answers.specs.gate.declared.gates.Gate.{Gate}
+use Rattle.line_answers.specs.gate.Passes.{opened, turns_left, view}
+use Rattle.line_answers.specs.gate.Views.{own, rises}
 use Rattle.admission_rules.specs.Ruled.{stand}
 use Rattle.admission_rules.specs.Told.{told_at}
-use Rattle.ask_turns.specs.Clients.{Knows}
-use Rattle.ask_turns.specs.Turns.{IsReady, timetable_at}
+use Rattle.line_answers.specs.turns.Clients.{Knows}
+use Rattle.line_answers.specs.turns.Turns.{IsReady, timetable_at}
 use Rattle.line_answers.specs.Callers.{caller_of}
 use Rattle.line_answers.specs.Calls.{AnswersBetween, IsToldIn}
 use Rattle.line_answers.specs.Proved.{IsProvedBetween}
 use Rattle.line_answers.specs.Rules.{told_by}
 use Rattle.line_answers.specs.Sharing.{IsShared}
 use Rattle.line_answers.specs.declared.shared.Shared.{Shared}
-use Rattle.path_commit.specs.declared.stands.Footing.{Footing}
-use Rattle.path_commit.specs.Ledgers.{Ledger}
+use Rattle.line_answers.specs.book.declared.stands.Footing.{Footing}
+use Rattle.line_answers.specs.book.Ledgers.{Ledger}
 use Rattle.rail_types.specs.Limits.{IsClientName}
 use Rattle.rail_types.specs.declared.entries.Entry.{Entry}
 use Rattle.client_lines.specs.declared.reply_texts.replies.Reply.{Reply}

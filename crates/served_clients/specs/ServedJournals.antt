@@ -8,10 +8,10 @@ use Rattle.path_recover.specs.Failing.{HasFaultCause, IsOnlyRead, IsUnread}
 use Rattle.path_recover.specs.Files.{IsRefused, TellsHistory}
 use Rattle.path_recover.specs.declared.journal_reading.faults.OpenFault.{OpenFault}
 use Rattle.path_recover.specs.declared.journal_reading.faults.OpenFault.TheVariants.{ReadFault}
-use Rattle.grant_journal.specs.Headers.{header_of}
-use Rattle.grant_journal.specs.Histories.{bodies_of, ReadsAsPrefix}
+use Rattle.path_recover.specs.journal.Headers.{header_of}
+use Rattle.path_recover.specs.journal.Histories.{bodies_of, ReadsAsPrefix}
 use Rattle.outside_io.specs.declared.disks.Disk.{Ghosts as Disks}
-use Rattle.path_commit.specs.Ledgers.{IsKept, IsPrefixOf, Ledger, settled_of}
+use Rattle.line_answers.specs.book.Ledgers.{IsKept, IsPrefixOf, Ledger, settled_of}
 use Rattle.path_recover.specs.Opening.{IsJustMade, IsSynced}
 use Rattle.path_recover.specs.Texts.{fault_text}
 use Rattle.rail_types.specs.declared.entries.Entry.{Entry}

@@ -1,11 +1,11 @@
 -- What one client was told, over a history.
 use Rattle.std.specs.Prelude.{◌≡◌, ℕ, ◌+◌, ◌-◌, ◌^◌, ◌≤◌, ◌<◌, Bool, true, false, All, AllPairs}
 use Rattle.std.specs.Prelude.{List, ◌++◌, [], ◌∷◌, flat_map, length, sum_by, Option, Some, None}
-use Rattle.book_gate.specs.declared.views.Turn.{Turn}
-use Rattle.book_gate.specs.Views.{StartsWith, own, rises}
+use Rattle.line_answers.specs.gate.declared.views.Turn.{Turn}
+use Rattle.line_answers.specs.gate.Views.{StartsWith, own, rises}
 use Rattle.client_lines.specs.Names.{Names}
 use Rattle.admission_rules.specs.Ruled.{Ruled}
-use Rattle.ask_turns.specs.Turns.{Sight}
+use Rattle.line_answers.specs.turns.Turns.{Sight}
 use Rattle.line_answers.specs.Answers.{Caller, GivesLine}
 use Rattle.line_answers.specs.Calls.{IsToldIn}
 use Rattle.line_answers.specs.Points.{point, added, fault, unsettled_by}

@@ -1,7 +1,7 @@
 -- *inside*: what a client's rules are told of the entries that were found.
 use Rattle.std.specs.Prelude.{ℕ, List, [], ◌∷◌, Option, Some, None, flat_map, if◌then◌else◌, length}
 use Rattle.std.specs.Prelude.{option_map, option_to_list, slice_get, take}
-use Rattle.book_gate.specs.Views.{positions}
+use Rattle.line_answers.specs.gate.Views.{positions}
 use Rattle.admission_rules.specs.Ruled.{Ruled, freed, granted}
 use Rattle.admission_rules.specs.Told.{wish_at}
 use Rattle.admission_rules.specs.Wishes.{wish_of}

@@ -8,4 +8,9 @@ mod plans;
 pub mod serve_reports;
 pub mod served_journals;
 
+pub use admission_rules as admission;
+pub use client_lines as lines;
+pub use line_answers as answers;
+pub use line_answers::{book, bytes, gate, history};
+pub use line_sessions as sessions;
 pub use plans::{Plan, Session};

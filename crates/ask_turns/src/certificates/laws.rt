@@ -3,8 +3,8 @@
 ghost use Rattle.ask_turns.specs.CertificateLaws.{CertificatesCanBeTold, EarlierRefusalsPass};
 ghost use Rattle.ask_turns.specs.CertificateLaws.{RefusalsPass};
 
-use stair_pieces::a_path_is_a_list_of_moves;
-use tail_states::{places_may_be_cut, sound_networks_are_asked, windows_change_no_places};
+use path_labels::pieces::a_path_is_a_list_of_moves;
+use path_labels::tails::{places_may_be_cut, sound_networks_are_asked, windows_change_no_places};
 
 /// The certificate of the search passes the check: beside the answer that there is no path
 /// for the request, and beside a path for the request whose window of arrival ends one tick

@@ -6,17 +6,17 @@ ghost use Rattle.rail_types.specs.Flaws.{first_flaw};
 ghost use Rattle.rail_types.specs.Limits.{IsRequestWithinLimits, IsSettingsWithinLimits};
 ghost use Rattle.refusal_proof.specs.Proofs.{claims_held};
 ghost use Rattle.path_labels.specs.Answers.{before, last_leave};
-ghost use Rattle.tail_states.specs.Listed.{AreTheMoves, AreThePlaces};
+ghost use Rattle.path_labels.specs.tails.Listed.{AreTheMoves, AreThePlaces};
 ghost use Rattle.ask_turns.specs.Certified.{IsCertified};
 
 use crate::certificates::laws::certificates_pass;
 use no_memory::NoMemory;
-use occupation_book::Occupations;
+use path_commit::claims::Occupations;
+use path_labels::pieces::a_path_is_a_list_of_moves;
+use path_labels::tails::{Closed, Places};
 use path_labels::{Sought, seek};
 use rail_types::{Network, Path, Request, Run, Settings, Window};
-use stair_pieces::a_path_is_a_list_of_moves;
 use std::alloc::Global;
-use tail_states::{Closed, Places};
 
 /// What was found: a path that leaves last as early as any, or None; and the request that is
 /// excluded beside it, with members that show it.

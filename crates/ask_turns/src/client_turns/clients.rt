@@ -3,9 +3,9 @@ ghost use Rattle.std.specs.Prelude.{◌≡◌, IfOk, OnOk};
 ghost use Rattle.ask_turns.specs.Clients.{IsCopyOf, Knows};
 
 use no_memory::NoMemory;
-use occupation_book::Occupations;
 use outside_io::Disk;
 use path_commit::Book;
+use path_commit::claims::Occupations;
 use rail_types::Name;
 use std::alloc::Global;
 

@@ -3,12 +3,12 @@ ghost use Rattle.std.specs.Prelude.{ℕ, List, length};
 ghost use Rattle.rail_types.specs.declared.entries.Entry.{Entry as entry_type};
 ghost use Rattle.rail_types.specs.declared.paths.Claim.{Claim as claim_type};
 ghost use Rattle.rail_types.specs.Timetables.{Timetable};
-ghost use Rattle.grant_log.specs.Live.{live_claims};
-ghost use Rattle.grant_log.specs.Verdict.{verdict_on};
+ghost use Rattle.path_commit.specs.history.Live.{live_claims};
+ghost use Rattle.path_commit.specs.history.Verdict.{verdict_on};
 ghost use Rattle.path_commit.specs.Clashes.{IsLastClash};
 ghost use Rattle.ask_turns.specs.Told.{Stands};
 
-use grant_log::{live_claims_are_unfreed, verdicts_say_what_they_mean};
+use path_commit::history::{live_claims_are_unfreed, verdicts_say_what_they_mean};
 
 // Where an entry is kept, one stands at the position that is told.
 pub(crate) fn kept_entries_stand()

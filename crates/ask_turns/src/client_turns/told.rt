@@ -2,7 +2,7 @@
 ghost use Rattle.std.specs.Prelude.{◌≡◌, ◌≤◌, IfErr, IfOk, length};
 ghost use Rattle.rail_types.specs.declared.limits.TheConstants.{MAX_OWNER_BYTES};
 ghost use Rattle.book_gate.specs.Views.{StartsWith};
-ghost use Rattle.grant_log.specs.Legal.{IsInRange};
+ghost use Rattle.path_commit.specs.history.Legal.{IsInRange};
 ghost use Rattle.path_commit.specs.Footings.{footing_of};
 ghost use Rattle.path_commit.specs.Ledgers.{settled_of};
 ghost use Rattle.ask_turns.specs.Told.{EntersIn, IsFoundAgain, IsRefusal, IsStanding, Stands};
@@ -10,9 +10,9 @@ ghost use Rattle.ask_turns.specs.Told.{StopsIn, TriesIn};
 
 use crate::client_turns::halts::Halt;
 use crate::client_turns::laws::{kept_entries_stand, none_clashes_behind};
-use grant_log::{History, Verdict};
 use no_memory::NoMemory;
 use outside_io::Disk;
+use path_commit::history::{History, Verdict};
 use path_commit::{Book, Committed};
 use rail_types::{Deed, Entry, Name};
 use std::alloc::Global;

@@ -3,7 +3,7 @@ ghost use Rattle.std.specs.Prelude.{◌≡◌, ℕ, ◌+◌, ◌<◌, ◌≤◌,
 ghost use Rattle.std.specs.Prelude.{length};
 ghost use Rattle.rail_types.specs.declared.limits.TheConstants.{MAX_OWNER_BYTES};
 ghost use Rattle.book_gate.specs.Passes.{turns_left, view};
-ghost use Rattle.grant_log.specs.Legal.{IsInRange};
+ghost use Rattle.path_commit.specs.history.Legal.{IsInRange};
 ghost use Rattle.ask_turns.specs.Clients.{IsCopyOf, Knows};
 ghost use Rattle.ask_turns.specs.Told.{IsFoundAgain, IsStanding};
 ghost use Rattle.ask_turns.specs.Turns.{HasEntered, HasTried, IsHalted, IsOpen, IsReached};
@@ -15,9 +15,9 @@ use crate::client_turns::told::{
     Entered, Refusal, Standing, Tried, enter_in, standing_at, told_again, try_in,
 };
 use book_gate::{Gate, Held, Pass};
-use grant_journal::Settled;
 use outside_io::Disk;
 use path_commit::Book;
+use path_commit::journal::Settled;
 use rail_types::{Deed, Entry};
 use std::alloc::Global;
 use std::sync::Wait;

@@ -4,11 +4,11 @@ ghost use Rattle.batch_command.specs.Ends.{IsEnds};
 
 use crate::batch_reports::texts::text_of;
 use crate::batch_server::Worked;
-use admission_rules::Rule;
-use line_sessions::Ended;
 use no_memory::NoMemory;
 use rail_types::{List, Name};
+use served_clients::admission::Rule;
 use served_clients::serve_reports::{Ends, status_at, status_untold};
+use served_clients::sessions::Ended;
 use std::alloc::Global;
 
 /// The end of a batch: the status is `ClientEnd` where the sink failed, `Memory` where

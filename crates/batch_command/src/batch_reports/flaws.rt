@@ -7,14 +7,14 @@ ghost use Rattle.command_reports.specs.Refusals.{IsTold};
 ghost use Rattle.command_reports.specs.declared.exit_status.Status.TheVariants.{ClientEnd, No};
 
 use crate::list_lines::ListFault;
-use byte_fields::Buffer;
 use command_reports::Refusal;
 use command_reports::exit_status::Status;
 use itoa::Buffer as Digits;
-use line_sessions::{Ended, Why};
 use no_memory::NoMemory;
 use rail_types::{List, Name};
+use served_clients::bytes::Buffer;
 use served_clients::serve_reports::push_end;
+use served_clients::sessions::{Ended, Why};
 use std::alloc::Global;
 
 /// A line of the list, by its number from 1, does not ask for a path.

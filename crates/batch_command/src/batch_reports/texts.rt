@@ -4,12 +4,12 @@ ghost use Rattle.std.specs.Prelude.{◌≡◌, ◌++◌, IfOk, OnOk, flat_map};
 ghost use Rattle.batch_command.specs.Ends.{report_text, worker_lines};
 
 use crate::batch_server::Worked;
-use admission_rules::Rule;
-use byte_fields::Buffer;
-use line_sessions::{Ended, Why};
 use no_memory::NoMemory;
 use rail_types::Name;
+use served_clients::admission::Rule;
+use served_clients::bytes::Buffer;
 use served_clients::serve_reports::{push_end, push_rule_lines};
+use served_clients::sessions::{Ended, Why};
 use std::alloc::Global;
 
 /// The line of a batch, and behind it the lines of its workers.

@@ -1,17 +1,17 @@
 //! A worker at its seat.
 
 ghost use Rattle.std.specs.Prelude.{◌≤◌, length};
-ghost use Rattle.client_lines.specs.declared.lines.TheConstants.{MAX_LINE_BYTES};
+ghost use Rattle.served_clients.specs.lines.declared.lines.TheConstants.{MAX_LINE_BYTES};
 
-use admission_rules::Rule;
 use batch_pool::Worker;
-use byte_fields::Buffer;
-use client_lines::reply_texts::Reply;
-use line_sessions::Desk;
 use no_memory::NoMemory;
 use outside_io::{Between, Disk};
 use rail_types::Name;
+use served_clients::admission::Rule;
+use served_clients::bytes::Buffer;
 use served_clients::client_seats::Seat;
+use served_clients::lines::reply_texts::Reply;
+use served_clients::sessions::Desk;
 use std::alloc::Global;
 use std::sync::Wait;
 

@@ -4,15 +4,15 @@ ghost use Rattle.std.specs.Prelude.{◌≡◌, ◌+◌, ◌<◌, ◌≤◌, [], 
 ghost use Rattle.std.specs.Prelude.{vec_capacity};
 ghost use Rattle.batch_command.specs.InOrder.{places};
 ghost use Rattle.batch_command.specs.Clerks.{EachWent, IsSound, lines_left, owned_places, WasAsked};
-ghost use Rattle.client_lines.specs.declared.lines.TheConstants.{MAX_LINE_BYTES};
-ghost use Rattle.line_sessions.specs.declared.sessions.TheConstants.{MAX_LINES};
+ghost use Rattle.served_clients.specs.lines.declared.lines.TheConstants.{MAX_LINE_BYTES};
+ghost use Rattle.served_clients.specs.sessions.declared.sessions.TheConstants.{MAX_LINES};
 
 use crate::batch_server::clerks::Clerk;
-use admission_rules::Rule;
 use batch_pool::Worker;
-use client_lines::reply_texts::Reply;
 use outside_io::{Between, Disk};
 use rail_types::Name;
+use served_clients::admission::Rule;
+use served_clients::lines::reply_texts::Reply;
 use std::sync::Wait;
 
 /// Each line that is a worker's own is answered by this one, in the order of the list.

@@ -1,8 +1,8 @@
 //! Workers before and after a batch.
 
-use admission_rules::Rule;
 use outside_io::Between;
 use rail_types::Name;
+use served_clients::admission::Rule;
 
 /// A worker: its name, what happens between its searches, and the rules by
 /// which its paths may be denied.

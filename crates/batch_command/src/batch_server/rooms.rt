@@ -3,17 +3,17 @@
 ghost use Rattle.std.specs.Prelude.{◌≡◌, ◌≤◌, IfOk, length};
 ghost use Rattle.batch_command.specs.Clerks.{free_places};
 ghost use Rattle.batch_command.specs.Rooms.{IsRoomFor};
-ghost use Rattle.line_sessions.specs.declared.sessions.TheConstants.{MAX_LINES};
+ghost use Rattle.served_clients.specs.sessions.declared.sessions.TheConstants.{MAX_LINES};
 
 use crate::batch_server::clerks::Clerk;
 use crate::batch_server::members::Worked;
 use crate::list_replies::empty_texts;
-use admission_rules::Rule;
 use batch_pool::{Room as Pool, room_for as pool_for};
-use client_lines::reply_texts::Reply;
 use no_memory::NoMemory;
 use outside_io::{Between, Disk};
 use rail_types::List;
+use served_clients::admission::Rule;
+use served_clients::lines::reply_texts::Reply;
 use std::alloc::Global;
 
 /// The places of the lines that are no worker's, and room: for the answers to the other lines, for

@@ -4,30 +4,30 @@ ghost use Rattle.std.specs.Prelude.{◌≡◌, ◌+◌, ◌*◌, ◌<◌, ◌≤
 ghost use Rattle.std.specs.Prelude.{IfNone, IfOk, IfSome, length, map, vec_capacity};
 ghost use Rattle.batch_pool.specs.Batches.{AreMatched};
 ghost use Rattle.batch_command.specs.Seating.{HaveLeft, IsClerkOf, worked_of};
-ghost use Rattle.book_gate.specs.Passes.{view};
-ghost use Rattle.book_gate.specs.Views.{StartsWith};
+ghost use Rattle.served_clients.specs.gate.Passes.{view};
+ghost use Rattle.served_clients.specs.gate.Views.{StartsWith};
 ghost use Rattle.served_clients.specs.Gates.{IsHost, IsNewcomer};
 ghost use Rattle.served_clients.specs.Joins.{AreJoined};
 ghost use Rattle.served_clients.specs.Seats.{found_at, IsBack, IsDone};
 ghost use Rattle.served_clients.specs.Talks.{Talk as talk_type};
-ghost use Rattle.ask_turns.specs.Turns.{IsReady, timetable_at};
-ghost use Rattle.line_answers.specs.Sharing.{IsShared};
+ghost use Rattle.served_clients.specs.turns.Turns.{IsReady, timetable_at};
+ghost use Rattle.served_clients.specs.answers.Sharing.{IsShared};
 ghost use Rattle.rail_types.specs.Limits.{IsClientName};
 ghost use Rattle.rail_types.specs.declared.entries.Entry.{Entry as entry_type};
 
 use crate::batch_server::clerks::Clerk;
 use crate::batch_server::members::{Member, Worked};
-use admission_rules::Rule;
 use batch_pool::Served;
-use book_gate::Pass;
-use byte_fields::Buffer;
-use client_lines::reply_texts::Reply;
-use line_answers::Shared;
 use no_memory::NoMemory;
 use outside_io::{Between, Disk};
-use path_commit::Book;
 use rail_types::List;
+use served_clients::admission::Rule;
+use served_clients::answers::Shared;
+use served_clients::book::Book;
+use served_clients::bytes::Buffer;
 use served_clients::client_seats::{Newcomer, leave_seat, take_seat};
+use served_clients::gate::Pass;
+use served_clients::lines::reply_texts::Reply;
 use std::alloc::Global;
 
 /// A client for each worker, which knows the book as it stands.

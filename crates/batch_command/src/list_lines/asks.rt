@@ -1,11 +1,11 @@
 //! Lines that ask for a path.
 
 ghost use Rattle.std.specs.Prelude.{◌≡◌, ◌≤◌, length};
-ghost use Rattle.line_sessions.specs.declared.sessions.TheConstants.{MAX_LINES};
+ghost use Rattle.served_clients.specs.sessions.declared.sessions.TheConstants.{MAX_LINES};
 ghost use Rattle.batch_command.specs.Asks.{first_field, first_no_ask, is_ask};
 
-use line_sessions::cut_at;
 use rail_types::Name;
+use served_clients::sessions::cut_at;
 
 /// The number of the first line, counted from 1, whose first field is not `ask`,
 /// and None where there is none.

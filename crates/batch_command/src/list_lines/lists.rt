@@ -3,10 +3,10 @@
 ghost use Rattle.std.specs.Prelude.{◌≡◌, ◌++◌, ◌∷◌, [], IfErr, IfOk, OnOk};
 ghost use Rattle.batch_command.specs.LineLists.{IsWhole, Refuses};
 
-use line_sessions::{LineReader, MAX_LINES, More, Step};
 use no_memory::NoMemory;
 use outside_io::Source;
 use rail_types::Name;
+use served_clients::sessions::{LineReader, MAX_LINES, More, Step};
 use std::alloc::Global;
 use thiserror::Error;
 

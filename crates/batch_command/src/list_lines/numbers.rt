@@ -1,14 +1,14 @@
 //! The numbers by which lines ask.
 
 ghost use Rattle.std.specs.Prelude.{◌≡◌, ◌≤◌, [], All, IfOk, length};
-ghost use Rattle.client_lines.specs.declared.lines.TheConstants.{MAX_LINE_BYTES};
+ghost use Rattle.served_clients.specs.lines.declared.lines.TheConstants.{MAX_LINE_BYTES};
 ghost use Rattle.batch_command.specs.Numbers.{AreNumbered, asked_number, first_repeat, has};
 ghost use Rattle.batch_command.specs.Numbers.{IsNumbered};
 
-use client_lines::{Ask, Known, Line, LineFault, read_line};
 use indexmap::IndexSet;
 use no_memory::NoMemory;
 use rail_types::Name;
+use served_clients::lines::{Ask, Known, Line, LineFault, read_line};
 use std::alloc::Global;
 
 /// The number by which each line asks for a path: None for a line that does

@@ -3,12 +3,12 @@
 ghost use Rattle.std.specs.Prelude.{◌≡◌, ◌<◌, [], All, IfOk, IfSome, OnOk, length, replicate};
 ghost use Rattle.batch_command.specs.InOrder.{all_answers, AreInOrder, AreWhole};
 ghost use Rattle.batch_command.specs.Tables.{filled, texts_by};
-ghost use Rattle.client_lines.specs.Replies.{reply_text as text_of_reply};
+ghost use Rattle.served_clients.specs.lines.Replies.{reply_text as text_of_reply};
 
-use byte_fields::Buffer;
-use client_lines::reply_texts::{Reply, reply_text};
 use no_memory::NoMemory;
 use rail_types::List;
+use served_clients::bytes::Buffer;
+use served_clients::lines::reply_texts::{Reply, reply_text};
 use std::alloc::Global;
 
 /// A place for each of so many texts, each of which is empty.

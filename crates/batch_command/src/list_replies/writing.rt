@@ -2,11 +2,11 @@
 
 ghost use Rattle.std.specs.Prelude.{◌≤◌, length};
 ghost use Rattle.batch_command.specs.Writing.{Writes};
-ghost use Rattle.line_sessions.specs.declared.sessions.TheConstants.{MAX_LINES};
+ghost use Rattle.served_clients.specs.sessions.declared.sessions.TheConstants.{MAX_LINES};
 
-use line_sessions::{Ended, Why};
 use outside_io::{Sink, write_all};
 use rail_types::List;
+use served_clients::sessions::{Ended, Why};
 
 /// Writes the texts of replies, one after another, and tells how many of them the sink took whole,
 /// and what ended it: all were taken, or the sink failed.

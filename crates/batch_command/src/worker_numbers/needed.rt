@@ -10,9 +10,9 @@ ghost use Rattle.batch_command.specs.Owners.{AreEnough, IsNeeded, needs};
 
 use crate::worker_numbers::owners::stands;
 use command_line::batch_words::{MAX_WORKERS, worker_name};
-use grant_log::History;
 use no_memory::NoMemory;
 use rail_types::Name;
+use served_clients::history::History;
 use std::alloc::Global;
 
 /// The last worker of a batch, behind the first so many, under whose name one of the numbers of

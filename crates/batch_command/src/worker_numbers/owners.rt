@@ -5,9 +5,9 @@ ghost use Rattle.command_line.specs.declared.batch_words.clients.TheConstants.{M
 ghost use Rattle.rail_types.specs.declared.limits.TheConstants.{MAX_OWNER_BYTES};
 ghost use Rattle.batch_command.specs.Owners.{owner_from, owner_of, owners_of, stands};
 
-use grant_log::History;
 use no_memory::NoMemory;
 use rail_types::{Deed, Name};
+use served_clients::history::History;
 use std::alloc::Global;
 
 /// For each number of a line the first of the workers, counted from 0, under whose name it stands

@@ -1,19 +1,19 @@
 //! A history carried into another timetable.
 
 ghost use Rattle.std.specs.Prelude.{◌≡◌, ◌<◌, ◌^◌, ◌∷◌, ◌++◌, [], All, IfOk, length};
-ghost use Rattle.entry_codec.specs.Within.{HasBody};
-ghost use Rattle.grant_journal.specs.Headers.{header_of};
-ghost use Rattle.grant_journal.specs.Histories.{bodies_of, front_of};
+ghost use Rattle.path_recover.specs.spelling.Within.{HasBody};
+ghost use Rattle.path_recover.specs.journal.Headers.{header_of};
+ghost use Rattle.path_recover.specs.journal.Histories.{bodies_of, front_of};
 ghost use Rattle.carry_command.specs.Carried.{entries_at, IsCarriedOf};
 
 use crate::carried_history::holding::roomy_copy_of;
 use crate::carried_history::joining::{Carrying, carry_at};
 use crate::carried_history::reasons::LeftOut;
 use byte_fields::{Buffer, put_u8};
-use grant_journal::journal_text::header;
-use grant_log::History;
 use no_memory::NoMemory;
-use occupation_book::Occupations;
+use path_recover::claims::Occupations;
+use path_recover::history::History;
+use path_recover::journal::journal_text::header;
 use rail_types::List;
 use std::alloc::Global;
 

@@ -3,15 +3,15 @@
 ghost use Rattle.std.specs.Prelude.{◌≡◌, ◌<◌, All, AllPairs, IfOk, OnOk, length, map};
 ghost use Rattle.rail_types.specs.FirstClash.{AreApart, first_clash};
 ghost use Rattle.rail_types.specs.Occupation.{AreJoined, Clash};
-ghost use Rattle.occupation_book.specs.Held.{held, IsFree};
-ghost use Rattle.grant_log.specs.Following.{AreLive, Gains};
-ghost use Rattle.grant_log.specs.Live.{owned_by};
-ghost use Rattle.grant_log.specs.Rooms.{MayBeHeld};
+ghost use Rattle.path_recover.specs.claims.Held.{held, IsFree};
+ghost use Rattle.path_recover.specs.history.Following.{AreLive, Gains};
+ghost use Rattle.path_recover.specs.history.Live.{owned_by};
+ghost use Rattle.path_recover.specs.history.Rooms.{MayBeHeld};
 
-use grant_log::History;
-use grant_log::copy_since::copy_of;
 use no_memory::NoMemory;
-use occupation_book::Occupations;
+use path_recover::claims::Occupations;
+use path_recover::history::History;
+use path_recover::history::copy_since::copy_of;
 use rail_types::{Claim, Owner, first_clashes_are_first};
 use std::alloc::Global;
 

@@ -2,10 +2,11 @@
 
 ghost use Rattle.std.specs.Prelude.{◌≡◌, ◌+◌, ◌<◌, ◌^◌, All, None, IsTrue, ◌↔◌, OnOk, Some, length};
 ghost use Rattle.std.specs.Prelude.{slice_get};
-ghost use Rattle.grant_journal.specs.Histories.{bodies_of};
-ghost use Rattle.grant_log.specs.Legal.{Joins};
-ghost use Rattle.grant_log.specs.Live.{claims_of};
-ghost use Rattle.grant_log.specs.Verdict.{breaks, taken_or_fresh as verdict_of, takes, verdict_on};
+ghost use Rattle.path_recover.specs.journal.Histories.{bodies_of};
+ghost use Rattle.path_recover.specs.history.Legal.{Joins};
+ghost use Rattle.path_recover.specs.history.Live.{claims_of};
+ghost use Rattle.path_recover.specs.history.Verdict.{breaks, taken_or_fresh as verdict_of, takes};
+ghost use Rattle.path_recover.specs.history.Verdict.{verdict_on};
 ghost use Rattle.carry_command.specs.Carried.{entries_at, IsLiveAt, IsReason};
 ghost use Rattle.carry_command.specs.CarriedInside.{CarriesOn, HasCarried, IsNext};
 
@@ -13,12 +14,12 @@ use crate::carried_history::holding::{first_taken, hold_each};
 use crate::carried_history::reasons::{LeftOut, Reason, reason_of};
 use crate::spelling::push_record;
 use byte_fields::Buffer;
-use grant_log::{
+use no_memory::NoMemory;
+use path_recover::claims::Occupations;
+use path_recover::history::{
     History, Verdict, claims_are_on_the_network, fresh_claims_are_free, live_claims_are_unfreed,
     live_claims_follow, verdicts_say_what_they_mean,
 };
-use no_memory::NoMemory;
-use occupation_book::Occupations;
 use rail_types::{Claim, Deed, Entry, Owner, first_clashes_are_first};
 
 /// What was carried so far: the claims that are live in it, its journal up to the next gate, and

@@ -1,12 +1,12 @@
 //! Why an entry is left out.
 
 ghost use Rattle.std.specs.Prelude.{◌≡◌, IfSome, IsNone, length};
-ghost use Rattle.grant_log.specs.declared.verdicts.Verdict.TheVariants.{Fresh as is_fresh};
+ghost use Rattle.path_recover.specs.history.declared.verdicts.Verdict.TheVariants.{Fresh as fresh};
 ghost use Rattle.carry_command.specs.Carried.{IsReason};
 ghost use Rattle.carry_command.specs.CarriedInside.{IsToldNew};
 
 use blocking_time::Broken;
-use grant_log::Verdict;
+use path_recover::history::Verdict;
 use rail_types::Owner;
 
 /// Why an entry is left out. A zone is by its number, a planned train by its index, an entry by its
@@ -32,7 +32,7 @@ pub struct LeftOut {
 pub(crate) fn reason_of(kept: &[u64], verdict: Verdict) -> Option<Reason>
     requires told { IsToldNew (length kept.now) verdict }
     ensures some { IfSome result (IsReason kept.now verdict) }
-    ensures none { IsNone result → verdict ≡ is_fresh }
+    ensures none { IsNone result → verdict ≡ fresh }
 {
     match verdict {
         Verdict::Fresh => None,

@@ -5,7 +5,7 @@ ghost use Rattle.client_lines.specs.Within.{AreSound};
 ghost use Rattle.request_server.specs.PlannedClients.{AreClients, client_calls};
 ghost use Rattle.command_reports.specs.Works.{KeepsTo};
 ghost use Rattle.command_reports.specs.Scenes.{scene};
-ghost use Rattle.path_commit.specs.Ledgers.{settled_of};
+ghost use Rattle.served_clients.specs.book.Ledgers.{settled_of};
 ghost use Rattle.request_server.specs.Serving.{BookSays};
 ghost use Rattle.served_clients.specs.Files.{names_of};
 
@@ -14,19 +14,19 @@ use crate::serve_clients;
 use admission_rules::Rule;
 use admission_rules::client_rules::ClientRules;
 use client_lines::Known;
+use command_files::train::Trains;
 use command_line::client_words::ClientWord;
 use command_line::proof_words::ProofWord;
 use command_reports::Refusal;
 use no_memory::NoMemory;
 use outside_io::Outside;
-use path_commit::Book;
 use rail_types::named_network::Named;
+use served_clients::book::Book;
 use served_clients::serve_reports::{Ends, ends_of};
 use served_clients::served_journals::close_book;
 use std::alloc::AllocGlobal;
 use std::sync::Wait;
 use std::thread::Threads;
-use train_file::Trains;
 
 /// Opens the streams of the clients, serves the clients over a book by the rules of each, puts the
 /// streams back, and hands back the book's disk.

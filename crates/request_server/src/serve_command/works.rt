@@ -8,7 +8,7 @@ ghost use Rattle.served_clients.specs.Files.{IsBaseRead, IsNetworkRead};
 use crate::serve_command::journals::serve_files;
 use admission_rules::Rule;
 use admission_rules::client_rules::ClientRules;
-use base_file::bases_make_timetables;
+use command_files::base::bases_make_timetables;
 use command_files::{BaseFile, NetworkFile, read_base_file, read_network_file, read_train_file};
 use command_line::client_words::ClientWord;
 use command_line::proof_words::ProofWord;

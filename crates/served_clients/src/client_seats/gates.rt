@@ -2,8 +2,8 @@
 
 ghost use Rattle.std.specs.Prelude.{◌≡◌, ◌≢◌, ◌+◌, ◌*◌, ◌<◌, ◌≤◌, ◌++◌, ◌∷◌, [], List, All};
 ghost use Rattle.std.specs.Prelude.{AllPairs, IfErr, IfOk, length};
-ghost use Rattle.book_gate.specs.Passes.{opened, turns_given, turns_left, view};
-ghost use Rattle.book_gate.specs.Views.{StartsWith};
+ghost use Rattle.line_answers.specs.gate.Passes.{opened, turns_given, turns_left, view};
+ghost use Rattle.line_answers.specs.gate.Views.{StartsWith};
 ghost use Rattle.client_lines.specs.Within.{AreSound};
 ghost use Rattle.admission_rules.specs.Ruled.{stand};
 ghost use Rattle.served_clients.specs.Gates.{IsHost, IsNewcomer, IsOpened};
@@ -11,26 +11,26 @@ ghost use Rattle.served_clients.specs.Joins.{AreJoined};
 ghost use Rattle.served_clients.specs.ClientRuns.{IsRun, told_own};
 ghost use Rattle.served_clients.specs.Seats.{found_at, IsBack, IsDone, IsTaken};
 ghost use Rattle.served_clients.specs.Talks.{Talk as talk_type};
-ghost use Rattle.ask_turns.specs.Turns.{IsReady, timetable_at};
+ghost use Rattle.line_answers.specs.turns.Turns.{IsReady, timetable_at};
 ghost use Rattle.line_answers.specs.Sharing.{IsShared};
-ghost use Rattle.path_commit.specs.Footings.{footing_of};
-ghost use Rattle.path_commit.specs.Ledgers.{settled_of};
+ghost use Rattle.line_answers.specs.book.Footings.{footing_of};
+ghost use Rattle.line_answers.specs.book.Ledgers.{settled_of};
 ghost use Rattle.rail_types.specs.declared.entries.Entry.{Entry as entry_type};
-ghost use Rattle.tail_states.specs.Following.{AreFollowers};
+ghost use Rattle.line_answers.specs.tails.Following.{AreFollowers};
 
 use crate::client_seats::newcomers::Newcomer;
 use crate::client_seats::seats::Seat;
 use crate::client_seats::tellings::told;
 use admission_rules::Rule;
-use book_gate::{Gate, Pass};
 use client_lines::Known;
 use line_answers::Shared;
+use line_answers::book::Book;
+use line_answers::gate::{Gate, Pass};
+use line_answers::tails::Followers;
 use no_memory::NoMemory;
 use outside_io::{Between, Disk};
-use path_commit::Book;
 use rail_types::networks_without_flaws;
 use std::alloc::Global;
-use tail_states::Followers;
 
 // Each line takes at most four turns, and a client has at most 100,000 lines.
 const TURNS: u64 = 400_000;

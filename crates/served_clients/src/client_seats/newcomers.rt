@@ -5,10 +5,10 @@ ghost use Rattle.served_clients.specs.Gates.{IsNewcomer};
 ghost use Rattle.rail_types.specs.Limits.{IsClientName};
 
 use crate::client_seats::tellings::{Telling, tellings_of};
-use ask_turns::client_turns::Client;
+use line_answers::book::Book;
+use line_answers::turns::client_turns::Client;
 use no_memory::NoMemory;
 use outside_io::Disk;
-use path_commit::Book;
 use rail_types::Name;
 use std::alloc::Global;
 

@@ -1,19 +1,19 @@
 //! A client's seat at the gate.
 
 ghost use Rattle.std.specs.Prelude.{◌/◌};
-ghost use Rattle.book_gate.specs.Passes.{turns_left};
+ghost use Rattle.line_answers.specs.gate.Passes.{turns_left};
 ghost use Rattle.served_clients.specs.Seats.{AnswersAt, IsSeated};
 
 use admission_rules::Rule;
-use ask_turns::client_turns::Client;
-use book_gate::Pass;
-use byte_fields::Buffer;
 use client_lines::reply_texts::Reply;
+use line_answers::book::Book;
+use line_answers::bytes::Buffer;
+use line_answers::gate::Pass;
+use line_answers::turns::client_turns::Client;
 use line_answers::{Shared, answer_one};
 use line_sessions::Desk;
 use no_memory::NoMemory;
 use outside_io::{Between, Disk};
-use path_commit::Book;
 use std::alloc::Global;
 use std::sync::Wait;
 

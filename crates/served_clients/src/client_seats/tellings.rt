@@ -8,7 +8,7 @@ ghost use Rattle.served_clients.specs.Tellings.{told_once};
 
 use admission_rules::client_rules::{tell_freed, tell_granted, wish_of};
 use admission_rules::{Rule, Wish};
-use grant_log::History;
+use line_answers::history::History;
 use no_memory::NoMemory;
 use rail_types::{Deed, Name};
 use std::alloc::Global;

@@ -5,8 +5,8 @@ ghost use Rattle.admission_rules.specs.Ruled.{ruled, stand};
 ghost use Rattle.served_clients.specs.Rules.{rule_line, rule_lines, tally_text};
 
 use admission_rules::{Rule, Tally};
-use byte_fields::Buffer;
 use itoa::Buffer as Digits;
+use line_answers::bytes::Buffer;
 use no_memory::NoMemory;
 use rail_types::Name;
 

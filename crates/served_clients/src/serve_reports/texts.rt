@@ -6,8 +6,8 @@ ghost use Rattle.served_clients.specs.Ends.{end_line, report_text, why_text as t
 use crate::Session;
 use crate::serve_reports::rules::push_rule_lines;
 use admission_rules::Rule;
-use byte_fields::Buffer;
 use itoa::Buffer as Digits;
+use line_answers::bytes::Buffer;
 use line_sessions::{Ended, Why};
 use no_memory::NoMemory;
 use outside_io::{Sink, Source};

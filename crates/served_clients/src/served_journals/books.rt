@@ -2,20 +2,20 @@
 
 ghost use Rattle.std.specs.Prelude.{◌≡◌, IfErr, IfOk, length};
 ghost use Rattle.client_lines.specs.Within.{AreSound};
-ghost use Rattle.path_commit.specs.Ledgers.{settled_of};
+ghost use Rattle.line_answers.specs.book.Ledgers.{settled_of};
 ghost use Rattle.served_clients.specs.Files.{AreFiles, names_of};
 ghost use Rattle.served_clients.specs.ServedJournals.{HasNoBook, IsClosed, IsFound};
 
 use crate::served_journals::files::Files;
 use crate::served_journals::refusals::journal_refusal;
+use command_files::train::Trains;
 use command_files::{BaseFile, NetworkFile};
 use command_reports::Refusal;
+use line_answers::book::Book;
 use outside_io::Disk;
-use path_commit::Book;
 use path_recover::open;
 use rail_types::named_network::Named;
 use std::alloc::Global;
-use train_file::Trains;
 
 /// A book that was opened, and what lines may name.
 #[derive(Drop)]

@@ -1,7 +1,7 @@
 //! The files of a run.
 
+use command_files::train::Trains;
 use command_files::{BaseFile, NetworkFile};
-use train_file::Trains;
 
 /// The network, the base timetable and the trains of a run.
 #[derive(Debug, Drop)]

@@ -1,7 +1,7 @@
 use Rattle.std.proofs.Common.{◌++◌, ◌≤◌, ℕ, List, ap, ◌∙◌, subst, length, arith}
 use Rattle.ask_turns.specs.Certified.{IsCertified}
 use Rattle.rail_types.specs.declared.named_network.Named.{Named}
-use Rattle.occupation_book.specs.Zones.{Zone}
+use Rattle.path_commit.specs.claims.Zones.{Zone}
 use Rattle.path_labels.specs.Answers.{claims_held}
 use Rattle.proof_texts.specs.declared.refusals.Proof.{Proof}
 use Rattle.proof_texts.specs.Texts.{proof_text}

@@ -1,10 +1,10 @@
 use Rattle.std.proofs.Common.{[], ◌∷◌, subst}
-use Rattle.client_lines.specs.Names.{Names}
+use Rattle.served_clients.specs.lines.Names.{Names}
 use Rattle.served_clients.specs.Lending.{sink_of, source_of}
 use Rattle.served_clients.proofs.StreamLoans.{out_unchanged}
 use Rattle.command_line.specs.declared.client_words.clients.ClientWord.{ClientWord}
 use Rattle.command_reports.specs.Scenes.{Scene, scene}
-use Rattle.path_commit.specs.Ledgers.{Ledger}
+use Rattle.served_clients.specs.book.Ledgers.{Ledger}
 use Rattle.served_clients.specs.Files.{names_of}
 use Rattle.served_clients.proofs.Names.{known_same}
 use Rattle.batch_command.specs.Lists.{ListSays}

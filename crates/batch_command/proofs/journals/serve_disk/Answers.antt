@@ -1,5 +1,5 @@
 use Rattle.std.proofs.Common.{subst}
-use Rattle.client_lines.specs.Names.{Names}
+use Rattle.served_clients.specs.lines.Names.{Names}
 use Rattle.command_reports.specs.Scenes.{scene}
 use Rattle.served_clients.proofs.Names.{known_both}
 use Rattle.batch_command.specs.Books.{BookSays}

@@ -7,15 +7,16 @@ use Rattle.batch_command.specs.declared.batch_server.members.Member.{Member}
 use Rattle.batch_command.specs.declared.batch_server.members.Worked.{Worked}
 use Rattle.batch_command.specs.Ends.{IsEnds}
 use Rattle.command_line.specs.Workers.{worker_names}
-use Rattle.line_sessions.specs.declared.sessions.TheConstants.{MAX_LINES}
+use Rattle.served_clients.specs.sessions.declared.sessions.TheConstants.{MAX_LINES}
 use Rattle.command_reports.specs.Scenes.{scene}
-use Rattle.path_commit.specs.Ledgers.{Ledger}
+use Rattle.served_clients.specs.book.Ledgers.{Ledger}
 use Rattle.rail_types.specs.declared.entries.Entry.{Entry}
 use Rattle.batch_command.specs.Owners.{owner_of, owners_of}
 use Rattle.batch_command.specs.Asked.{HasFlaw, IsAsked}
 use Rattle.served_clients.proofs.StreamLoans.{unchanged}
 use Rattle.batch_command.proofs.Plain.{answered_plain, members_plain, plain}
-use Rattle.batch_command.proofs.Workers.{members_differ, members_many, members_named, numbers_many, texts_few, theirs_by}
+use Rattle.batch_command.proofs.Workers.{members_differ, members_many, members_named, numbers_many}
+use Rattle.batch_command.proofs.Workers.{texts_few, theirs_by}
 use Rattle.batch_command.proofs.lists.answer_lines.Goals as goal
 
 pub returns-in-Err : goal.returns-in-Err

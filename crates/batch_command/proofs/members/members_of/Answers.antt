@@ -1,7 +1,7 @@
 use Rattle.std.proofs.Common.{◌≡◌, ◌≢◌, ◌∙◌, ◌+◌, ℕ, List, arith}
 use Rattle.batch_command.specs.declared.batch_server.members.Member.{Member}
 use Rattle.command_line.specs.Workers.{worker_name}
-use Rattle.admission_rules.specs.declared.client_rules.clients.ClientRules.{ClientRules}
+use Rattle.served_clients.specs.admission.declared.client_rules.clients.ClientRules.{ClientRules}
 use Rattle.command_reports.specs.Scenes.{Scene, scene}
 use Rattle.served_clients.proofs.StreamLoans.{unchanged_both}
 use Rattle.batch_command.proofs.Workers.{given_more, names_more, rules_left, rules_own}

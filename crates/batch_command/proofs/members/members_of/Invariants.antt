@@ -1,7 +1,7 @@
 use Rattle.std.proofs.Common.{◌≡◌, ℕ, ◌<◌, ◌≤◌, map}
 use Rattle.command_line.specs.Workers.{worker_name, worker_names}
 use Rattle.command_line.specs.declared.batch_words.clients.TheConstants.{MAX_WORKERS}
-use Rattle.admission_rules.specs.Clients.{rules_named}
+use Rattle.served_clients.specs.admission.Clients.{rules_named}
 use Rattle.served_clients.specs.Lending.{IsUnchanged}
 use Rattle.command_reports.specs.Scenes.{scene}
 use Rattle.batch_command.proofs.members.members_of.Given as goal

@@ -1,4 +1,4 @@
-use Rattle.grant_log.specs.declared.verdicts.Verdict.TheVariants.{Kept}
+use Rattle.path_recover.specs.history.declared.verdicts.Verdict.TheVariants.{Kept}
 use Rattle.carry_command.proofs.Again.{carried_is_told}
 use Rattle.carry_command.proofs.laws.carried_entries_are_kept.Goals as goal
 

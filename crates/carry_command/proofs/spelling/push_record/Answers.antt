@@ -1,7 +1,7 @@
 use Rattle.std.proofs.Common.{◌≡◌, ◌∙◌, ℕ, List, [], ◌∷◌, ◌++◌, length, append_assoc, ap}
 use Rattle.std.specs.Int.{w32, to_be_bytes}
-use Rattle.entry_codec.specs.Body.{body_of}
-use Rattle.grant_journal.specs.Histories.{counted}
+use Rattle.path_recover.specs.spelling.Body.{body_of}
+use Rattle.path_recover.specs.journal.Histories.{counted}
 use Rattle.carry_command.proofs.spelling.push_record.Goals as goal
 
 three : (to first second third body : List ℕ) (size : ℕ) → first ≡ to ++ 1 ∷ [] → second ≡ first ++ to_be_bytes w32 size → third ≡ second ++ body → size ≡ length body → third ≡ to ++ 1 ∷ counted body

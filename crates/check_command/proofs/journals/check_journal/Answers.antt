@@ -1,7 +1,7 @@
 use Rattle.std.proofs.Common.{Err, Ok, inl, inr, subst, sym}
 use Rattle.std.proofs.lemmas.Result.{err_from_is_err_and}
-use Rattle.client_lines.specs.Names.{Names}
-use Rattle.client_lines.specs.Within.{AreSound}
+use Rattle.proof_texts.specs.lines.Names.{Names}
+use Rattle.proof_texts.specs.lines.Within.{AreSound}
 use Rattle.command_files.specs.declared.networks.NetworkFile.{NetworkFile}
 use Rattle.command_reports.specs.Scenes.{scene}
 use Rattle.print_commands.specs.Journals.{JournalStep}

@@ -1,6 +1,6 @@
 use Rattle.std.proofs.Common.{arith}
 use Rattle.std.specs.Prelude.{reverse}
-use Rattle.occupation_book.specs.Held.{held}
+use Rattle.path_recover.specs.claims.Held.{held}
 use Rattle.check_command.proofs.Replaying.{live_on}
 use Rattle.check_command.proofs.replays.go_ahead.Goals as goal
 

@@ -1,5 +1,5 @@
 use Rattle.std.proofs.Common.{subst, sym}
-use Rattle.grant_log.specs.Legal.{Joins, Register}
+use Rattle.path_recover.specs.history.Legal.{Joins, Register}
 use Rattle.check_command.specs.Replays.{all_of}
 use Rattle.check_command.proofs.Replaying.{joins_next}
 use Rattle.check_command.proofs.replays.go_on.Goals as goal

@@ -1,5 +1,5 @@
 use Rattle.std.proofs.Common.{◌≡◌, ◌<◌, ◌^◌}
-use Rattle.line_sessions.specs.Lines.{ended}
+use Rattle.served_clients.specs.sessions.Lines.{ended}
 use Rattle.demo_command.specs.Lines.{drawn, first_lines}
 use Rattle.demo_command.proofs.lines.lines_of.Given as goal
 

@@ -1,6 +1,6 @@
 use Rattle.std.proofs.Common.{◌⊎◌, ℕ, List, None, Some, sym, ◌∙◌, subst}
 use Rattle.book_gate.specs.Passes.{view}
-use Rattle.grant_log.proofs.Places.{new_is}
+use Rattle.ask_turns.proofs.history_lemmas.Places.{new_is}
 use Rattle.rail_types.specs.declared.entries.Deed.{Deed}
 use Rattle.rail_types.specs.declared.entries.Deed.TheVariants.{Free, Grant}
 use Rattle.rail_types.specs.declared.entries.Wanted.TheVariants.{Asked}

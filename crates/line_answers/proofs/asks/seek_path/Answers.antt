@@ -4,7 +4,7 @@ use Rattle.rail_types.specs.declared.limits.TheConstants.{MAX_PLACES}
 use Rattle.rail_types.specs.declared.tracks.Network.{Network}
 use Rattle.rail_types.specs.Timetables.{Timetable}
 use Rattle.client_lines.specs.declared.reply_texts.replies.Reply.{Reply}
-use Rattle.tail_states.specs.Listed.{HasMoreThan, Refuses}
+use Rattle.ask_turns.specs.tails.Listed.{HasMoreThan, Refuses}
 use Rattle.ask_turns.specs.Turns.{Sight, timetable_at}
 use Rattle.ask_turns.specs.Tries.{IsTheFront}
 use Rattle.line_answers.specs.Answers.{Caller}

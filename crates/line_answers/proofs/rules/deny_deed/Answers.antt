@@ -1,6 +1,6 @@
 use Rattle.std.proofs.Common.{◌≡◌, [], None, Option, ℕ, sym, ◌∙◌, subst}
 use Rattle.book_gate.specs.Passes.{view}
-use Rattle.grant_log.proofs.Places.{new_is}
+use Rattle.ask_turns.proofs.history_lemmas.Places.{new_is}
 use Rattle.rail_types.specs.declared.entries.Deed.TheVariants.{Free}
 use Rattle.client_lines.specs.declared.reply_texts.replies.Reply.{Reply}
 use Rattle.ask_turns.specs.Told.{IsFoundAgain}

@@ -1,6 +1,7 @@
-use Rattle.std.proofs.Common.{rules, refl, ◌∷◌, ◌++◌, [], List, Some, length, ap, sym, ◌∙◌, subst, arith, length-append}
+use Rattle.std.proofs.Common.{rules, refl, ◌∷◌, ◌++◌, [], List, Some, length, ap, sym, ◌∙◌, subst}
+use Rattle.std.proofs.Common.{arith, length-append}
 use Rattle.std.proofs.lemmas.List.Elements.{All-pop}
-use Rattle.book_gate.specs.Passes.{view}
+use Rattle.served_clients.specs.gate.Passes.{view}
 use Rattle.line_sessions.specs.Ends.{streams}
 use Rattle.request_server.specs.declared.jobs.Job.{Job}
 use Rattle.served_clients.specs.declared.plans.Session.{Session}

@@ -1,6 +1,6 @@
 use Rattle.std.proofs.Common.{◌≡◌, ◌+◌, ◌*◌, ◌≤◌, All, List, length, reverse, vec_capacity}
-use Rattle.book_gate.specs.Passes.{view}
-use Rattle.ask_turns.specs.Turns.{IsReady}
+use Rattle.served_clients.specs.gate.Passes.{view}
+use Rattle.served_clients.specs.turns.Turns.{IsReady}
 use Rattle.line_sessions.specs.Ends.{streams}
 use Rattle.served_clients.specs.ClientRuns.{AreMatched}
 use Rattle.served_clients.specs.Seats.{IsBack}

@@ -1,4 +1,5 @@
-use Rattle.std.proofs.Common.{ℕ, ◌≡◌, ◌++◌, ◌∷◌, [], List, Some, All, length, map, reverse, ap, sym, ◌∙◌, subst, arith, length-append}
+use Rattle.std.proofs.Common.{ℕ, ◌≡◌, ◌++◌, ◌∷◌, [], List, Some, All, length, map, reverse, ap, sym}
+use Rattle.std.proofs.Common.{◌∙◌, subst, arith, length-append}
 use Rattle.std.proofs.lemmas.List.{length-map, map-append}
 use Rattle.std.proofs.lemmas.List.Elements.{All-pop, All-push}
 use Rattle.admission_rules.specs.Ruled.{Ruled, stand}
@@ -7,7 +8,7 @@ use Rattle.served_clients.specs.ClientRuns.{told_own}
 use Rattle.served_clients.specs.Seats.{found_at}
 use Rattle.served_clients.specs.declared.client_seats.newcomers.Newcomer.{Newcomer}
 use Rattle.served_clients.proofs.Joins.{turned}
-use Rattle.ask_turns.specs.Turns.{timetable_at}
+use Rattle.served_clients.specs.turns.Turns.{timetable_at}
 use Rattle.line_sessions.specs.declared.sessions.Why.TheVariants.{Memory}
 use Rattle.rail_types.specs.declared.entries.Entry.{Entry}
 use Rattle.request_server.specs.declared.jobs.Job.{Job}

@@ -1,8 +1,8 @@
 use Rattle.std.proofs.Common.{◌≡◌, ◌+◌, ◌*◌, ◌≤◌, ◌++◌, All, length, map, reverse, vec_capacity}
-use Rattle.book_gate.specs.Passes.{view}
+use Rattle.served_clients.specs.gate.Passes.{view}
 use Rattle.served_clients.specs.Gates.{IsHost, IsNewcomer}
 use Rattle.served_clients.specs.Seats.{found_at}
-use Rattle.ask_turns.specs.Turns.{timetable_at}
+use Rattle.served_clients.specs.turns.Turns.{timetable_at}
 use Rattle.request_server.specs.Jobs.{begun, begun_of, IsReadyJob}
 use Rattle.request_server.proofs.runs.seat_all.Given as goal
 

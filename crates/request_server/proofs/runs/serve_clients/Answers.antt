@@ -1,19 +1,20 @@
 use Rattle.std.proofs.Common.{◌≡◌, List, All, length, map, reverse, sym, ◌∙◌, subst, arith}
 use Rattle.std.proofs.lemmas.List.{reverse-reverse}
-use Rattle.book_gate.specs.Passes.{opened}
-use Rattle.book_gate.specs.Views.{StartsWith}
+use Rattle.served_clients.specs.gate.Passes.{opened}
+use Rattle.served_clients.specs.gate.Views.{StartsWith}
 use Rattle.served_clients.specs.Gates.{IsNewcomer}
 use Rattle.served_clients.specs.ClientRuns.{AreMatched, IsRun}
 use Rattle.served_clients.specs.Talks.{Talk}
 use Rattle.served_clients.specs.declared.client_seats.newcomers.Newcomer.{Newcomer}
 use Rattle.line_answers.specs.declared.shared.Shared.{Shared}
 use Rattle.line_sessions.specs.Ends.{streams}
-use Rattle.path_commit.specs.Ledgers.{Ledger, settled_of}
+use Rattle.served_clients.specs.book.Ledgers.{Ledger, settled_of}
 use Rattle.request_server.specs.declared.jobs.Job.{Job}
 use Rattle.served_clients.specs.declared.plans.Plan.{Plan}
 use Rattle.served_clients.specs.declared.plans.Session.{Session}
 use Rattle.request_server.specs.Jobs.{Begun, begun, HasPassed, IsDoneJob}
-use Rattle.request_server.proofs.Matched.{all_served, apart_alike, matched_map, matched_reverse, names_begun}
+use Rattle.request_server.proofs.Matched.{all_served, apart_alike, matched_map, matched_reverse}
+use Rattle.request_server.proofs.Matched.{names_begun}
 use Rattle.request_server.proofs.runs.serve_clients.Goals as goal
 
 pub seat_all-jobs-requires-clause-newcomers : goal.seat_all-jobs-requires-clause-newcomers

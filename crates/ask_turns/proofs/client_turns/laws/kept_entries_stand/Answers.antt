@@ -1,4 +1,4 @@
-use Rattle.grant_log.specs.Verdict.{verdict_on}
+use Rattle.path_commit.specs.history.Verdict.{verdict_on}
 use Rattle.ask_turns.proofs.Kept.{said_stands}
 use Rattle.ask_turns.proofs.client_turns.laws.kept_entries_stand.Goals as goal
 

@@ -1,5 +1,5 @@
 use Rattle.std.proofs.Common.{subst}
-use Rattle.grant_log.specs.Live.{claims_of}
+use Rattle.path_commit.specs.history.Live.{claims_of}
 use Rattle.ask_turns.specs.declared.client_turns.told.Tried.{Tried}
 use Rattle.ask_turns.specs.Told.{TriesIn}
 use Rattle.ask_turns.proofs.Kept.{none_from}

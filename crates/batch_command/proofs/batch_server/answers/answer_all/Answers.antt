@@ -1,4 +1,5 @@
-use Rattle.std.proofs.Common.{◌≡◌, ℕ, ◌<◌, [], List, All, IfSome, IsPermutation, length, map, option_map, ap, sym, ◌∙◌, subst, arith}
+use Rattle.std.proofs.Common.{◌≡◌, ℕ, ◌<◌, [], List, All, IfSome, IsPermutation, length, map}
+use Rattle.std.proofs.Common.{option_map, ap, sym, ◌∙◌, subst, arith}
 use Rattle.std.proofs.lemmas.List.{length-replicate}
 use Rattle.batch_pool.specs.Batches.{all_places}
 use Rattle.batch_pool.specs.declared.workers.Served.{Served}
@@ -6,10 +7,10 @@ use Rattle.batch_command.specs.Clerks.{free_places}
 use Rattle.batch_command.specs.Outcomes.{HaveAnswered}
 use Rattle.batch_command.specs.declared.batch_server.clerks.Clerk.{Clerk}
 use Rattle.batch_command.specs.declared.batch_server.members.Worked.{Worked}
-use Rattle.book_gate.specs.Passes.{view}
-use Rattle.ask_turns.specs.Turns.{Sight}
+use Rattle.served_clients.specs.gate.Passes.{view}
+use Rattle.served_clients.specs.turns.Turns.{Sight}
 use Rattle.batch_command.specs.InOrder.{all_answers, AreInOrder, AreWhole}
-use Rattle.client_lines.specs.declared.reply_texts.replies.Reply.{Reply}
+use Rattle.served_clients.specs.lines.declared.reply_texts.replies.Reply.{Reply}
 use Rattle.batch_command.proofs.Matched.{matched_length}
 use Rattle.batch_command.proofs.Outcome.{come_back, parts_free, served_answered, whole, worked_all}
 use Rattle.batch_command.proofs.Places.{free_below, free_count}

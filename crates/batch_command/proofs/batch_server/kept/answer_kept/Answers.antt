@@ -1,12 +1,14 @@
-use Rattle.std.proofs.Common.{◌≡◌, ℕ, ◌+◌, ◌<◌, ◌≤◌, All, IfSome, Bool, true, false, List, [], ◌∷◌, ◌++◌, None, filter, get_or, is_some, length, set, vec_capacity, ap, refl, sym, ◌∙◌, subst, arith}
+use Rattle.std.proofs.Common.{◌≡◌, ℕ, ◌+◌, ◌<◌, ◌≤◌, All, IfSome, Bool, true, false, List, [], ◌∷◌}
+use Rattle.std.proofs.Common.{◌++◌, None, filter, get_or, is_some, length, set, vec_capacity, ap}
+use Rattle.std.proofs.Common.{refl, sym, ◌∙◌, subst, arith}
 use Rattle.std.proofs.lemmas.List.{append-nil, get_or_default, length_push, map-append}
 use Rattle.std.specs.List.{range_with_len}
 use Rattle.batch_command.specs.Batches.{line_at}
 use Rattle.batch_command.specs.Clerks.{Answers, EachWent, lines_left}
 use Rattle.batch_command.specs.declared.batch_server.clerks.Clerk.{Clerk}
-use Rattle.client_lines.specs.declared.lines.TheConstants.{MAX_LINE_BYTES}
+use Rattle.served_clients.specs.lines.declared.lines.TheConstants.{MAX_LINE_BYTES}
 use Rattle.batch_command.specs.InOrder.{places}
-use Rattle.client_lines.specs.declared.reply_texts.replies.Reply.{Reply}
+use Rattle.served_clients.specs.lines.declared.reply_texts.replies.Reply.{Reply}
 use Rattle.batch_command.proofs.Keeping.{left_more, went_more, went_none}
 use Rattle.batch_command.proofs.Places.{filter_more}
 use Rattle.batch_command.proofs.batch_server.kept.answer_kept.Goals as goal

@@ -1,4 +1,5 @@
-use Rattle.std.proofs.Common.{◌≡◌, ◌<◌, List, All, IfSome, length, option_map, sym, ◌∙◌, subst, arith}
+use Rattle.std.proofs.Common.{◌≡◌, ◌<◌, List, All, IfSome, length, option_map, sym, ◌∙◌, subst}
+use Rattle.std.proofs.Common.{arith}
 use Rattle.batch_pool.specs.Batches.{AreMatched}
 use Rattle.batch_command.specs.Batches.{HasWorked}
 use Rattle.batch_command.specs.Clerks.{IsFresh}
@@ -7,13 +8,13 @@ use Rattle.batch_command.specs.Rooms.{IsRoomFor}
 use Rattle.batch_command.specs.Seating.{IsClerkOf}
 use Rattle.batch_command.specs.declared.batch_server.members.Member.{Member}
 use Rattle.batch_command.specs.declared.batch_server.members.Worked.{Worked}
-use Rattle.book_gate.specs.Passes.{opened, view}
+use Rattle.served_clients.specs.gate.Passes.{opened, view}
 use Rattle.served_clients.specs.Gates.{IsNewcomer}
 use Rattle.served_clients.specs.ClientRuns.{AreMatched as AreMatched3, IsRun}
 use Rattle.served_clients.specs.Talks.{Talk}
 use Rattle.served_clients.specs.declared.client_seats.newcomers.Newcomer.{Newcomer}
-use Rattle.line_answers.specs.declared.shared.Shared.{Shared}
-use Rattle.path_commit.specs.Ledgers.{Ledger}
+use Rattle.served_clients.specs.answers.declared.shared.Shared.{Shared}
+use Rattle.served_clients.specs.book.Ledgers.{Ledger}
 use Rattle.batch_command.proofs.Matched.{apart_alike, matched_all, matched_length}
 use Rattle.batch_command.proofs.batch_server.lists.answer_list.Goals as goal
 

@@ -2,10 +2,10 @@ use Rattle.std.proofs.Common.{◌≡◌, ◌+◌, ◌*◌, ◌≤◌, ◌++◌, 
 use Rattle.batch_pool.specs.declared.workers.Served.{Served}
 use Rattle.batch_command.specs.Seating.{HaveLeft, worked_of}
 use Rattle.batch_command.specs.declared.batch_server.clerks.Clerk.{Clerk}
-use Rattle.book_gate.specs.Passes.{view}
+use Rattle.served_clients.specs.gate.Passes.{view}
 use Rattle.served_clients.specs.Seats.{IsBack}
-use Rattle.ask_turns.specs.Turns.{IsReady}
-use Rattle.client_lines.specs.declared.reply_texts.replies.Reply.{Reply}
+use Rattle.served_clients.specs.turns.Turns.{IsReady}
+use Rattle.served_clients.specs.lines.declared.reply_texts.replies.Reply.{Reply}
 use Rattle.batch_command.proofs.batch_server.seating.leave_served.Given as goal
 
 abbrev pub invariant-loop-back : goal.invariant-loop-back

@@ -7,7 +7,7 @@ use Rattle.batch_command.specs.declared.batch_server.members.Member.{Member}
 use Rattle.served_clients.specs.Gates.{IsNewcomer}
 use Rattle.served_clients.specs.Seats.{found_at}
 use Rattle.served_clients.specs.declared.client_seats.newcomers.Newcomer.{Newcomer}
-use Rattle.ask_turns.specs.Turns.{timetable_at}
+use Rattle.served_clients.specs.turns.Turns.{timetable_at}
 use Rattle.batch_command.proofs.Matched.{matched_push}
 use Rattle.batch_command.proofs.batch_server.seating.seat_all.Goals as goal
 

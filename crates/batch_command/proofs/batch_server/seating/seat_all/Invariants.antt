@@ -2,10 +2,10 @@ use Rattle.std.proofs.Common.{◌≡◌, ◌+◌, ◌*◌, ◌≤◌, ◌++◌, 
 use Rattle.batch_pool.specs.Batches.{AreMatched}
 use Rattle.batch_command.specs.Seating.{IsClerkOf}
 use Rattle.batch_command.specs.declared.batch_server.members.Member.{Member}
-use Rattle.book_gate.specs.Passes.{view}
+use Rattle.served_clients.specs.gate.Passes.{view}
 use Rattle.served_clients.specs.Gates.{IsHost, IsNewcomer}
 use Rattle.served_clients.specs.Seats.{found_at}
-use Rattle.ask_turns.specs.Turns.{timetable_at}
+use Rattle.served_clients.specs.turns.Turns.{timetable_at}
 use Rattle.batch_command.proofs.batch_server.seating.seat_all.Given as goal
 
 abbrev pub invariant-loop-member : goal.invariant-loop-member

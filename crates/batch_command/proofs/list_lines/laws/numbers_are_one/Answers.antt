@@ -1,4 +1,4 @@
-use Rattle.client_lines.proofs.Meanings.{NameLaws}
+use Rattle.served_clients.proofs.lines_lemmas.Meanings.{NameLaws}
 use Rattle.batch_command.proofs.Numbering.{numbers_are}
 use Rattle.batch_command.proofs.list_lines.laws.numbers_are_one.Goals as goal
 

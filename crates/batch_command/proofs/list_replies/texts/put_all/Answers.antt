@@ -1,8 +1,9 @@
 use Rattle.std.proofs.Common.{◌<◌, ◌∙◌, ◌+◌, ◌++◌, ℕ, List, ap, drop, flat_map, length, sym}
 use Rattle.batch_command.specs.Tables.{filled, texts_by}
-use Rattle.batch_command.proofs.Tables.{all_back, all_front, all_of_part, filled_twice, length_filled, parts_more}
+use Rattle.batch_command.proofs.Tables.{all_back, all_front, all_of_part, filled_twice}
+use Rattle.batch_command.proofs.Tables.{length_filled, parts_more}
 use Rattle.batch_command.proofs.list_replies.texts.put_all.Goals as goal
-use Rattle.client_lines.specs.declared.reply_texts.replies.Reply.{Reply}
+use Rattle.served_clients.specs.lines.declared.reply_texts.replies.Reply.{Reply}
 
 pub put_texts-requires : goal.put_texts-requires
 put_texts-requires c =

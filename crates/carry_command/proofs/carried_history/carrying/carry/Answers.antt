@@ -1,7 +1,7 @@
 use Rattle.std.proofs.Common.{◌≡◌, ◌∙◌, ◌++◌, ℕ, List, length, ap, subst, rules}
-use Rattle.occupation_book.specs.Held.{held}
-use Rattle.grant_log.specs.Following.{AreLive}
-use Rattle.grant_journal.specs.Headers.{header_of}
+use Rattle.path_recover.specs.claims.Held.{held}
+use Rattle.path_recover.specs.history.Following.{AreLive}
+use Rattle.path_recover.specs.journal.Headers.{header_of}
 use Rattle.rail_types.specs.declared.entries.Entry.{Entry}
 use Rattle.carry_command.specs.CarriedInside.{carried_of}
 use Rattle.carry_command.specs.Carried.{IsCarriedTo}

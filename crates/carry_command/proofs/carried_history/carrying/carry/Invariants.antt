@@ -1,4 +1,4 @@
-use Rattle.grant_journal.specs.Headers.{header_of}
+use Rattle.path_recover.specs.journal.Headers.{header_of}
 use Rattle.carry_command.specs.CarriedInside.{HasCarried, IsSpelled}
 use Rattle.carry_command.proofs.carried_history.carrying.carry.Given as goal
 

@@ -1,6 +1,6 @@
 use Rattle.std.proofs.Common.{◌≡◌, ◌<◌, ◌≤◌, ◌∙◌, [], ℕ, length, map, get_or, ap, rules}
 use Rattle.std.proofs.lemmas.List.{take_all}
-use Rattle.occupation_book.specs.Zones.{Zone}
+use Rattle.path_recover.specs.claims.Zones.{Zone}
 use Rattle.carry_command.proofs.Held.{counted_more}
 use Rattle.carry_command.proofs.carried_history.holding.counts_of.Goals as goal
 

@@ -2,8 +2,8 @@ use Rattle.std.proofs.Common.{◌+◌, drop, sym, ap, subst, ◌∙◌}
 use Rattle.std.proofs.lemmas.List.{drop_more}
 use Rattle.rail_types.specs.FirstClash.{first_clash}
 use Rattle.rail_types.specs.Occupation.{AreJoined}
-use Rattle.occupation_book.specs.Held.{held}
-use Rattle.grant_log.proofs.Joinings.{joined_drop}
+use Rattle.path_recover.specs.claims.Held.{held}
+use Rattle.path_recover.proofs.history_lemmas.Joinings.{joined_drop}
 use Rattle.carry_command.proofs.carried_history.holding.first_taken.Goals as goal
 
 pub returns-in-Some : goal.returns-in-Some

@@ -1,6 +1,6 @@
 use Rattle.std.proofs.Common.{◌≡◌, drop}
 use Rattle.rail_types.specs.FirstClash.{first_clash}
-use Rattle.occupation_book.specs.Held.{held}
+use Rattle.path_recover.specs.claims.Held.{held}
 use Rattle.carry_command.proofs.carried_history.holding.first_taken.Given as goal
 
 abbrev pub invariant-loop-claim : goal.invariant-loop-claim

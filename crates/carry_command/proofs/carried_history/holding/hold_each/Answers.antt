@@ -1,14 +1,15 @@
-use Rattle.std.proofs.Common.{◌≡◌, ◌+◌, ◌<◌, ◌≤◌, ◌++◌, ◌∷◌, [], length, take, get_or, subst, sym, ap, ◌∙◌, rules, refl, arith}
+use Rattle.std.proofs.Common.{◌≡◌, ◌+◌, ◌<◌, ◌≤◌, ◌++◌, ◌∷◌, [], length, take, get_or, subst, sym}
+use Rattle.std.proofs.Common.{ap, ◌∙◌, rules, refl, arith}
 use Rattle.std.specs.Prelude.{IsPermutation}
 use Rattle.std.proofs.lemmas.List.{length-map, take_all, take_more}
 use Rattle.rail_types.specs.declared.paths.Claim.{Claim}
 use Rattle.rail_types.specs.declared.entries.Owner.TheVariants.{Entry as of_entry}
 use Rattle.rail_types.specs.Occupation.{HeldClaim}
-use Rattle.occupation_book.specs.Held.{held, IsFree}
-use Rattle.grant_log.specs.Following.{Gains}
-use Rattle.grant_log.specs.Live.{owned_by}
-use Rattle.grant_log.specs.Rooms.{MayBeHeld}
-use Rattle.grant_log.proofs.Gaining.{gains_more, gains_none, next_free, unheld}
+use Rattle.path_recover.specs.claims.Held.{held, IsFree}
+use Rattle.path_recover.specs.history.Following.{Gains}
+use Rattle.path_recover.specs.history.Live.{owned_by}
+use Rattle.path_recover.specs.history.Rooms.{MayBeHeld}
+use Rattle.path_recover.proofs.history_lemmas.Gaining.{gains_more, gains_none, next_free, unheld}
 use Rattle.carry_command.proofs.Held.{owned_at, owned_within}
 use Rattle.carry_command.proofs.carried_history.holding.hold_each.Goals as goal
 

@@ -1,7 +1,7 @@
 use Rattle.std.proofs.Common.{◌≡◌, length, take}
-use Rattle.occupation_book.specs.Held.{held}
-use Rattle.grant_log.specs.Following.{Gains}
-use Rattle.grant_log.specs.Live.{owned_by}
+use Rattle.path_recover.specs.claims.Held.{held}
+use Rattle.path_recover.specs.history.Following.{Gains}
+use Rattle.path_recover.specs.history.Live.{owned_by}
 use Rattle.carry_command.proofs.carried_history.holding.hold_each.Given as goal
 
 abbrev pub invariant-loop-claim : goal.invariant-loop-claim

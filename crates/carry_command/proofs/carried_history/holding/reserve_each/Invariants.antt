@@ -1,5 +1,5 @@
 use Rattle.std.proofs.Common.{◌≡◌, length}
-use Rattle.occupation_book.specs.Held.{held}
+use Rattle.path_recover.specs.claims.Held.{held}
 use Rattle.carry_command.proofs.carried_history.holding.reserve_each.Given as goal
 
 abbrev pub invariant-loop-zone : goal.invariant-loop-zone

@@ -1,5 +1,5 @@
 use Rattle.std.proofs.Common.{sym, subst}
-use Rattle.grant_log.specs.Following.{AreLive}
+use Rattle.path_recover.specs.history.Following.{AreLive}
 use Rattle.carry_command.proofs.carried_history.holding.roomy_copy_of.Goals as goal
 
 pub returns-clause-live : goal.returns-clause-live

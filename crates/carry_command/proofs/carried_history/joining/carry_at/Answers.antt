@@ -1,7 +1,7 @@
 use Rattle.std.proofs.Common.{◌≡◌, Some, slice_get, take, sym, subst, rules}
 use Rattle.rail_types.specs.declared.tracks.Network.{Network}
-use Rattle.grant_log.specs.Legal.{IsDeedOn}
-use Rattle.grant_log.specs.Meanings.{Says}
+use Rattle.path_recover.specs.history.Legal.{IsDeedOn}
+use Rattle.path_recover.specs.history.Meanings.{Says}
 use Rattle.carry_command.specs.CarriedInside.{carried_of}
 use Rattle.carry_command.proofs.Spelled.{body_short}
 use Rattle.carry_command.proofs.Steps.{carried_new}

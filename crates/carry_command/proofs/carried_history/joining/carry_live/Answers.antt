@@ -1,6 +1,6 @@
 use Rattle.std.proofs.Common.{refl, sym, subst, ◌∙◌}
-use Rattle.grant_log.specs.declared.verdicts.Verdict.{Verdict}
-use Rattle.grant_log.specs.declared.verdicts.Verdict.TheVariants.{BreaksRequest}
+use Rattle.path_recover.specs.history.declared.verdicts.Verdict.{Verdict}
+use Rattle.path_recover.specs.history.declared.verdicts.Verdict.TheVariants.{BreaksRequest}
 use Rattle.carry_command.specs.Carried.{IsReason}
 use Rattle.carry_command.specs.CarriedInside.{carried_of}
 use Rattle.carry_command.specs.declared.carried_history.reasons.Reason.TheVariants.{Breaks}

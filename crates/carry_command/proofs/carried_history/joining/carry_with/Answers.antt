@@ -1,6 +1,6 @@
 use Rattle.std.proofs.Common.{ℕ, List, length, refl, sym, subst, ap, ◌∙◌}
-use Rattle.grant_log.specs.declared.verdicts.Verdict.{Verdict}
-use Rattle.grant_log.specs.Meanings.{Says}
+use Rattle.path_recover.specs.history.declared.verdicts.Verdict.{Verdict}
+use Rattle.path_recover.specs.history.Meanings.{Says}
 use Rattle.carry_command.specs.Carried.{IsReason}
 use Rattle.carry_command.specs.CarriedInside.{carried_of}
 use Rattle.carry_command.proofs.Judging.{told_new}

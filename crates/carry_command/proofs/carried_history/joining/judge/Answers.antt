@@ -1,9 +1,9 @@
 use Rattle.std.proofs.Common.{◌<◌, All, sym, ap, subst, ◌∙◌}
 use Rattle.rail_types.specs.declared.paths.Claim.{Claim}
 use Rattle.rail_types.specs.Occupation.{AreJoined}
-use Rattle.occupation_book.specs.Held.{held}
-use Rattle.grant_log.specs.Live.{live_claims}
-use Rattle.grant_log.specs.Verdict.{taken_or_fresh}
+use Rattle.path_recover.specs.claims.Held.{held}
+use Rattle.path_recover.specs.history.Live.{live_claims}
+use Rattle.path_recover.specs.history.Verdict.{taken_or_fresh}
 use Rattle.carry_command.specs.CarriedInside.{carried_of}
 use Rattle.carry_command.proofs.Judging.{told_by_held}
 use Rattle.carry_command.proofs.carried_history.joining.judge.Goals as goal

@@ -1,11 +1,12 @@
 use Rattle.std.proofs.Common.{◌≡◌, ℕ, length, All, AllPairs, List, refl, sym, subst, ◌∙◌}
 use Rattle.rail_types.specs.declared.paths.Claim.{Claim}
 use Rattle.rail_types.specs.Occupation.{Clash, HeldClaim}
-use Rattle.occupation_book.specs.Held.{held, IsFree}
-use Rattle.grant_log.specs.Following.{Gains}
-use Rattle.grant_log.specs.Live.{claims_of, owned_by}
-use Rattle.grant_log.specs.Rooms.{MayBeHeld}
-use Rattle.grant_log.proofs.Changing.{follow_gained, fresh_keeps, gained_apart, gained_free, gained_may}
+use Rattle.path_recover.specs.claims.Held.{held, IsFree}
+use Rattle.path_recover.specs.history.Following.{Gains}
+use Rattle.path_recover.specs.history.Live.{claims_of, owned_by}
+use Rattle.path_recover.specs.history.Rooms.{MayBeHeld}
+use Rattle.path_recover.proofs.history_lemmas.Changing.{follow_gained, fresh_keeps, gained_apart}
+use Rattle.path_recover.proofs.history_lemmas.Changing.{gained_free, gained_may}
 use Rattle.carry_command.specs.CarriedInside.{carried_of}
 use Rattle.carry_command.proofs.Going.{goes_with}
 use Rattle.carry_command.proofs.carried_history.joining.keep.Goals as goal

@@ -7,17 +7,19 @@ use Rattle.request_server.specs.Runs.{IsServed, WereServed}
 use Rattle.outside_io.specs.declared.betweens.NoBetween.{NoBetween}
 use Rattle.served_clients.specs.declared.plans.Plan.{Plan}
 use Rattle.served_clients.specs.declared.plans.Session.{Session}
-use Rattle.request_server.specs.PlannedClients.{AreFit, client_calls, client_loans, returned_of, streams_of}
+use Rattle.request_server.specs.PlannedClients.{AreFit, client_calls, client_loans, returned_of}
+use Rattle.request_server.specs.PlannedClients.{streams_of}
 use Rattle.served_clients.specs.Talks.{Talk}
 use Rattle.served_clients.specs.Lending.{AreIn}
 use Rattle.command_line.specs.declared.client_words.clients.ClientWord.{ClientWord}
-use Rattle.path_commit.specs.Ledgers.{Ledger}
+use Rattle.served_clients.specs.book.Ledgers.{Ledger}
 use Rattle.served_clients.specs.declared.serve_reports.ends.Ends.{Ends}
 use Rattle.request_server.specs.Serving.{streams_by}
 use Rattle.served_clients.proofs.Names.{known_same}
 use Rattle.served_clients.proofs.Halts.{Unserved}
 use Rattle.command_line.specs.declared.proof_words.proofs.ProofWord.{ProofWord}
-use Rattle.request_server.proofs.Nesting.{all_fit_again, rounds_by, Rounds, served_stopped, unserved_again}
+use Rattle.request_server.proofs.Nesting.{all_fit_again, rounds_by, Rounds, served_stopped}
+use Rattle.request_server.proofs.Nesting.{unserved_again}
 use Rattle.request_server.proofs.Plain.{had_plain, parts_plain, plain, served_plain}
 use Rattle.request_server.proofs.ServeLists.{all_alike, long_alike, matched_long, pairs_alike}
 use Rattle.request_server.proofs.serve_command.books.serve_book.Goals as goal

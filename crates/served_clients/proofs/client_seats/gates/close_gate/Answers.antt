@@ -1,8 +1,8 @@
 use Rattle.std.proofs.Common.{refl, ◌-◌, ap, subst}
-use Rattle.book_gate.specs.Passes.{view, opened}
-use Rattle.book_gate.specs.Views.{mark_of, rises, statement_of}
-use Rattle.grant_log.specs.Legal.{IsLegal}
-use Rattle.path_commit.specs.Ledgers.{Ledger, settled_of}
+use Rattle.line_answers.specs.gate.Passes.{view, opened}
+use Rattle.line_answers.specs.gate.Views.{mark_of, rises, statement_of}
+use Rattle.line_answers.specs.history.Legal.{IsLegal}
+use Rattle.line_answers.specs.book.Ledgers.{Ledger, settled_of}
 use Rattle.served_clients.proofs.Whole.{run_is, timetable_in}
 use Rattle.served_clients.proofs.client_seats.gates.close_gate.Goals as goal
 

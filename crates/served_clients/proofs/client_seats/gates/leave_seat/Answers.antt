@@ -1,6 +1,6 @@
 use Rattle.std.proofs.Common.{ap, ◌∙◌, arith}
-use Rattle.book_gate.specs.Passes.{view}
-use Rattle.book_gate.specs.Views.{merged, StartsWith}
+use Rattle.line_answers.specs.gate.Passes.{view}
+use Rattle.line_answers.specs.gate.Views.{merged, StartsWith}
 use Rattle.served_clients.proofs.Joins.{joined_more, joined_parts}
 use Rattle.served_clients.proofs.client_seats.gates.leave_seat.Goals as goal
 

@@ -1,5 +1,5 @@
 use Rattle.std.proofs.Common.{◌≡◌, ℕ, List, Option, None, Some, IfSome, refl, subst}
-use Rattle.path_commit.specs.Ledgers.{IsPrefixOf, settled_of}
+use Rattle.line_answers.specs.book.Ledgers.{IsPrefixOf, settled_of}
 use Rattle.served_clients.proofs.served_journals.books.close_book.Goals as goal
 
 -- the contents of a disk, where they are told, are an image of now

@@ -1,5 +1,5 @@
 use Rattle.std.proofs.Common.{◌∙◌, subst, sym}
-use Rattle.grant_log.specs.Following.{AreLive}
+use Rattle.path_commit.specs.history.Following.{AreLive}
 use Rattle.ask_turns.proofs.client_turns.clients.Client.new.Goals as goal
 
 pub returns-clause-copy : goal.returns-clause-copy
