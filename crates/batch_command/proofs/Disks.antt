@@ -4,15 +4,12 @@ use Rattle.outside_io.specs.declared.failures.Failed.{Failed}
 use Rattle.outside_io.specs.Openings.{disk_at}
 use Rattle.outside_io.specs.Places.{place_once_opened, place_once_returned, Untouched}
 use Rattle.outside_io.specs.declared.disks.Disk.{Ghosts as Disks}
-use Rattle.outside_io.specs.declared.sinks.Sink.{Ghosts as Sinks}
 use Rattle.outside_io.specs.declared.sources.Source.{Ghosts as Sources}
 use Rattle.outside_io.proofs.Names.{name_cases}
 use Rattle.outside_io.proofs.Places.{place_once_returned-opened}
 use Rattle.command_reports.specs.declared.exit_status.Status.TheVariants.{Opening as not_opened}
 use Rattle.command_reports.specs.Scenes.{Scene}
 use Rattle.served_clients.specs.lines.Names.{Names}
-use Rattle.served_clients.specs.admission.declared.rules.Rule.{Ghosts as Rules}
-use Rattle.served_clients.specs.admission.declared.client_rules.clients.ClientRules.{ClientRules}
 use Rattle.served_clients.specs.StreamClients.{pair_calls}
 use Rattle.served_clients.proofs.StreamStops.{opens_moved_all}
 use Rattle.served_clients.proofs.Uses.{exchanged_at}
@@ -23,6 +20,7 @@ use Rattle.command_reports.specs.declared.refusals.Refusal.{Refusal}
 use Rattle.served_clients.specs.book.Ledgers.{Ledger}
 use Rattle.served_clients.specs.declared.serve_reports.ends.Ends.{Ends}
 use Rattle.served_clients.specs.Files.{known_by}
+use Rattle.served_clients.specs.Kinds.{Kinds}
 use Rattle.served_clients.specs.ServedJournals.{IsFound}
 use Rattle.served_clients.specs.Rounds.{DiskHalts, DiskRefuses}
 use Rattle.served_clients.specs.declared.served_journals.files.Files.{Files}
@@ -32,32 +30,36 @@ use Rattle.served_clients.proofs.JournalRounds.{disk_open, DiskIsRefused, exchan
 use Rattle.served_clients.proofs.JournalRounds.{other_stands, refused_round, round_only, same_sinks}
 use Rattle.served_clients.proofs.JournalRounds.{same_sources, unopened_only, unopened_unready}
 use Rattle.batch_command.specs.Books.{Answers, BookSays, Declines, HadPair}
+use Rattle.batch_command.specs.Crews.{Crew}
 use Rattle.batch_command.specs.Journals.{BatchSays, BatchStep, DiskDeclines, DiskSays, Refuses}
 use Rattle.batch_command.specs.Journals.{Stops}
 
 -- what is said of the disk of a book over which a list was answered, or not
-pub disk_by : {Src Snk Dsk L : Type 0} (source : Sources Src) (sink : Sinks Snk) (disk : Disks Dsk) (rule_kind : Rules L) (files : Files) (name : List ℕ) (client : ClientWord) (workers : ℕ) (rules : List (ClientRules L)) (before after : Dsk) (found : Ledger Dsk) (old new : Scene Src Snk Dsk) (result : Result Ends Refusal)
-    → IsFound disk files before found → BookSays source sink disk rule_kind (known_by files) client workers rules found after old new result → DiskSays source sink disk rule_kind files name client workers rules before after old new result
-disk_by source sink disk rule_kind files name client workers rules before after found old new (Ok ends) opened says = record { found = found; opened = opened; answers = says }
-disk_by source sink disk rule_kind files name client workers rules before after found old new (Err refusal) opened (inl unserved) = inr (inl (record { found = found; opened = opened; unserved = unserved }))
-disk_by source sink disk rule_kind files name client workers rules before after found old new (Err refusal) opened (inr declines) = inr (inr (record { found = found; opened = opened; declines = declines }))
+pub disk_by : {Src Snk Dsk L : Type 0} (kinds : Kinds Src Snk Dsk L) (files : Files) (name : List ℕ) (crew : Crew L) (before after : Dsk) (found : Ledger Dsk) (old new : Scene Src Snk Dsk) (result : Result Ends Refusal)
+    → IsFound kinds.disk files before found → BookSays kinds (known_by files) crew found after old new result → DiskSays kinds files name crew before after old new result
+disk_by kinds files name crew before after found old new (Ok ends) opened says = record { found = found; opened = opened; answers = says }
+disk_by kinds files name crew before after found old new (Err refusal) opened (inl unserved) = inr (inl (record { found = found; opened = opened; unserved = unserved }))
+disk_by kinds files name crew before after found old new (Err refusal) opened (inr declines) = inr (inr (record { found = found; opened = opened; declines = declines }))
 
-pub unopened_step : {Src Snk Dsk L : Type 0} (source : Sources Src) (sink : Sinks Snk) (disk : Disks Dsk) (rule_kind : Rules L) (files : Files) (name : List ℕ) (client : ClientWord) (workers : ℕ) (rules : List (ClientRules L)) (failed : Failed) (old new : Scene Src Snk Dsk) (refusal : Refusal) → DiskIsRefused name failed old new
-    → IsTold not_opened (line_with (codes "open: ") name) refusal → BatchStep source sink disk rule_kind files name client workers rules old new (Err refusal)
-unopened_step source sink disk rule_kind files name client workers rules failed old new refusal refused told = record {
+pub unopened_step : {Src Snk Dsk L : Type 0} (kinds : Kinds Src Snk Dsk L) (files : Files) (name : List ℕ) (crew : Crew L) (failed : Failed) (old new : Scene Src Snk Dsk) (refusal : Refusal) → DiskIsRefused name failed old new
+    → IsTold not_opened (line_with (codes "open: ") name) refusal → BatchStep kinds files name crew old new (Err refusal)
+unopened_step kinds files name crew failed old new refusal refused told = record {
   says = inr (record {
     why = inl (record { unready = unopened_unready name failed old new refused; opened = refused.opened; same = refused.object.refused; rose = refused.rose; told = told });
     sources = refused.sources;
     sinks = refused.sinks;
   });
-  only = unopened_only name (pair_calls client) failed old new refusal refused;
+  only = unopened_only name (pair_calls crew.client) failed old new refusal refused;
 }
 
 -- the disk of a journal is no stream of a client
 pub disk_missed : (name : List ℕ) (client : ClientWord) → Misses (disk_at name) (pair_calls client)
 disk_missed name client = ((λ same. cc), ((λ same. cc), tt))
 
-module _ {Src Snk Dsk : Type 0} (name : List ℕ) (client : ClientWord) (workers : ℕ) (before after : Dsk) (s0 s1 s2 s3 : Scene Src Snk Dsk) (round : IsRound name before after s0 s1 s2 s3) where
+module _ {Src Snk Dsk L : Type 0} (name : List ℕ) (crew : Crew L) (before after : Dsk) (s0 s1 s2 s3 : Scene Src Snk Dsk) (round : IsRound name before after s0 s1 s2 s3) where
+  abbrev client : ClientWord
+  client = crew.client
+
   had_around : (src src' : Src) (snk snk' : Snk) → HadPair client s1 s2 src src' snk snk' → HadPair client s0 s3 src src' snk snk'
   had_around src src' snk snk' had = record {
     opens = opens_moved_all (disk_at name) s1.standing s0.standing (λ call differs. other_stands name before after s0 s1 s2 s3 round call (λ e. differs (sym e))) (pair_calls client) (disk_missed name client) had.opens;
@@ -66,9 +68,9 @@ module _ {Src Snk Dsk : Type 0} (name : List ℕ) (client : ClientWord) (workers
     sink = exchanged_at snk snk' (s1.sinks client.output) (s2.sinks client.output) (s0.sinks client.output) (s3.sinks client.output) (round.sinks client.output) (sym (round.sinks_still client.output)) had.sink;
   }
 
-  answers_around : {L : Type 0} (source : Sources Src) (sink : Sinks Snk) (disk : Disks Dsk) (rule_kind : Rules L) (known : Names) (rules : List (ClientRules L)) (found : Ledger Dsk) (ends : Ends) → Answers source sink disk rule_kind known client workers rules found after s1 s2 ends
-      → Answers source sink disk rule_kind known client workers rules found after s0 s3 ends
-  answers_around source sink disk rule_kind known rules found ends answers = record {
+  answers_around : (kinds : Kinds Src Snk Dsk L) (known : Names) (found : Ledger Dsk) (ends : Ends) → Answers kinds known crew found after s1 s2 ends
+      → Answers kinds known crew found after s0 s3 ends
+  answers_around kinds known found ends answers = record {
     src = answers.src;
     src' = answers.src';
     snk = answers.snk;
@@ -77,7 +79,7 @@ module _ {Src Snk Dsk : Type 0} (name : List ℕ) (client : ClientWord) (workers
     answered = answers.answered;
   }
 
-  declines_around : (source : Sources Src) (known : Names) (found : Ledger Dsk) (refusal : Refusal) → Declines source known client workers found after s1 s2 refusal → Declines source known client workers found after s0 s3 refusal
+  declines_around : (source : Sources Src) (known : Names) (found : Ledger Dsk) (refusal : Refusal) → Declines source known crew found after s1 s2 refusal → Declines source known crew found after s0 s3 refusal
   declines_around source known found refusal declines = record {
     src = declines.src;
     src' = declines.src';
@@ -101,8 +103,8 @@ module _ {Src Snk Dsk : Type 0} (name : List ℕ) (client : ClientWord) (workers
     sinks = halted_sinks name (pair_calls client) before after s0 s1 s2 s3 round disk files refusal (disk_missed name client) halts;
   }
 
-  declined_step : {A : Type 0} (source : Sources Src) (disk : Disks Dsk) (files : Files) (refusal : Refusal) → DiskDeclines source disk files client workers before after s1 s2 refusal → KeepsTo {A = A} (pair_calls client) s1 s2 (Err refusal)
-      → Refuses source disk files name client workers s0 s3 refusal
+  declined_step : {A : Type 0} (source : Sources Src) (disk : Disks Dsk) (files : Files) (refusal : Refusal) → DiskDeclines source disk files crew before after s1 s2 refusal → KeepsTo {A = A} (pair_calls client) s1 s2 (Err refusal)
+      → Refuses source disk files name crew s0 s3 refusal
   declined_step source disk files refusal says only = record {
     before = before;
     after = after;
@@ -114,10 +116,10 @@ module _ {Src Snk Dsk : Type 0} (name : List ℕ) (client : ClientWord) (workers
   }
 
   -- the step that answers, by what was said of the disk while it was out
-  pub step_by : {L : Type 0} (source : Sources Src) (sink : Sinks Snk) (disk : Disks Dsk) (rule_kind : Rules L) (rules : List (ClientRules L)) (files : Files) (result : Result Ends Refusal) → DiskSays source sink disk rule_kind files name client workers rules before after s1 s2 result → KeepsTo (pair_calls client) s1 s2 result
-      → BatchStep source sink disk rule_kind files name client workers rules s0 s3 result
+  pub step_by : (kinds : Kinds Src Snk Dsk L) (files : Files) (result : Result Ends Refusal) → DiskSays kinds files name crew before after s1 s2 result → KeepsTo (pair_calls client) s1 s2 result
+      → BatchStep kinds files name crew s0 s3 result
   unfolding answers_around
-  step_by source sink disk rule_kind rules files (Ok ends) says only = record {
+  step_by kinds files (Ok ends) says only = record {
     says = record {
       before = before;
       after = after;
@@ -125,14 +127,14 @@ module _ {Src Snk Dsk : Type 0} (name : List ℕ) (client : ClientWord) (workers
       name_open = disk_open name before after s0 s1 s2 s3 round;
       exchanged = exchanged name before after s0 s1 s2 s3 round (pair_calls client) (disk_missed name client) only.keeps;
       opened = says.opened;
-      answers = answers_around source sink disk rule_kind (known_by files) rules says.found ends says.answers;
-      remains = remains_by disk files before after says.found says.answers.answered.outcome.left says.opened says.answers.answered.outcome.footing says.answers.answered.outcome.closed;
+      answers = answers_around kinds (known_by files) says.found ends says.answers;
+      remains = remains_by kinds.disk files before after says.found says.answers.answered.outcome.left says.opened says.answers.answered.outcome.footing says.answers.answered.outcome.closed;
     };
     only = round_only name before after s0 s1 s2 s3 round (pair_calls client) (Ok ends) only;
   }
-  step_by source sink disk rule_kind rules files (Err refusal) (inl refuses) only = record { says = inr (refused_step disk files refusal refuses); only = round_only name before after s0 s1 s2 s3 round (pair_calls client) (Err refusal) only }
-  step_by source sink disk rule_kind rules files (Err refusal) (inr (inl halts)) only = record { says = inr (halted_step disk files refusal halts); only = round_only name before after s0 s1 s2 s3 round (pair_calls client) (Err refusal) only }
-  step_by source sink disk rule_kind rules files (Err refusal) (inr (inr declines)) only = record { says = inl (declined_step source disk files refusal declines only); only = round_only name before after s0 s1 s2 s3 round (pair_calls client) (Err refusal) only }
+  step_by kinds files (Err refusal) (inl refuses) only = record { says = inr (refused_step kinds.disk files refusal refuses); only = round_only name before after s0 s1 s2 s3 round (pair_calls client) (Err refusal) only }
+  step_by kinds files (Err refusal) (inr (inl halts)) only = record { says = inr (halted_step kinds.disk files refusal halts); only = round_only name before after s0 s1 s2 s3 round (pair_calls client) (Err refusal) only }
+  step_by kinds files (Err refusal) (inr (inr declines)) only = record { says = inl (declined_step kinds.source kinds.disk files refusal declines only); only = round_only name before after s0 s1 s2 s3 round (pair_calls client) (Err refusal) only }
 
 -- ---- refusals change no sink
 
@@ -142,15 +144,15 @@ had_unwritten {Snk = Snk} client s0 s1 src src' snk snk' had same =
     let place = s0.sinks client.output in
     had.sink.after_is ∙ (ap (λ (it : Snk). place_once_returned it (place_once_opened place)) same ∙ place_once_returned-opened place snk had.sink.before_is)
 
-step_clean : {Src Snk Dsk L : Type 0} (source : Sources Src) (sink : Sinks Snk) (disk : Disks Dsk) (rule_kind : Rules L) (files : Files) (name : List ℕ) (client : ClientWord) (workers : ℕ) (rules : List (ClientRules L)) (s0 s1 : Scene Src Snk Dsk) (refusal : Refusal)
-    → BatchSays source sink disk rule_kind files name client workers rules s0 s1 (Err refusal) → KeepsTo {A = Ends} (disk_at name ∷ pair_calls client) s0 s1 (Err refusal) → Untouched s0.sinks s1.sinks
-step_clean source sink disk rule_kind files name client workers rules s0 s1 refusal (inr stops) only other = stops.sinks other
-step_clean source sink disk rule_kind files name client workers rules s0 s1 refusal (inl refuses) only other = elim (name_cases other client.output) [
-  | inl same ↦ rw same (had_unwritten client s0 s1 refuses.declines.src refuses.declines.src' refuses.declines.snk refuses.declines.snk' refuses.declines.had refuses.declines.refused.unwritten)
+step_clean : {Src Snk Dsk L : Type 0} (kinds : Kinds Src Snk Dsk L) (files : Files) (name : List ℕ) (crew : Crew L) (s0 s1 : Scene Src Snk Dsk) (refusal : Refusal)
+    → BatchSays kinds files name crew s0 s1 (Err refusal) → KeepsTo {A = Ends} (disk_at name ∷ pair_calls crew.client) s0 s1 (Err refusal) → Untouched s0.sinks s1.sinks
+step_clean kinds files name crew s0 s1 refusal (inr stops) only other = stops.sinks other
+step_clean kinds files name crew s0 s1 refusal (inl refuses) only other = elim (name_cases other crew.client.output) [
+  | inl same ↦ rw same (had_unwritten crew.client s0 s1 refuses.declines.src refuses.declines.src' refuses.declines.snk refuses.declines.snk' refuses.declines.had refuses.declines.refused.unwritten)
   | inr differs ↦ only.keeps.sinks other ((λ e. cc), ((λ e. cc), ((λ e. differs cc), tt)))
 ]
 
 -- a step that refuses changes no sink
-pub refusal_clean : {Src Snk Dsk L : Type 0} (source : Sources Src) (sink : Sinks Snk) (disk : Disks Dsk) (rule_kind : Rules L) (files : Files) (name : List ℕ) (client : ClientWord) (workers : ℕ) (rules : List (ClientRules L)) (s0 s1 : Scene Src Snk Dsk) (refusal : Refusal)
-    → BatchStep source sink disk rule_kind files name client workers rules s0 s1 (Err refusal) → Untouched s0.sinks s1.sinks
-refusal_clean source sink disk rule_kind files name client workers rules s0 s1 refusal step = step_clean source sink disk rule_kind files name client workers rules s0 s1 refusal step.says step.only
+pub refusal_clean : {Src Snk Dsk L : Type 0} (kinds : Kinds Src Snk Dsk L) (files : Files) (name : List ℕ) (crew : Crew L) (s0 s1 : Scene Src Snk Dsk) (refusal : Refusal)
+    → BatchStep kinds files name crew s0 s1 (Err refusal) → Untouched s0.sinks s1.sinks
+refusal_clean kinds files name crew s0 s1 refusal step = step_clean kinds files name crew s0 s1 refusal step.says step.only

@@ -1,14 +1,9 @@
 -- A list over a book, and the streams of its client.
-use Rattle.std.proofs.Common.{◌≡◌, ◌∙◌, ℕ, List, [], ◌∷◌, Option, Result, Ok, Err, inl, inr, sym}
+use Rattle.std.proofs.Common.{◌≡◌, ◌∙◌, List, [], ◌∷◌, Option, Result, Ok, Err, inl, inr, sym}
 use Rattle.std.proofs.Common.{subst}
 use Rattle.outside_io.specs.Openings.{Opening, Opens as CallsOf}
-use Rattle.outside_io.specs.declared.disks.Disk.{Ghosts as Disks}
-use Rattle.outside_io.specs.declared.sinks.Sink.{Ghosts as Sinks}
-use Rattle.outside_io.specs.declared.sources.Source.{Ghosts as Sources}
 use Rattle.command_reports.specs.Scenes.{Scene}
-use Rattle.served_clients.specs.admission.declared.rules.Rule.{Ghosts as Rules}
 use Rattle.served_clients.specs.lines.Names.{Names}
-use Rattle.served_clients.specs.admission.declared.client_rules.clients.ClientRules.{ClientRules}
 use Rattle.served_clients.specs.StreamClients.{pair_calls, pair_loans}
 use Rattle.served_clients.specs.Lending.{AreIn, AreOut}
 use Rattle.served_clients.specs.Refusing.{IsStopped}
@@ -21,19 +16,20 @@ use Rattle.command_reports.specs.declared.refusals.Refusal.{Refusal}
 use Rattle.served_clients.specs.book.Ledgers.{Ledger}
 use Rattle.served_clients.specs.declared.serve_reports.ends.Ends.{Ends}
 use Rattle.served_clients.proofs.Halts.{Unserved, unserved_stopped}
+use Rattle.served_clients.specs.Kinds.{Kinds}
 use Rattle.batch_command.specs.Books.{BookSays, HadPair}
+use Rattle.batch_command.specs.Crews.{Crew}
 use Rattle.batch_command.specs.Lists.{ListSays}
 
 -- no streams were opened
-pub record NotOpened {Src Snk Dsk L : Type 0} (source : Sources Src) (sink : Sinks Snk) (disk : Disks Dsk) (kind : Rules L) (known : Names) (client : ClientWord) (workers : ℕ) (rules : List (ClientRules L)) (found : Ledger Dsk) (after : Dsk) (s0 s1 : Scene Src Snk Dsk)
-    (refusal : Refusal) : Type 0 where
-  pub says : BookSays source sink disk kind known client workers rules found after s0 s1 (Err refusal)
-  pub keeps : KeepsTo {A = Ends} (pair_calls client) s0 s1 (Err refusal)
+pub record NotOpened {Src Snk Dsk L : Type 0} (kinds : Kinds Src Snk Dsk L) (known : Names) (crew : Crew L) (found : Ledger Dsk) (after : Dsk) (s0 s1 : Scene Src Snk Dsk) (refusal : Refusal) : Type 0 where
+  pub says : BookSays kinds known crew found after s0 s1 (Err refusal)
+  pub keeps : KeepsTo {A = Ends} (pair_calls crew.client) s0 s1 (Err refusal)
 
-pub not_opened : {Src Snk Dsk L : Type 0} (source : Sources Src) (sink : Sinks Snk) (disk : Disks Dsk) (kind : Rules L) (known : Names) (client : ClientWord) (workers : ℕ) (rules : List (ClientRules L)) (found : Ledger Dsk) (after : Dsk) (s0 s1 : Scene Src Snk Dsk)
-    (refusal : Refusal) → after ≡ found.disk → IsStopped (pair_calls client) s0 s1 refusal → NotOpened source sink disk kind known client workers rules found after s0 s1 refusal
-not_opened source sink disk kind known client workers rules found after s0 s1 refusal same stopped =
-    let unserved : Unserved Ends (pair_calls client) found after s0 s1 refusal = unserved_stopped Ends (pair_calls client) found after s0 s1 refusal same stopped in
+pub not_opened : {Src Snk Dsk L : Type 0} (kinds : Kinds Src Snk Dsk L) (known : Names) (crew : Crew L) (found : Ledger Dsk) (after : Dsk) (s0 s1 : Scene Src Snk Dsk) (refusal : Refusal)
+    → after ≡ found.disk → IsStopped (pair_calls crew.client) s0 s1 refusal → NotOpened kinds known crew found after s0 s1 refusal
+not_opened kinds known crew found after s0 s1 refusal same stopped =
+    let unserved : Unserved Ends (pair_calls crew.client) found after s0 s1 refusal = unserved_stopped Ends (pair_calls crew.client) found after s0 s1 refusal same stopped in
     record { says = inl unserved.says; keeps = unserved.keeps }
 
 -- the source and the sink of a client differ
@@ -60,8 +56,8 @@ module _ {Src Snk Dsk : Type 0} (client : ClientWord) (before after : Src × Snk
   pair_keeps (Ok done) = record { keeps = pair_used.keeps; opens = pair_opened }
   pair_keeps (Err refusal) = record { keeps = pair_used.keeps; opens = (2, pair_opened) }
 
-  -- what is said of a book, by what is said of the list that was read from the source
-  pub book_by : {L : Type 0} (source : Sources Src) (sink : Sinks Snk) (disk : Disks Dsk) (kind : Rules L) (known : Names) (workers : ℕ) (rules : List (ClientRules L)) (found : Ledger Dsk) (left : Dsk) (result : Result Ends Refusal)
-      → ListSays source sink disk kind known client.client workers rules found left before.0 after.0 before.1 after.1 result → BookSays source sink disk kind known client workers rules found left s0 s2 result
-  book_by source sink disk kind known workers rules found left (Ok ends) says = record { src = before.0; src' = after.0; snk = before.1; snk' = after.1; had = had_pair; answered = says }
-  book_by source sink disk kind known workers rules found left (Err refusal) says = inr (record { src = before.0; src' = after.0; snk = before.1; snk' = after.1; had = had_pair; refused = says })
+-- what is said of a book, by what is said of the list that was read from the source
+pub book_by : {Src Snk Dsk L : Type 0} (kinds : Kinds Src Snk Dsk L) (known : Names) (crew : Crew L) (before after : Src × Snk) (s0 s1 : Scene Src Snk Dsk) (found : Ledger Dsk) (left : Dsk) (result : Result Ends Refusal)
+    → HadPair crew.client s0 s1 before.0 after.0 before.1 after.1 → ListSays kinds known crew found left before.0 after.0 before.1 after.1 result → BookSays kinds known crew found left s0 s1 result
+book_by kinds known crew before after s0 s1 found left (Ok ends) had says = record { src = before.0; src' = after.0; snk = before.1; snk' = after.1; had = had; answered = says }
+book_by kinds known crew before after s0 s1 found left (Err refusal) had says = inr (record { src = before.0; src' = after.0; snk = before.1; snk' = after.1; had = had; refused = says })

@@ -1,19 +1,17 @@
 -- What a list over an opened journal comes to: its streams are opened, used, and put back.
-use Rattle.std.specs.Prelude.{◌≡◌, ◌⊎◌, ℕ, All, List, Result, Ok, Err}
-use Rattle.served_clients.specs.admission.declared.rules.Rule.{Ghosts as Rules}
+use Rattle.std.specs.Prelude.{◌≡◌, ◌⊎◌, All, Result, Ok, Err}
 use Rattle.served_clients.specs.lines.Names.{Names}
-use Rattle.served_clients.specs.admission.declared.client_rules.clients.ClientRules.{ClientRules}
 use Rattle.served_clients.specs.StreamClients.{IsExchanged, pair_calls}
 use Rattle.served_clients.specs.Refusing.{IsOpen}
 use Rattle.command_line.specs.declared.client_words.clients.ClientWord.{ClientWord}
 use Rattle.command_reports.specs.declared.refusals.Refusal.{Refusal}
 use Rattle.command_reports.specs.Scenes.{Scene}
-use Rattle.outside_io.specs.declared.disks.Disk.{Ghosts as Disks}
-use Rattle.outside_io.specs.declared.sinks.Sink.{Ghosts as Sinks}
 use Rattle.outside_io.specs.declared.sources.Source.{Ghosts as Sources}
 use Rattle.served_clients.specs.book.Ledgers.{Ledger}
 use Rattle.served_clients.specs.declared.serve_reports.ends.Ends.{Ends}
+use Rattle.served_clients.specs.Kinds.{Kinds}
 use Rattle.served_clients.specs.Rounds.{IsUnserved}
+use Rattle.batch_command.specs.Crews.{Crew}
 use Rattle.batch_command.specs.Lists.{IsAnswered, IsRefused}
 
 -- the source and the sink of a client were opened, came to this, and were
@@ -26,35 +24,32 @@ pub record HadPair {Src Snk Dsk : Type 0} (client : ClientWord) (old new : Scene
   pub sink : IsExchanged (old.sinks client.output) (new.sinks client.output) snk snk'
 
 -- the list of a client was answered over the book that was found
-pub record Answers {Src Snk Dsk L : Type 0} (source : Sources Src) (sink : Sinks Snk)
-    (disk : Disks Dsk) (kind : Rules L) (known : Names) (client : ClientWord) (workers : ℕ)
-    (rules : List (ClientRules L)) (found : Ledger Dsk) (after : Dsk)
-    (old new : Scene Src Snk Dsk) (ends : Ends) : Type 0 where
+pub record Answers {Src Snk Dsk L : Type 0} (kinds : Kinds Src Snk Dsk L) (known : Names)
+    (crew : Crew L) (found : Ledger Dsk) (after : Dsk) (old new : Scene Src Snk Dsk) (ends : Ends)
+    : Type 0 where
   pub src : Src
   pub src' : Src
   pub snk : Snk
   pub snk' : Snk
-  pub had : HadPair client old new src src' snk snk'
-  pub answered : IsAnswered source sink disk kind known client.client workers rules found after
-      src src' snk snk' ends
+  pub had : HadPair crew.client old new src src' snk snk'
+  pub answered : IsAnswered kinds known crew found after src src' snk snk' ends
 
 -- the list of a client was refused, once its streams were opened
-pub record Declines {Src Snk Dsk : Type 0} (source : Sources Src) (known : Names)
-    (client : ClientWord) (workers : ℕ) (found : Ledger Dsk) (after : Dsk)
-    (old new : Scene Src Snk Dsk) (refusal : Refusal) : Type 0 where
+pub record Declines {Src Snk Dsk L : Type 0} (source : Sources Src) (known : Names)
+    (crew : Crew L) (found : Ledger Dsk) (after : Dsk) (old new : Scene Src Snk Dsk)
+    (refusal : Refusal) : Type 0 where
   pub src : Src
   pub src' : Src
   pub snk : Snk
   pub snk' : Snk
-  pub had : HadPair client old new src src' snk snk'
-  pub refused : IsRefused source known client.client workers found after src src' snk snk' refusal
+  pub had : HadPair crew.client old new src src' snk snk'
+  pub refused : IsRefused source known crew found after src src' snk snk' refusal
 
 -- what is said of a book over which a list is answered
-abbrev pub BookSays : {Src Snk Dsk L : Type 0} → Sources Src → Sinks Snk → Disks Dsk → Rules L
-    → Names → ClientWord → (workers : ℕ) → List (ClientRules L) → Ledger Dsk → Dsk
-    → Scene Src Snk Dsk → Scene Src Snk Dsk → Result Ends Refusal → Type 0
-BookSays source sink disk kind known client workers rules found after old new (Ok ends) =
-    Answers source sink disk kind known client workers rules found after old new ends
-BookSays source sink disk kind known client workers rules found after old new (Err refusal) =
-    IsUnserved (pair_calls client) found after old new refusal
-    ⊎ Declines source known client workers found after old new refusal
+abbrev pub BookSays : {Src Snk Dsk L : Type 0} → Kinds Src Snk Dsk L → Names → Crew L
+    → Ledger Dsk → Dsk → Scene Src Snk Dsk → Scene Src Snk Dsk → Result Ends Refusal → Type 0
+BookSays kinds known crew found after old new (Ok ends) =
+    Answers kinds known crew found after old new ends
+BookSays kinds known crew found after old new (Err refusal) =
+    IsUnserved (pair_calls crew.client) found after old new refusal
+    ⊎ Declines kinds.source known crew found after old new refusal

@@ -1,8 +1,6 @@
 -- The run of `batch`.
 use Rattle.std.specs.Prelude.{◌≡◌, ℕ, List, Result, Ok, Err}
-use Rattle.served_clients.specs.admission.declared.rules.Rule.{Ghosts as Rules}
 use Rattle.batch_command.specs.Ends.{report_text}
-use Rattle.served_clients.specs.admission.declared.client_rules.clients.ClientRules.{ClientRules}
 use Rattle.command_line.specs.declared.client_words.clients.ClientWord.{ClientWord}
 use Rattle.command_files.specs.Files.{BaseStep, NetworkStep, TrainStep}
 use Rattle.command_files.specs.declared.bases.BaseFile.{BaseFile}
@@ -24,9 +22,12 @@ use Rattle.rail_types.specs.declared.trains.Train.{Train}
 use Rattle.served_clients.specs.Ends.{EndsSay}
 use Rattle.served_clients.specs.declared.serve_reports.ends.Ends.{Ends}
 use Rattle.served_clients.specs.Files.{files_of, known_by}
+use Rattle.served_clients.specs.GivenNames.{GivenNames}
+use Rattle.served_clients.specs.Kinds.{Kinds}
 use Rattle.served_clients.specs.ServedJournals.{IsFound}
 use Rattle.served_clients.specs.declared.served_journals.files.Files.{Files}
 use Rattle.batch_command.specs.Asked.{IsFlaw}
+use Rattle.batch_command.specs.Crews.{Crew}
 use Rattle.batch_command.specs.Journals.{Serves}
 use Rattle.batch_command.specs.Works.{batch_calls, ReadsNetwork}
 
@@ -38,59 +39,55 @@ EndsRun sink old new (Err refusal) status = TellsRefusal sink refusal old new st
 
 -- The files were read, the journal was opened, the list was read and answered, and this was
 -- reported: in this order, each name opened once, and all put back.
-pub record RunsBatch {Src Snk Dsk L : Type 0} (source : Sources Src) (sink : Sinks Snk)
-    (disk : Disks Dsk) (kind : Rules L) (network trains base journal : List ℕ)
-    (client : ClientWord) (workers : ℕ) (rules : List (ClientRules L))
-    (old new : Scene Src Snk Dsk) (status : Status) : Type 0 where
+pub record RunsBatch {Src Snk Dsk L : Type 0} (kinds : Kinds Src Snk Dsk L) (names : GivenNames)
+    (crew : Crew L) (old new : Scene Src Snk Dsk) (status : Status) : Type 0 where
   pub between : Scene Src Snk Dsk
   pub outcome : Result Ends Refusal
-  pub works : ReadsNetwork source sink disk kind network trains base journal client workers rules
-      old between outcome
-  pub keeps : KeepsTo (batch_calls network trains base journal client) old between outcome
-  pub ends : EndsRun sink between new outcome status
+  pub works : ReadsNetwork kinds names crew old between outcome
+  pub keeps : KeepsTo (batch_calls names crew.client) old between outcome
+  pub ends : EndsRun kinds.sink between new outcome status
 
 -- the three files were read, each as it stood then
-pub record HasRead {Src Snk Dsk : Type 0} (source : Sources Src) (network trains base : List ℕ)
+pub record HasRead {Src Snk Dsk : Type 0} (source : Sources Src) (names : GivenNames)
     (old new : Scene Src Snk Dsk) (files : Files) : Type 0 where
   pub network_file : NetworkFile
   pub train_list : List Train
   pub base_file : BaseFile
   pub first : Scene Src Snk Dsk
   pub second : Scene Src Snk Dsk
-  pub read_network : NetworkStep source network old first (Ok network_file)
-  pub read_trains : TrainStep source trains first second (Ok train_list)
+  pub read_network : NetworkStep source names.network old first (Ok network_file)
+  pub read_trains : TrainStep source names.trains first second (Ok train_list)
   pub read_base :
-      BaseStep source network_file.named.network.zones base second new (Ok base_file)
+      BaseStep source network_file.named.network.zones names.base second new (Ok base_file)
   pub files_are : files ≡ files_of network_file base_file train_list
 
 -- All was done: the files were read, the journal was opened, the list was answered over it,
 -- all replies were written in its order, and the lines of the batch, of each worker and of
 -- each of its rules were reported.
-pub record IsBatchDone {Src Snk Dsk L : Type 0} (source : Sources Src) (sink : Sinks Snk)
-    (disk : Disks Dsk) (kind : Rules L) (network trains base journal : List ℕ)
-    (client : ClientWord) (workers : ℕ) (rules : List (ClientRules L))
-    (old new : Scene Src Snk Dsk) : Type 0 where
+pub record IsBatchDone {Src Snk Dsk L : Type 0} (kinds : Kinds Src Snk Dsk L) (names : GivenNames)
+    (crew : Crew L) (old new : Scene Src Snk Dsk) : Type 0 where
   pub third : Scene Src Snk Dsk
   pub fourth : Scene Src Snk Dsk
   pub files : Files
-  pub read : HasRead source network trains base old third files
+  pub read : HasRead kinds.source names old third files
   pub ends : Ends
-  pub serves : Serves source sink disk kind files journal client workers rules third fourth ends
+  pub serves : Serves kinds files names.journal crew third fourth ends
   pub whole : serves.answers.answered.outcome.written.why ≡ Input
-  pub told : ReportSays sink (report_text kind client.client serves.answers.answered.outcome.written
-      serves.answers.answered.outcome.worked) fourth new (Ok tt)
+  pub told : ReportSays kinds.sink (report_text kinds.rule crew.client.client
+      serves.answers.answered.outcome.written serves.answers.answered.outcome.worked)
+      fourth new (Ok tt)
   pub only : ChangesOnlyReport fourth new
 
 -- the files were read, the journal was opened, the list was read as a whole, and it has a flaw
 pub record IsRefusedList {Src Snk Dsk : Type 0} (source : Sources Src) (disk : Disks Dsk)
-    (network trains base journal : List ℕ) (client : ClientWord) (workers : ℕ)
-    (old : Scene Src Snk Dsk) : Type 0 where
+    (names : GivenNames) (client : ClientWord) (workers : ℕ) (old : Scene Src Snk Dsk)
+    : Type 0 where
   pub third : Scene Src Snk Dsk
   pub files : Files
-  pub read : HasRead source network trains base old third files
+  pub read : HasRead source names old third files
   pub before : Dsk
   pub found : Ledger Dsk
-  pub kept : IsKeptAt (third.disks journal) before
+  pub kept : IsKeptAt (third.disks names.journal) before
   pub opened : IsFound disk files before found
   pub src : Src
   pub src' : Src

@@ -12,6 +12,7 @@ pub mod list_lines;
 pub mod list_replies;
 mod lists;
 mod members;
+mod rosters;
 mod runs;
 pub mod worker_numbers;
 mod works;

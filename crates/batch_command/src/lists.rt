@@ -1,12 +1,14 @@
 //! A list that is read, answered over a book, and written.
 
 ghost use Rattle.std.specs.Prelude.{◌≡◌, ◌≤◌, All, IfOk, IfSome, length, option_map};
+ghost use Rattle.batch_command.specs.Crews.{crew_of};
 ghost use Rattle.batch_command.specs.Lists.{LinesSay, ListSays, WritesTexts};
 ghost use Rattle.command_line.specs.Workers.{AreWorkers, worker_names as names_of_workers};
 ghost use Rattle.command_line.specs.declared.batch_words.clients.TheConstants.{
   MAX_BATCH_NAME_BYTES,
 };
 ghost use Rattle.served_clients.specs.lines.Within.{AreSound};
+ghost use Rattle.served_clients.specs.Kinds.{kinds_of};
 ghost use Rattle.served_clients.specs.Lending.{IsUnchanged};
 ghost use Rattle.command_reports.specs.Scenes.{scene};
 ghost use Rattle.served_clients.specs.lines.declared.lines.TheConstants.{MAX_LINE_BYTES};
@@ -21,11 +23,12 @@ use crate::flaws::numbers_asked;
 use crate::list_lines::read_list;
 use crate::list_replies::write_texts;
 use crate::members::members_of;
+use crate::rosters::Roster;
 use crate::worker_numbers::owners_of;
 use command_line::batch_words::{worker_names, worker_names_are_names, worker_names_differ};
 use command_reports::Refusal;
 use no_memory::NoMemory;
-use outside_io::{Disk, Outside, Sink, Source};
+use outside_io::{Outside, Sink};
 use rail_types::{List, Name};
 use served_clients::admission::Rule;
 use served_clients::admission::client_rules::ClientRules;
@@ -43,75 +46,67 @@ use std::thread::Threads;
 /// order of the list, and hands back the book's disk. A list that is not read, or has a flaw, is
 /// refused, and nothing is answered. The outside is asked for what it has called between the
 /// searches of the workers, and for nothing else.
-pub(crate) fn serve_list<
-    R: AllocGlobal + Threads + Wait + Sync,
-    D: Disk + Send,
-    S: Source,
-    T: Sink,
-    O: Outside,
-    L: Rule + Send + Drop,
->(
+pub(crate) fn serve_list<R: AllocGlobal + Threads + Wait + Sync, O: Outside, L: Rule + Send>(
     rt: &R,
-    book: Book<D>,
+    book: Book<O::Dsk>,
     known: Known,
-    batch: &Name,
-    workers: u32,
+    roster: &Roster<'_>,
     rules: Vec<ClientRules<L>>,
-    source: &mut S,
-    sink: &mut T,
+    source: &mut O::Src,
+    sink: &mut O::Snk,
     outside: &mut O,
-) -> (D, Result<Ends, Refusal>)
-    requires named { IsClientName batch.now }
-    requires name { length batch.now ≤ MAX_BATCH_NAME_BYTES }
-    requires workers { AreWorkers workers }
+) -> (O::Dsk, Result<Ends, Refusal>)
+    requires named { IsClientName roster.now.client.now.client }
+    requires name { length roster.now.client.now.client ≤ MAX_BATCH_NAME_BYTES }
+    requires workers { AreWorkers roster.now.workers }
     requires settled { settled_of book ≡ length book.entries }
     requires sound { AreSound known }
     requires network { known.railway.network ≡ book.timetable.net }
-    ensures says { ListSays S.Source T.Sink D.Disk L.Rule known batch.now workers rules.items
-        book result.0 source.old source.new sink.old sink.new result.1 }
+    ensures says { ListSays (kinds_of O.Src.Source O.Snk.Sink O.Dsk.Disk L.Rule) known
+        (crew_of roster.now.client.now roster.now.workers rules.items) book result.0
+        source.old source.new sink.old sink.new result.1 }
     ensures still { IsUnchanged (scene O.Outside outside.old) (scene O.Outside outside.new) }
 {
+    let client = roster.client;
     let lines = match read_list(rt.alloc(), source) {
         Ok(lines) => lines,
-        Err(fault) => return (book.close(), Err(list_stops(rt.alloc(), batch, fault))),
+        Err(fault) => return (
+            book.close(),
+            Err(list_stops(rt.alloc(), &client.client, fault)),
+        ),
     };
-    answer_lines(
-        rt, book, known, batch, workers, rules, &lines, sink, outside,
-    )
+    answer_lines(rt, book, known, roster, rules, &lines, sink, outside)
 }
 
 // Answers the lines of a list that was read.
-fn answer_lines<
-    R: AllocGlobal + Threads + Wait + Sync,
-    D: Disk + Send,
-    T: Sink,
-    O: Outside,
-    L: Rule + Send + Drop,
->(
+fn answer_lines<R: AllocGlobal + Threads + Wait + Sync, O: Outside, L: Rule + Send>(
     rt: &R,
-    book: Book<D>,
+    book: Book<O::Dsk>,
     known: Known,
-    batch: &Name,
-    workers: u32,
+    roster: &Roster<'_>,
     rules: Vec<ClientRules<L>>,
     lines: &[Name],
-    sink: &mut T,
+    sink: &mut O::Snk,
     outside: &mut O,
-) -> (D, Result<Ends, Refusal>)
-    requires named { IsClientName batch.now }
-    requires name { length batch.now ≤ MAX_BATCH_NAME_BYTES }
-    requires workers { AreWorkers workers }
+) -> (O::Dsk, Result<Ends, Refusal>)
+    requires named { IsClientName roster.now.client.now.client }
+    requires name { length roster.now.client.now.client ≤ MAX_BATCH_NAME_BYTES }
+    requires workers { AreWorkers roster.now.workers }
     requires settled { settled_of book ≡ length book.entries }
     requires sound { AreSound known }
     requires network { known.railway.network ≡ book.timetable.net }
     requires count { length lines.now ≤ MAX_LINES }
     requires texts { All (λ line. length line ≤ MAX_LINE_BYTES) lines.now }
-    ensures says { LinesSay T.Sink D.Disk L.Rule known batch.now workers rules.items lines.now
-        book result.0 sink.old sink.new result.1 }
+    ensures says { LinesSay (kinds_of O.Src.Source O.Snk.Sink O.Dsk.Disk L.Rule) known
+        (crew_of roster.now.client.now roster.now.workers rules.items) lines.now book result.0
+        sink.old sink.new result.1 }
     ensures still { IsUnchanged (scene O.Outside outside.old) (scene O.Outside outside.new) }
 {
     worker_names_are_names();
     worker_names_differ();
+    let client = roster.client;
+    let batch = &client.client;
+    let workers = roster.workers;
     let asked = numbers_asked(rt.alloc(), &known, batch, workers, book.history(), lines);
     let numbers = match asked {
         Ok(numbers) => numbers,

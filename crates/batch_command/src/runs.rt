@@ -1,17 +1,21 @@
 //! The run of `batch`.
 
 ghost use Rattle.std.specs.Prelude.{◌≡◌, ◌≢◌, ℕ, List};
+ghost use Rattle.batch_command.specs.Crews.{crew_of};
 ghost use Rattle.batch_command.specs.Runs.{EndsRun, IsBatchDone, IsRefusedList, RunsBatch};
 ghost use Rattle.command_line.specs.Workers.{AreWorkers, IsBatchClient};
 ghost use Rattle.command_reports.specs.Scenes.{scene};
 ghost use Rattle.outside_io.specs.Openings.{Undisturbed};
 ghost use Rattle.outside_io.specs.Places.{Untouched};
+ghost use Rattle.served_clients.specs.GivenNames.{names_in};
+ghost use Rattle.served_clients.specs.Kinds.{kinds_of};
 
 use crate::works::batch;
 use command_line::client_words::ClientWord;
 use command_reports::exit_status::Status;
 use command_reports::{Refusal, finish};
 use outside_io::Outside;
+use served_clients::RunNames;
 use served_clients::admission::Rule;
 use served_clients::admission::client_rules::ClientRules;
 use served_clients::serve_reports::{Ends, tell_ends};
@@ -33,10 +37,7 @@ use std::thread::Threads;
 /// with `No`, the first of these told, and nothing is answered.
 pub fn run_batch<R: AllocGlobal + Threads + Wait + Sync, O: Outside, L: Rule + Send>(
     rt: &R,
-    network: &str,
-    trains: &str,
-    base: &str,
-    journal: &str,
+    names: &RunNames<'_>,
     client: &ClientWord,
     workers: u32,
     rules: Vec<ClientRules<L>>,
@@ -45,16 +46,17 @@ pub fn run_batch<R: AllocGlobal + Threads + Wait + Sync, O: Outside, L: Rule + S
     requires client { IsBatchClient client.now }
     requires workers { AreWorkers workers }
     // All that is done, by the status and the report.
-    ensures runs { RunsBatch O.Src.Source O.Snk.Sink O.Dsk.Disk L.Rule network.now trains.now
-        base.now journal.now client.now workers rules.items (scene O.Outside outside.old)
+    ensures runs { RunsBatch (kinds_of O.Src.Source O.Snk.Sink O.Dsk.Disk L.Rule)
+        (names_in names.now) (crew_of client.now workers rules.items) (scene O.Outside outside.old)
         (scene O.Outside outside.new) result }
     // At Done each line of the list was answered, and its reply written in the order of the list.
-    ensures done { result ≡ Status.Done → IsBatchDone O.Src.Source O.Snk.Sink O.Dsk.Disk L.Rule
-        network.now trains.now base.now journal.now client.now workers rules.items
-        (scene O.Outside outside.old) (scene O.Outside outside.new) }
+    ensures done { result ≡ Status.Done
+        → IsBatchDone (kinds_of O.Src.Source O.Snk.Sink O.Dsk.Disk L.Rule) (names_in names.now)
+        (crew_of client.now workers rules.items) (scene O.Outside outside.old)
+        (scene O.Outside outside.new) }
     // At No the list was read, and has a flaw.
-    ensures no { result ≡ Status.No → IsRefusedList O.Src.Source O.Dsk.Disk network.now trains.now
-        base.now journal.now client.now workers (scene O.Outside outside.old) }
+    ensures no { result ≡ Status.No → IsRefusedList O.Src.Source O.Dsk.Disk (names_in names.now)
+        client.now workers (scene O.Outside outside.old) }
     // At a refusal no sink but the report gained anything.
     ensures clean { result ≢ Status.Done → result ≢ Status.ClientEnd → result ≢ Status.Report
         → result ≢ Status.Memory → Untouched (O.sinks outside.old) (O.sinks outside.new) }
@@ -62,12 +64,10 @@ pub fn run_batch<R: AllocGlobal + Threads + Wait + Sync, O: Outside, L: Rule + S
     ensures words { result ≢ Status.Words }
     // Whatever the status, all that was opened is put back, and no other disk changed.
     ensures back { Undisturbed (O.standing outside.old) (O.standing outside.new) }
-    ensures disks { (name : List ℕ) → name ≢ journal.now
+    ensures disks { (name : List ℕ) → name ≢ names.now.journal.now
         → O.disks outside.new name ≡ O.disks outside.old name }
 {
-    let outcome = batch(
-        rt, network, trains, base, journal, client, workers, rules, outside,
-    );
+    let outcome = batch(rt, names, client, workers, rules, outside);
     end(outcome, outside)
 }
 

@@ -1,10 +1,13 @@
 //! The work of `batch`: reads the three files, and then answers the list.
 
+ghost use Rattle.batch_command.specs.Crews.{crew_of};
 ghost use Rattle.batch_command.specs.Works.{ReadsBase, ReadsNetwork, ReadsTrains};
 ghost use Rattle.command_line.specs.Workers.{AreWorkers, IsBatchClient};
 ghost use Rattle.command_reports.specs.Scenes.{scene};
 ghost use Rattle.rail_types.specs.Limits.{IsTrainWithinLimits};
 ghost use Rattle.served_clients.specs.Files.{IsNetworkRead};
+ghost use Rattle.served_clients.specs.GivenNames.{names_in};
+ghost use Rattle.served_clients.specs.Kinds.{kinds_of};
 ghost use Rattle.std.specs.Prelude.{All};
 
 use crate::journals::serve_files;
@@ -14,6 +17,7 @@ use command_files::{NetworkFile, read_base_file, read_network_file, read_train_f
 use command_line::client_words::ClientWord;
 use command_reports::Refusal;
 use outside_io::Outside;
+use served_clients::RunNames;
 use served_clients::admission::Rule;
 use served_clients::admission::client_rules::ClientRules;
 use served_clients::serve_reports::Ends;
@@ -25,10 +29,7 @@ use std::thread::Threads;
 /// The work of `batch`.
 pub(crate) fn batch<R: AllocGlobal + Threads + Wait + Sync, O: Outside, L: Rule + Send>(
     rt: &R,
-    network: &str,
-    trains: &str,
-    base: &str,
-    journal: &str,
+    names: &RunNames<'_>,
     client: &ClientWord,
     workers: u32,
     rules: Vec<ClientRules<L>>,
@@ -36,23 +37,19 @@ pub(crate) fn batch<R: AllocGlobal + Threads + Wait + Sync, O: Outside, L: Rule 
 ) -> Result<Ends, Refusal>
     requires client { IsBatchClient client.now }
     requires workers { AreWorkers workers }
-    ensures works { ReadsNetwork O.Src.Source O.Snk.Sink O.Dsk.Disk L.Rule network.now trains.now
-        base.now journal.now client.now workers rules.items (scene O.Outside outside.old)
+    ensures works { ReadsNetwork (kinds_of O.Src.Source O.Snk.Sink O.Dsk.Disk L.Rule)
+        (names_in names.now) (crew_of client.now workers rules.items) (scene O.Outside outside.old)
         (scene O.Outside outside.new) result }
 {
-    let network = read_network_file(rt.alloc(), network, outside)?;
-    batch_network(
-        rt, network, trains, base, journal, client, workers, rules, outside,
-    )
+    let network = read_network_file(rt.alloc(), names.network, outside)?;
+    batch_network(rt, network, names, client, workers, rules, outside)
 }
 
 // The same, once the network is read.
 fn batch_network<R: AllocGlobal + Threads + Wait + Sync, O: Outside, L: Rule + Send>(
     rt: &R,
     network: NetworkFile,
-    trains: &str,
-    base: &str,
-    journal: &str,
+    names: &RunNames<'_>,
     client: &ClientWord,
     workers: u32,
     rules: Vec<ClientRules<L>>,
@@ -61,14 +58,12 @@ fn batch_network<R: AllocGlobal + Threads + Wait + Sync, O: Outside, L: Rule + S
     requires client { IsBatchClient client.now }
     requires workers { AreWorkers workers }
     requires network { IsNetworkRead network }
-    ensures works { ReadsTrains O.Src.Source O.Snk.Sink O.Dsk.Disk L.Rule trains.now base.now
-        journal.now client.now workers rules.items network (scene O.Outside outside.old)
-        (scene O.Outside outside.new) result }
+    ensures works { ReadsTrains (kinds_of O.Src.Source O.Snk.Sink O.Dsk.Disk L.Rule)
+        (names_in names.now) (crew_of client.now workers rules.items) network
+        (scene O.Outside outside.old) (scene O.Outside outside.new) result }
 {
-    let trains = read_train_file(rt.alloc(), trains, outside)?;
-    batch_trains(
-        rt, network, trains, base, journal, client, workers, rules, outside,
-    )
+    let trains = read_train_file(rt.alloc(), names.trains, outside)?;
+    batch_trains(rt, network, trains, names, client, workers, rules, outside)
 }
 
 // The same, once the trains are read.
@@ -76,8 +71,7 @@ fn batch_trains<R: AllocGlobal + Threads + Wait + Sync, O: Outside, L: Rule + Se
     rt: &R,
     network: NetworkFile,
     trains: Trains,
-    base: &str,
-    journal: &str,
+    names: &RunNames<'_>,
     client: &ClientWord,
     workers: u32,
     rules: Vec<ClientRules<L>>,
@@ -87,16 +81,16 @@ fn batch_trains<R: AllocGlobal + Threads + Wait + Sync, O: Outside, L: Rule + Se
     requires workers { AreWorkers workers }
     requires network { IsNetworkRead network }
     requires trains { All IsTrainWithinLimits trains }
-    ensures works { ReadsBase O.Src.Source O.Snk.Sink O.Dsk.Disk L.Rule base.now journal.now
-        client.now workers rules.items network trains (scene O.Outside outside.old)
-        (scene O.Outside outside.new) result }
+    ensures works { ReadsBase (kinds_of O.Src.Source O.Snk.Sink O.Dsk.Disk L.Rule)
+        (names_in names.now) (crew_of client.now workers rules.items) network trains
+        (scene O.Outside outside.old) (scene O.Outside outside.new) result }
 {
     bases_make_timetables();
-    let base = read_base_file(rt.alloc(), base, network.named.network.zones, outside)?;
+    let base = read_base_file(rt.alloc(), names.base, network.named.network.zones, outside)?;
     let files = Files {
         network,
         base,
         trains,
     };
-    serve_files(rt, files, journal, client, workers, rules, outside)
+    serve_files(rt, files, names.journal, client, workers, rules, outside)
 }

@@ -6,14 +6,13 @@ ghost use Rattle.crossbeam_queue.specs.Passes.{IsPassOf};
 ghost use Rattle.batch_pool.specs.Batches.{all_places, AreMatched, IsServed};
 ghost use Rattle.batch_pool.specs.Hands.{hand, knows};
 ghost use Rattle.batch_pool.specs.Rooms.{IsRoomFor};
+ghost use Rattle.batch_pool.specs.declared.workers.TheConstants.{MAX_AT_ONCE};
 
 use crate::finishes::finish;
-use crate::hands::{Hand, Line};
 use crate::jobs::{Job, split_all, work_all};
 use crate::puts::put_all;
 use crate::rooms::{Queue, Room, reversed, room_for};
 use crate::workers::{Served, Worker};
-use crossbeam_queue::Pass;
 use no_memory::NoMemory;
 use rail_types::{List, Name};
 use std::alloc::Global;
@@ -32,7 +31,7 @@ pub fn run_batch<R: Threads + Wait + Sync, W: Worker>(
     workers: Vec<W>,
 ) -> Result<Vec<Served<W>>, (Vec<W>, NoMemory)>
     requires some { 1 ≤ length workers.items }
-    requires few { length workers.items ≤ 16 }
+    requires few { length workers.items ≤ MAX_AT_ONCE }
     requires sound { All W.is_sound workers.items }
     requires left { All (λ worker. length todo.now ≤ W.left worker) workers.items }
     requires texts { All W.is_line lines.now }
@@ -61,7 +60,7 @@ pub fn answer_batch<R: Threads + Wait + Sync, W: Worker>(
     room: Room<W>,
 ) -> Vec<Served<W>>
     requires some { 1 ≤ length workers.items }
-    requires few { length workers.items ≤ 16 }
+    requires few { length workers.items ≤ MAX_AT_ONCE }
     requires sound { All W.is_sound workers.items }
     requires left { All (λ worker. length todo.now ≤ W.left worker) workers.items }
     requires texts { All W.is_line lines.now }
@@ -81,30 +80,28 @@ pub fn answer_batch<R: Threads + Wait + Sync, W: Worker>(
     let Some(queue) = queue else {
         return idle(alloc, lines, todo, workers, served);
     };
-    let Queue { line, pass } = queue;
-    answer_all(rt, &line, lines, todo, pass, workers, answers, jobs, served)
+    answer_all(rt, queue, lines, todo, workers, answers, jobs, served)
 }
 
 // All that is to do goes into the queue, and then the workers take it out.
 // There is room for all of it.
 fn answer_all<R: Threads + Wait + Sync, W: Worker>(
     rt: &R,
-    line: &Line,
+    queue: Queue,
     lines: &[Name],
     todo: &[u32],
-    pass: Pass<u32, Hand>,
     workers: Vec<W>,
     rooms: Vec<Vec<(u32, W::Reply)>>,
     jobs: Vec<Job<W>>,
     served: Vec<Served<W>>,
 ) -> Vec<Served<W>>
     requires some { 1 ≤ length workers.items }
-    requires few { length workers.items ≤ 16 }
+    requires few { length workers.items ≤ MAX_AT_ONCE }
     requires sound { All W.is_sound workers.items }
     requires left { All (λ worker. length todo.now ≤ W.left worker) workers.items }
     requires texts { All W.is_line lines.now }
     requires below { All (λ at. at < length lines.now) todo.now }
-    requires pass { IsPassOf line.now pass × (knows pass ≡ hand 1024 [] []) }
+    requires pass { IsPassOf queue.line queue.pass × (knows queue.pass ≡ hand 1024 [] []) }
     requires rooms { length rooms.items ≡ length workers.items }
     requires empty { All (λ room. room.items ≡ []) rooms.items }
     requires room { All (λ room. vec_capacity room ≡ length todo.now) rooms.items }
@@ -114,10 +111,11 @@ fn answer_all<R: Threads + Wait + Sync, W: Worker>(
     ensures served { AreMatched (IsServed W.gives W.left lines.now) workers.items result.items }
     ensures sound { All (λ s. W.is_sound s.worker) result.items }
 {
-    let mut pass = put_all(rt, line, pass, todo);
-    let jobs = split_all(line, &mut pass, todo, workers, rooms, jobs);
-    let jobs = work_all(rt, line, lines, todo, jobs);
-    let served = finish(rt, line, lines, todo, pass, jobs, served);
+    let Queue { line, pass } = queue;
+    let mut pass = put_all(rt, &line, pass, todo);
+    let jobs = split_all(&line, &mut pass, todo, workers, rooms, jobs);
+    let jobs = work_all(rt, &line, lines, todo, jobs);
+    let served = finish(rt, &line, lines, todo, pass, jobs, served);
     served
 }
 

@@ -15,4 +15,4 @@ pub use batches::{answer_batch, run_batch};
 #[doc(hidden)]
 pub use hands::Hand;
 pub use rooms::{Room, room_for};
-pub use workers::{Served, Worker};
+pub use workers::{MAX_AT_ONCE, Served, Worker};

@@ -5,6 +5,7 @@ use Rattle.std.specs.Global.{Global}
 use Rattle.admission_rules.specs.declared.rules.Rule.{Ghosts as Rules}
 use Rattle.batch_command.specs.Journals.{BatchSays, BatchStep}
 use Rattle.batch_command.specs.Works.{ReadsBase as BatchBase, ReadsNetwork as BatchNetwork, ReadsTrains as BatchTrains, batch_calls}
+use Rattle.batch_command.specs.Crews.{crew_of}
 use Rattle.batch_command.specs.Ends.{report_text as batch_text}
 use Rattle.capacity_406.specs.declared.trains.Stretch.{Stretch}
 use Rattle.print_commands.specs.Capacities.{TellsCapacity, stretch_of}
@@ -64,6 +65,9 @@ use Rattle.rail_types.specs.declared.trains.Train.{Train}
 use Rattle.rail_types.specs.Timetables.{Timetable}
 use Rattle.request_server.specs.ServeJournals.{ServeSays, ServeStep}
 use Rattle.request_server.specs.ServeRuns.{EndsRun}
+use Rattle.request_server.specs.Clienteles.{clientele_of}
+use Rattle.served_clients.specs.GivenNames.{given_names}
+use Rattle.served_clients.specs.Kinds.{kinds_of}
 use Rattle.request_server.specs.Works.{ReadsNetwork, ReadsTrains, serve_calls}
 use Rattle.served_clients.specs.Ends.{has_faulty, has_wanting, is_faulty, is_wanting, line_of, report_text, status_behind}
 use Rattle.served_clients.specs.declared.serve_reports.ends.Ends.{Ends}
@@ -160,7 +164,7 @@ module _ {Src Snk Dsk : Type 0} (source : Sources Src) (sink : Sinks Snk) (disk 
   prints : (network base journal out : List ℕ) (Says : Telling)
       → ((history : Register) (refusal : Refusal) → Says history (Err refusal) → IsAnswered (status_of refusal))
       → Ready (print_calls network base journal out) → AreRightWithJournal source disk old network base journal
-      → Good Finished (Prints source sink disk network base journal out Says) old
+      → Good Finished (Prints sink (ReadsHistory source disk network base journal) out Says) old
   prints network base journal out Says own ready right =
       follows source sink disk old new (λ next (h : Register). Now next (sink_at out ∷ the_report ∷ [])) Finished
       (ReadsHistory source disk network base journal) (λ (h : Register). WritesTold sink out Says h) old
@@ -403,7 +407,7 @@ module _ {Src Snk Dsk : Type 0} (source : Sources Src) (sink : Sinks Snk) (disk 
 
     served : (network : NetworkFile) (base : BaseFile) (trains : List Train) (now between : Scene Src Snk Dsk)
         → Now now serve_journal → All (HasLines source old) clients → (ends : Ends)
-        → ServeSays source sink disk kind (files_of network base trains) journal clients proofs rules now between (Ok ends)
+        → ServeSays (kinds_of source sink disk kind) (files_of network base trains) journal (clientele_of clients proofs rules) now between (Ok ends)
         → Served between ends
     served network base trains now between awaits lines ends says stays =
         let serving = says.serving in
@@ -413,18 +417,18 @@ module _ {Src Snk Dsk : Type 0} (source : Sources Src) (sink : Sinks Snk) (disk 
         serving.had serving.served.served)
         serving.ends_are
 
-    serves : (network base trains : List ℕ) → Ready (serve_calls network base trains journal clients proofs)
+    serves : (network base trains : List ℕ) → Ready (serve_calls (given_names network trains base journal) clients proofs)
         → (has : HasTrains source old trains) → AreRightWithJournal source disk old network base journal
         → All (HasLines source old) clients
-        → Good Served (ReadsNetwork source sink disk kind network base trains journal clients proofs rules) old
+        → Good Served (ReadsNetwork (kinds_of source sink disk kind) (given_names network trains base journal) (clientele_of clients proofs rules)) old
     serves network base trains ready has right lines =
-        both Served (λ n b. ReadsTrains source sink disk kind trains journal clients proofs rules n b) network base
+        both Served (λ n b. ReadsTrains (kinds_of source sink disk kind) (given_names network trains base journal) (clientele_of clients proofs rules) n b) network base
         (source_at trains ∷ serve_journal) right.files
-        (awaits_all source sink disk old new (serve_calls network base trains journal clients proofs ++ the_report ∷ []) ready)
+        (awaits_all source sink disk old new (serve_calls (given_names network trains base journal) clients proofs ++ the_report ∷ []) ready)
         (λ next n b is_n is_b now.
         follows source sink disk old new (λ later t. IsTrainFile has.bytes t × Now later serve_journal) Served
         (TrainStep source trains)
-        (λ (t : List Train). ServeStep source sink disk kind (files_of n b t) journal clients proofs rules) next
+        (λ (t : List Train). ServeStep (kinds_of source sink disk kind) (files_of n b t) journal (clientele_of clients proofs rules)) next
         (reads source sink disk old new file.Trains IsTrainFile HasTrainFault next trains has.bytes serve_journal now has.right)
         (λ later t so. record {
           stops = λ between stays refusal step.
@@ -456,17 +460,17 @@ module _ {Src Snk Dsk : Type 0} (source : Sources Src) (sink : Sinks Snk) (disk 
     list_stops : (network : NetworkFile) (base : BaseFile) (trains : List Train) (now between : Scene Src Snk Dsk)
         → Now now batch_journal → HasJournal disk old journal network base → HasLines source old client
         → Stays source sink disk old new between → (refusal : Refusal)
-        → BatchSays source sink disk kind (files_of network base trains) journal client workers rules now between (Err refusal)
+        → BatchSays (kinds_of source sink disk kind) (files_of network base trains) journal (crew_of client workers rules) now between (Err refusal)
         → IsAnswered (status_of refusal)
     list_stops network base trains now between awaits has lines stays refusal (inl refuses) =
-        list_refused source sink disk old new now between stays client lines (first_fine now awaits)
-        (known_by (files_of network base trains)) workers refuses.found refuses.after refusal refuses.declines
+        list_refused source sink disk old new now between stays (crew_of client workers rules) lines (first_fine now awaits)
+        (known_by (files_of network base trains)) refuses.found refuses.after refusal refuses.declines
     list_stops network base trains now between awaits has lines stays refusal (inr stops) =
         wanted refusal (unserved journal (pair_calls client) network base trains now between awaits has stays refusal stops.why)
 
     list_served : (network : NetworkFile) (base : BaseFile) (trains : List Train) (now between : Scene Src Snk Dsk)
         → Now now batch_journal → (ends : Ends)
-        → BatchSays source sink disk kind (files_of network base trains) journal client workers rules now between (Ok ends)
+        → BatchSays (kinds_of source sink disk kind) (files_of network base trains) journal (crew_of client workers rules) now between (Ok ends)
         → Served between ends
     list_served network base trains now between awaits ends says stays =
         let answers = says.answers in
@@ -477,32 +481,32 @@ module _ {Src Snk Dsk : Type 0} (source : Sources Src) (sink : Sinks Snk) (disk 
         answers.snk answers.snk' answers.had.sink outcome.texts outcome.written outcome.writes)
         outcome.ends_are
 
-    lists : (network trains base : List ℕ) → Ready (batch_calls network trains base journal client)
+    lists : (network trains base : List ℕ) → Ready (batch_calls (given_names network trains base journal) client)
         → (has : HasTrains source old trains) → AreRightWithJournal source disk old network base journal
         → HasLines source old client
-        → Good Served (BatchNetwork source sink disk kind network trains base journal client workers rules) old
+        → Good Served (BatchNetwork (kinds_of source sink disk kind) (given_names network trains base journal) (crew_of client workers rules)) old
     lists network trains base ready has right lines =
         let files = right.files in
         follows source sink disk old new
         (λ next n. IsNetworkFile files.network_bytes n × Now next (source_at trains ∷ source_at base ∷ batch_journal))
         Served (NetworkStep source network)
-        (λ (n : NetworkFile). BatchTrains source sink disk kind trains base journal client workers rules n) old
+        (λ (n : NetworkFile). BatchTrains (kinds_of source sink disk kind) (given_names network trains base journal) (crew_of client workers rules) n) old
         (reads source sink disk old new file.Network IsNetworkFile HasNetworkFault old network files.network_bytes
         (source_at trains ∷ source_at base ∷ batch_journal)
-        (awaits_all source sink disk old new (batch_calls network trains base journal client ++ the_report ∷ []) ready)
+        (awaits_all source sink disk old new (batch_calls (given_names network trains base journal) client ++ the_report ∷ []) ready)
         files.network_right)
         (λ one n so.
         follows source sink disk old new
         (λ next t. IsTrainFile has.bytes t × Now next (source_at base ∷ batch_journal))
         Served (TrainStep source trains)
-        (λ (t : List Train). BatchBase source sink disk kind base journal client workers rules n t) one
+        (λ (t : List Train). BatchBase (kinds_of source sink disk kind) (given_names network trains base journal) (crew_of client workers rules) n t) one
         (reads source sink disk old new file.Trains IsTrainFile HasTrainFault one trains has.bytes
         (source_at base ∷ batch_journal) so.1 has.right)
         (λ two t trains_so.
         follows source sink disk old new
         (λ next b. IsBaseFile n.named.network.zones files.base_bytes b × Now next batch_journal)
         Served (BaseStep source n.named.network.zones base)
-        (λ (b : BaseFile). BatchStep source sink disk kind (files_of n b t) journal client workers rules) two
+        (λ (b : BaseFile). BatchStep (kinds_of source sink disk kind) (files_of n b t) journal (crew_of client workers rules)) two
         (reads source sink disk old new file.Base (IsBaseFile n.named.network.zones)
         (HasBaseFault n.named.network.zones) two base files.base_bytes batch_journal trains_so.1 (files.base_right n so.0))
         (λ three b base_so. record {
@@ -617,16 +621,16 @@ answered source sink disk kind handed old new status (Init network base journal 
     (moves source sink disk old new network base journal from u.0 u.1 u.2.0 u.2.1) runs
 answered source sink disk kind handed old new status (Stairs network base journal entry out) u runs =
     runs_good source sink disk old new (print_calls network base journal out)
-    (Prints source sink disk network base journal out (TellsStairs entry)) status
+    (Prints sink (ReadsHistory source disk network base journal) out (TellsStairs entry)) status
     (prints source sink disk old new network base journal out (TellsStairs entry) (stairs_no source sink disk old new entry) u.0 u.1) runs
 answered source sink disk kind handed old new status (Capacity network base journal first last from to out) u runs =
     runs_good source sink disk old new (print_calls network base journal out)
-    (Prints source sink disk network base journal out (TellsCapacity (stretch_of first last from to))) status
+    (Prints sink (ReadsHistory source disk network base journal) out (TellsCapacity (stretch_of first last from to))) status
     (prints source sink disk old new network base journal out (TellsCapacity (stretch_of first last from to))
     (capacity_no source sink disk old new (stretch_of first last from to)) u.0 u.1) runs
 answered source sink disk kind handed old new status (Serve network trains base journal clients proofs rules) u runs =
-    serve_ends source sink disk old new (serve_calls network base trains journal clients proofs) u.0
-    (ReadsNetwork source sink disk kind network base trains journal clients proofs handed)
+    serve_ends source sink disk old new (serve_calls (given_names network trains base journal) clients proofs) u.0
+    (ReadsNetwork (kinds_of source sink disk kind) (given_names network trains base journal) (clientele_of clients proofs handed))
     (serves source sink disk old new kind journal clients proofs handed network base trains u.0 u.1 u.2 u.3)
     runs.between runs.outcome status runs.works runs.keeps runs.ends
 answered source sink disk kind handed old new status (Demo number out) u runs =
@@ -637,8 +641,8 @@ answered source sink disk kind handed old new status (Check network trains base 
     (checks source sink disk old new network trains base journal proof u.0 u.1 u.2)
     runs.between runs.outcome status runs.works runs.keeps runs.ends
 answered source sink disk kind handed old new status (Batch network trains base journal client workers rules) u runs =
-    serve_ends source sink disk old new (batch_calls network trains base journal client) u.0
-    (BatchNetwork source sink disk kind network trains base journal client workers handed)
+    serve_ends source sink disk old new (batch_calls (given_names network trains base journal) client) u.0
+    (BatchNetwork (kinds_of source sink disk kind) (given_names network trains base journal) (crew_of client workers handed))
     (lists source sink disk old new kind journal client workers handed network trains base u.0 u.1 u.2 u.3)
     runs.between runs.outcome status runs.works runs.keeps runs.ends
 answered source sink disk kind handed old new status (Carry network base journal from from_base left) u runs =

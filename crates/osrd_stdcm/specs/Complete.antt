@@ -23,6 +23,7 @@ use Rattle.outside_io.specs.Openings.{disk_at, Opening, source_at, the_report}
 use Rattle.outside_io.specs.declared.disks.Disk.{Ghosts as Disks}
 use Rattle.outside_io.specs.declared.sinks.Sink.{Ghosts as Sinks}
 use Rattle.outside_io.specs.declared.sources.Source.{Ghosts as Sources}
+use Rattle.served_clients.specs.GivenNames.{given_names}
 use Rattle.request_server.specs.Works.{serve_calls}
 use Rattle.osrd_stdcm.specs.Carries.{carry_names}
 use Rattle.osrd_stdcm.specs.Ready.{AreReady, AreRight, HasJournalOf, HasLines, HasOldJournalOf}
@@ -81,7 +82,7 @@ IsUnhindered source sink disk old new (Capacity network base journal first last 
     × AreRightWithJournal source disk old network base journal
 IsUnhindered source sink disk old new (Serve network trains base journal clients proofs rules) =
     AreReady source sink disk old new
-    (serve_calls network base trains journal clients proofs ++ the_report ∷ [])
+    (serve_calls (given_names network trains base journal) clients proofs ++ the_report ∷ [])
     × HasTrains source old trains × AreRightWithJournal source disk old network base journal
     × All (HasLines source old) clients
 IsUnhindered source sink disk old new (Demo number out) =
@@ -92,7 +93,7 @@ IsUnhindered source sink disk old new (Check network trains base journal proof) 
     × HasTrains source old trains × AreRightWithJournal source disk old network base journal
 IsUnhindered source sink disk old new (Batch network trains base journal client workers rules) =
     AreReady source sink disk old new
-    (batch_calls network trains base journal client ++ the_report ∷ [])
+    (batch_calls (given_names network trains base journal) client ++ the_report ∷ [])
     × HasTrains source old trains × AreRightWithJournal source disk old network base journal
     × HasLines source old client
 IsUnhindered source sink disk old new (Carry network base journal from from_base left) =

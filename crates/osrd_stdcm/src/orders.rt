@@ -4,6 +4,7 @@ ghost use Rattle.std.specs.Prelude.{◌≡◌, ◌≢◌, ℕ, List, option_map}
 ghost use Rattle.outside_io.specs.Openings.{Undisturbed};
 ghost use Rattle.command_words.specs.Orders.{IsWithinLimits};
 ghost use Rattle.command_reports.specs.Scenes.{scene};
+ghost use Rattle.served_clients.specs.GivenNames.{given_names, names_in};
 ghost use Rattle.osrd_stdcm.specs.Carries.{carry_names};
 ghost use Rattle.osrd_stdcm.specs.Orders.{HasNoClients, NamesNoDisk, NamesNoLeft, OrderIsDone};
 ghost use Rattle.osrd_stdcm.specs.Orders.{OrderIsRefused, OrderLeaves, OrderSays};
@@ -11,6 +12,7 @@ ghost use Rattle.osrd_stdcm.specs.Orders.{OrderIsRefused, OrderLeaves, OrderSays
 use admission_rules::Rule;
 use admission_rules::client_rules::ClientRules;
 use batch_command::run_batch;
+use capacity_406::Stretch;
 use carry_command::{CarryNames, run_carry};
 use check_command::run_check;
 use command_reports::exit_status::Status;
@@ -22,6 +24,7 @@ use print_commands::capacity_command::run_capacity;
 use print_commands::list_command::run_list;
 use print_commands::stairs_command::run_stairs;
 use request_server::serve_command::run_serve;
+use served_clients::RunNames;
 use std::alloc::AllocGlobal;
 use std::sync::Wait;
 use std::thread::Threads;
@@ -102,18 +105,23 @@ pub(crate) fn obey<R: AllocGlobal + Threads + Wait + Sync, O: Outside, L: Rule +
             from,
             to,
             out,
-        } => run_capacity(
-            alloc,
-            network.as_str(),
-            base.as_str(),
-            journal.as_str(),
-            first,
-            last,
-            from,
-            to,
-            out.as_str(),
-            outside,
-        ),
+        } => {
+            let stretch = Stretch {
+                first,
+                last,
+                from,
+                to,
+            };
+            run_capacity(
+                alloc,
+                network.as_str(),
+                base.as_str(),
+                journal.as_str(),
+                &stretch,
+                out.as_str(),
+                outside,
+            )
+        }
         Order::Serve {
             network,
             trains,
@@ -122,17 +130,17 @@ pub(crate) fn obey<R: AllocGlobal + Threads + Wait + Sync, O: Outside, L: Rule +
             clients,
             proofs,
             ..
-        } => run_serve(
-            rt,
-            network.as_str(),
-            trains.as_str(),
-            base.as_str(),
-            journal.as_str(),
-            clients.as_slice(),
-            proofs.as_slice(),
-            rules,
-            outside,
-        ),
+        } => {
+            let names = run_names_of(&network, &trains, &base, &journal);
+            run_serve(
+                rt,
+                &names,
+                clients.as_slice(),
+                proofs.as_slice(),
+                rules,
+                outside,
+            )
+        }
         Order::Demo { number, out } => run_demo(rt, number, out.as_str(), outside),
         Order::Check {
             network,
@@ -157,17 +165,10 @@ pub(crate) fn obey<R: AllocGlobal + Threads + Wait + Sync, O: Outside, L: Rule +
             client,
             workers,
             ..
-        } => run_batch(
-            rt,
-            network.as_str(),
-            trains.as_str(),
-            base.as_str(),
-            journal.as_str(),
-            &client,
-            workers,
-            rules,
-            outside,
-        ),
+        } => {
+            let names = run_names_of(&network, &trains, &base, &journal);
+            run_batch(rt, &names, &client, workers, rules, outside)
+        }
         Order::Carry {
             network,
             base,
@@ -179,6 +180,23 @@ pub(crate) fn obey<R: AllocGlobal + Threads + Wait + Sync, O: Outside, L: Rule +
             let names = names_of(&network, &base, &journal, &from, &from_base, &left);
             run_carry(alloc, &names, outside)
         }
+    }
+}
+
+// The names of an order that answers the lines of clients.
+fn run_names_of<'a>(
+    network: &'a Text,
+    trains: &'a Text,
+    base: &'a Text,
+    journal: &'a Text,
+) -> RunNames<'a>
+    ensures { names_in result ≡ given_names network.now trains.now base.now journal.now }
+{
+    RunNames {
+        network: network.as_str(),
+        trains: trains.as_str(),
+        base: base.as_str(),
+        journal: journal.as_str(),
     }
 }
 

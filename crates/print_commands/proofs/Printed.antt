@@ -61,7 +61,7 @@ told_keeps sink out Says history old new result works =
 
 -- such a command keeps to its opening calls
 pub print_keeps : {Src Snk Dsk : Type 0} (source : Sources Src) (sink : Sinks Snk) (disk : Disks Dsk) (network base journal out : List ℕ) (Says : Telling) (old new : Scene Src Snk Dsk) (result : Result Status Refusal)
-    → Prints source sink disk network base journal out Says old new result → KeepsTo (print_calls network base journal out) old new result
+    → Prints sink (ReadsHistory source disk network base journal) out Says old new result → KeepsTo (print_calls network base journal out) old new result
 print_keeps source sink disk network base journal out Says old new result works =
     follows_keep (source_at network ∷ source_at base ∷ disk_at journal ∷ []) (sink_at out ∷ []) (ReadsHistory source disk network base journal) (λ (history : Register). WritesTold sink out Says history)
     (history_keeps source disk network base journal) (λ (history : Register). told_keeps sink out Says history) old new result works
@@ -81,7 +81,7 @@ told_clean sink out Says history old new refusal works =
     follows_clean (Tells (Says history)) (λ (bytes : List ℕ). OutStep sink out bytes) (tells_clean (Says history)) (λ bytes before after refused step. step.says.same) old new refusal works
 
 print_clean : {Src Snk Dsk : Type 0} (source : Sources Src) (sink : Sinks Snk) (disk : Disks Dsk) (network base journal out : List ℕ) (Says : Telling) (old new : Scene Src Snk Dsk) (refusal : Refusal)
-    → Prints source sink disk network base journal out Says old new (Err refusal) → Untouched old.sinks new.sinks
+    → Prints sink (ReadsHistory source disk network base journal) out Says old new (Err refusal) → Untouched old.sinks new.sinks
 print_clean source sink disk network base journal out Says old new refusal works =
     follows_clean (ReadsHistory source disk network base journal) (λ (history : Register). WritesTold sink out Says history) (history_sinks source disk network base journal) (λ history. told_clean sink out Says history) old new refusal works
 
@@ -124,7 +124,7 @@ history_read source disk network base journal old new result (inr goes) =
     still_then_read disk (old.disks journal) (goes.between.disks journal) (new.disks journal) (goes.first.only.disks journal) (on_read source disk base journal goes.given goes.between new result goes.next)
 
 print_read : {Src Snk Dsk : Type 0} (source : Sources Src) (sink : Sinks Snk) (disk : Disks Dsk) (network base journal out : List ℕ) (Says : Telling) (old new : Scene Src Snk Dsk) (result : Result Status Refusal)
-    → Prints source sink disk network base journal out Says old new result → WasOnlyRead disk (old.disks journal) (new.disks journal)
+    → Prints sink (ReadsHistory source disk network base journal) out Says old new result → WasOnlyRead disk (old.disks journal) (new.disks journal)
 print_read source sink disk network base journal out Says old new (Ok status) (inl stopped) = absurd stopped
 print_read source sink disk network base journal out Says old new (Err refusal) (inl stopped) = history_read source disk network base journal old new (Err refusal) stopped
 print_read source sink disk network base journal out Says old new result (inr goes) =
@@ -201,7 +201,7 @@ printed_by source sink disk network base journal out Says old between new histor
     )
 
 print_ends : {Src Snk Dsk : Type 0} (source : Sources Src) (sink : Sinks Snk) (disk : Disks Dsk) (network base journal out : List ℕ) (Says : Telling) (old new : Scene Src Snk Dsk) (status : Status)
-    → Prints source sink disk network base journal out Says old new (Ok status) → Ends (IsPrinted source sink disk network base journal out Says old new) status
+    → Prints sink (ReadsHistory source disk network base journal) out Says old new (Ok status) → Ends (IsPrinted source sink disk network base journal out Says old new) status
 print_ends source sink disk network base journal out Says old new status (inl stopped) = absurd stopped
 print_ends source sink disk network base journal out Says old new status (inr goes) =
     printed_by source sink disk network base journal out Says old goes.between new goes.given status goes.first (told_ends sink out Says goes.given goes.between new status goes.next)
@@ -276,7 +276,7 @@ pub record IsAnswered {Src Snk Dsk : Type 0} (source : Sources Src) (disk : Disk
 
 -- what is refused with a status that no file has is refused of the history that was read
 print_refused : {Src Snk Dsk : Type 0} (source : Sources Src) (sink : Sinks Snk) (disk : Disks Dsk) (network base journal out : List ℕ) (Says : Telling) (old new : Scene Src Snk Dsk) (refusal : Refusal) (other : Status) → IsOther other
-    → Prints source sink disk network base journal out Says old new (Err refusal) → status_of refusal ≡ other → IsAnswered source disk network base journal Says refusal old
+    → Prints sink (ReadsHistory source disk network base journal) out Says old new (Err refusal) → status_of refusal ≡ other → IsAnswered source disk network base journal Says refusal old
 print_refused source sink disk network base journal out Says old new refusal other is (inl stopped) same = absurd (history_other source disk network base journal old new refusal other is stopped same)
 print_refused source sink disk network base journal out Says old new refusal other is (inr goes) same = record {
   history = goes.given;
@@ -290,7 +290,7 @@ print_refused source sink disk network base journal out Says old new refusal oth
 -- a command's run
 abbrev RunsPrint : {Src Snk Dsk : Type 0} → Sources Src → Sinks Snk → Disks Dsk → List ℕ → List ℕ → List ℕ → List ℕ → Telling → Scene Src Snk Dsk → Scene Src Snk Dsk → Status → Type 0
 RunsPrint source sink disk network base journal out Says old new status =
-    Runs sink (print_calls network base journal out) (Prints source sink disk network base journal out Says) old new status
+    Runs sink (print_calls network base journal out) (Prints sink (ReadsHistory source disk network base journal) out Says) old new status
 
 -- what was reached holds behind a report of nothing
 reached_done : {S : Type 0} (P : S → Type 0) (between new : S) (reached status : Status) → Ends (P between) reached → status ≡ reached → new ≡ between → status ≡ Done → P new
@@ -308,7 +308,7 @@ answered_never : {Src Snk Dsk A : Type 0} (source : Sources Src) (disk : Disks D
 answered_never source disk network base journal Says refusal old other never same answered = absurd (never answered.history refusal answered.says same)
 
 done_by : {Src Snk Dsk : Type 0} (source : Sources Src) (sink : Sinks Snk) (disk : Disks Dsk) (network base journal out : List ℕ) (Says : Telling) → Never Says Done → (old between new : Scene Src Snk Dsk) (outcome : Result Status Refusal) (status : Status)
-    → Prints source sink disk network base journal out Says old between outcome → EndSays sink between new outcome status → status ≡ Done → IsPrinted source sink disk network base journal out Says old new
+    → Prints sink (ReadsHistory source disk network base journal) out Says old between outcome → EndSays sink between new outcome status → status ≡ Done → IsPrinted source sink disk network base journal out Says old new
 done_by {Src = Src} {Snk = Snk} {Dsk = Dsk} source sink disk network base journal out Says never old between new (Ok reached) status works ends is =
     reached_done (λ (s : Scene Src Snk Dsk). IsPrinted source sink disk network base journal out Says old s) between new reached status (print_ends source sink disk network base journal out Says old between reached works) ends.0 ends.1 is
 done_by source sink disk network base journal out Says never old between new (Err refusal) status works ends is =
@@ -321,7 +321,7 @@ run_done source sink disk network base journal out Says never old new status run
     done_by source sink disk network base journal out Says never old runs.between new runs.outcome status runs.works runs.ends is
 
 clean_by : {Src Snk Dsk : Type 0} (source : Sources Src) (sink : Sinks Snk) (disk : Disks Dsk) (network base journal out : List ℕ) (Says : Telling) (old between new : Scene Src Snk Dsk) (outcome : Result Status Refusal) (status : Status)
-    → Prints source sink disk network base journal out Says old between outcome → EndSays sink between new outcome status → status ≢ Done → status ≢ Report → Untouched old.sinks new.sinks
+    → Prints sink (ReadsHistory source disk network base journal) out Says old between outcome → EndSays sink between new outcome status → status ≢ Done → status ≢ Report → Untouched old.sinks new.sinks
 clean_by source sink disk network base journal out Says old between new (Ok reached) status works ends done part = elim (print_ends source sink disk network base journal out Says old between reached works) [
   | inl is ↦ absurd (done (ends.0 ∙ is.0))
   | inr is ↦ absurd (part (ends.0 ∙ is))
@@ -335,7 +335,7 @@ run_clean source sink disk network base journal out Says old new status runs don
     clean_by source sink disk network base journal out Says old runs.between new runs.outcome status runs.works runs.ends done part
 
 words_by : {Src Snk Dsk : Type 0} (source : Sources Src) (sink : Sinks Snk) (disk : Disks Dsk) (network base journal out : List ℕ) (Says : Telling) → Never Says Words → (old between new : Scene Src Snk Dsk) (outcome : Result Status Refusal) (status : Status)
-    → Prints source sink disk network base journal out Says old between outcome → EndSays sink between new outcome status → status ≢ Words
+    → Prints sink (ReadsHistory source disk network base journal) out Says old between outcome → EndSays sink between new outcome status → status ≢ Words
 words_by source sink disk network base journal out Says never old between new (Ok reached) status works ends is =
     reached_other reached status Words (print_ends source sink disk network base journal out Says old between reached works) ends.0 (λ e. cc) (λ e. cc) is
 words_by source sink disk network base journal out Says never old between new (Err refusal) status works ends is =
@@ -358,7 +358,7 @@ no_refused : {Src Snk Dsk : Type 0} (source : Sources Src) (disk : Disks Dsk) (n
 no_refused source disk network base journal Says refusal old same answered = record { refusal = refusal; status_is = same; answered = answered }
 
 no_by : {Src Snk Dsk : Type 0} (source : Sources Src) (sink : Sinks Snk) (disk : Disks Dsk) (network base journal out : List ℕ) (Says : Telling) (old between new : Scene Src Snk Dsk) (outcome : Result Status Refusal) (status : Status)
-    → Prints source sink disk network base journal out Says old between outcome → EndSays sink between new outcome status → status ≡ No → IsRefused source disk network base journal Says No old
+    → Prints sink (ReadsHistory source disk network base journal) out Says old between outcome → EndSays sink between new outcome status → status ≡ No → IsRefused source disk network base journal Says No old
 no_by source sink disk network base journal out Says old between new (Ok reached) status works ends is =
     reached_other reached status No (print_ends source sink disk network base journal out Says old between reached works) ends.0 (λ e. cc) (λ e. cc) is
 no_by source sink disk network base journal out Says old between new (Err refusal) status works ends is =

@@ -48,13 +48,12 @@ abbrev pub WritesTold : {Src Snk Dsk : Type 0} → Sinks Snk → List ℕ → Te
 WritesTold sink out Says history old new result =
     Follows (Tells (Says history)) (λ (bytes : List ℕ). OutStep sink out bytes) old new result
 
--- the history is read, and what is told of it is written
-abbrev pub Prints : {Src Snk Dsk : Type 0} → Sources Src → Sinks Snk → Disks Dsk → List ℕ → List ℕ
-    → List ℕ → List ℕ → Telling → Scene Src Snk Dsk → Scene Src Snk Dsk
-    → Result Status Refusal → Type 0
-Prints source sink disk network base journal out Says old new result =
-    Follows (ReadsHistory source disk network base journal)
-    (λ (history : Register). WritesTold sink out Says history) old new result
+-- a history is read by this step, and what is told of it is written
+abbrev pub Prints : {Src Snk Dsk : Type 0} → Sinks Snk
+    → (Scene Src Snk Dsk → Scene Src Snk Dsk → Result Register Refusal → Type 0) → List ℕ
+    → Telling → Scene Src Snk Dsk → Scene Src Snk Dsk → Result Status Refusal → Type 0
+Prints sink Reads out Says old new result =
+    Follows Reads (λ (history : Register). WritesTold sink out Says history) old new result
 
 -- the opening calls of such a command, in order: the three files, and what is
 -- written once nothing else refuses

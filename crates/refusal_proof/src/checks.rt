@@ -22,7 +22,7 @@ ghost use Rattle.refusal_proof.specs.Inside.{
   members_of,
 };
 
-use crate::goings::{Going, at_once, going_on};
+use crate::goings::{Departing, at_once, going_on};
 use crate::labels::{Label, labels_of};
 use crate::moves::move_passes;
 use no_memory::NoMemory;
@@ -42,8 +42,7 @@ fn moves_pass(
     book: &Occupations,
     request: &Request,
     labels: &[Label],
-    going: &Going,
-    place: &Place,
+    departing: &Departing<'_>,
     moves: &[Move],
 ) -> Result<bool, NoMemory>
     requires flawless { first_flaw net.now ≡ None }
@@ -51,17 +50,15 @@ fn moves_pass(
     requires zones { length book.now ≡ net.now.zones }
     requires request { IsRequestWithinLimits request.now }
     requires order { AllPairs ReachesLess labels.now }
-    requires going { All (IsClaimIn (length book.now)) going.now.claims }
-    requires place { IsPlaceIn net.now settings.now request.now.train place.now }
-    requires made { place.now.made < 2 ^ 31 }
+    requires going { All (IsClaimIn (length book.now)) departing.now.going.now.claims }
+    requires place { IsPlaceIn net.now settings.now request.now.train departing.now.place.now }
+    requires made { departing.now.place.now.made < 2 ^ 31 }
     requires steps { All (λ one. one.step.block < length net.now.blocks) moves.now }
     ensures { IfOk result (λ yes. IsTrue yes ↔ All (MovePasses net.now settings.now request.now
-        (held book.now) labels.now going.now place.now) moves.now) }
+        (held book.now) labels.now departing.now.going.now departing.now.place.now) moves.now) }
 {
     for one in moves {
-        if !move_passes(
-            alloc, net, settings, book, request, labels, going, place, one,
-        )? {
+        if !move_passes(alloc, net, settings, book, request, labels, departing, one)? {
             return Ok(false);
         }
     }
@@ -94,8 +91,12 @@ fn starts_pass(
     let start = Place::start(alloc);
     let going = at_once(alloc, &request.depart);
     let moves = places.starts();
+    let departing = Departing {
+        place: &start,
+        going: &going,
+    };
     let passes = moves_pass(
-        alloc, net, settings, book, request, labels, &going, &start, moves,
+        alloc, net, settings, book, request, labels, &departing, moves,
     )?;
     Ok(passes)
 }
@@ -128,8 +129,12 @@ fn label_passes(
     let place = places.place(label.number);
     let going = going_on(alloc, net, settings, book, request, place, &label.window)?;
     let moves = places.moves(label.number);
+    let departing = Departing {
+        place,
+        going: &going,
+    };
     let passes = moves_pass(
-        alloc, net, settings, book, request, labels, &going, place, moves,
+        alloc, net, settings, book, request, labels, &departing, moves,
     )?;
     Ok(passes)
 }

@@ -31,6 +31,13 @@ pub(crate) struct Going {
     pub(crate) second: Window,
 }
 
+/// A place from which a train goes on, and when it may.
+#[derive(Clone, Copy)]
+pub(crate) struct Departing<'a> {
+    pub(crate) place: &'a Place,
+    pub(crate) going: &'a Going,
+}
+
 /// Puts zones that are kept over a span behind the claims.
 pub(crate) fn push_kept(claims: &mut Vec<Claim>, zones: &[u32], span: &Span) -> Result<(), NoMemory>
     ensures { OnOk result (claims.new.items

@@ -24,7 +24,7 @@ ghost use Rattle.refusal_proof.specs.Inside.{
 };
 
 use crate::frees::first_free;
-use crate::goings::{Going, push_kept};
+use crate::goings::{Departing, push_kept};
 use crate::labels::{Label, covered};
 use no_memory::NoMemory;
 use occupation_book::Occupations;
@@ -213,8 +213,7 @@ pub(crate) fn move_passes(
     book: &Occupations,
     request: &Request,
     labels: &[Label],
-    going: &Going,
-    place: &Place,
+    departing: &Departing<'_>,
     one: &Move,
 ) -> Result<bool, NoMemory>
     requires flawless { first_flaw net.now ≡ None }
@@ -222,15 +221,16 @@ pub(crate) fn move_passes(
     requires zones { length book.now ≡ net.now.zones }
     requires request { IsRequestWithinLimits request.now }
     requires order { AllPairs ReachesLess labels.now }
-    requires going { All (IsClaimIn (length book.now)) going.now.claims }
-    requires place { IsPlaceIn net.now settings.now request.now.train place.now }
-    requires made { place.now.made < 2 ^ 31 }
+    requires going { All (IsClaimIn (length book.now)) departing.now.going.now.claims }
+    requires place { IsPlaceIn net.now settings.now request.now.train departing.now.place.now }
+    requires made { departing.now.place.now.made < 2 ^ 31 }
     requires step { one.now.step.block < length net.now.blocks }
     ensures { IfOk result (λ yes. IsTrue yes ↔ MovePasses net.now settings.now request.now
-        (held book.now) labels.now going.now place.now one.now) }
+        (held book.now) labels.now departing.now.going.now departing.now.place.now one.now) }
 {
     pieces_are_claims();
-    let taking = taking_of(alloc, net, settings, request, place, one)?;
+    let going = departing.going;
+    let taking = taking_of(alloc, net, settings, request, departing.place, one)?;
     let arrive = &request.arrive;
     let own = taking.claims.as_slice();
     if !passes(&taking, own, settings, book, arrive, labels, &going.second) {

@@ -1,9 +1,6 @@
 -- The steps of `serve`, and what a run of it leaves alone.
-use Rattle.std.proofs.Common.{◌∙◌, ℕ, List, [], ◌∷◌, Result, Ok, Err}
-use Rattle.outside_io.specs.Openings.{source_at, disk_at, Undisturbed}
-use Rattle.outside_io.specs.declared.disks.Disk.{Ghosts as Disks}
-use Rattle.outside_io.specs.declared.sinks.Sink.{Ghosts as Sinks}
-use Rattle.outside_io.specs.declared.sources.Source.{Ghosts as Sources}
+use Rattle.std.proofs.Common.{◌∙◌, List, [], ◌∷◌, Result, Ok, Err}
+use Rattle.outside_io.specs.Openings.{Opening, source_at, disk_at, Undisturbed}
 use Rattle.command_reports.specs.declared.exit_status.Status.{Status}
 use Rattle.command_reports.specs.Scenes.{Scene}
 use Rattle.command_reports.specs.Works.{KeepsTo}
@@ -14,42 +11,45 @@ use Rattle.command_files.specs.declared.bases.BaseFile.{BaseFile}
 use Rattle.command_files.specs.declared.files.FileKind.TheVariants as kind
 use Rattle.command_files.specs.declared.networks.NetworkFile.{NetworkFile}
 use Rattle.command_files.proofs.Kept.{file_keeps}
-use Rattle.admission_rules.specs.declared.rules.Rule.{Ghosts as Rules}
-use Rattle.admission_rules.specs.declared.client_rules.clients.ClientRules.{ClientRules}
 use Rattle.request_server.specs.PlannedClients.{client_calls}
-use Rattle.command_line.specs.declared.client_words.clients.ClientWord.{ClientWord}
-use Rattle.command_line.specs.declared.proof_words.proofs.ProofWord.{ProofWord}
 use Rattle.rail_types.specs.declared.trains.Train.{Train}
 use Rattle.served_clients.specs.declared.serve_reports.ends.Ends.{Ends}
 use Rattle.request_server.specs.ServeJournals.{ServeStep}
 use Rattle.request_server.specs.ServeRuns.{EndsRun, RunsServe}
 use Rattle.request_server.specs.Works.{ReadsBase, ReadsNetwork, ReadsTrains, serve_calls}
 use Rattle.served_clients.specs.Files.{files_of}
+use Rattle.request_server.specs.Clienteles.{Clientele}
+use Rattle.served_clients.specs.GivenNames.{GivenNames}
+use Rattle.served_clients.specs.Kinds.{Kinds}
 
-module _ {Src Snk Dsk L : Type 0} (source : Sources Src) (sink : Sinks Snk) (disk : Disks Dsk) (rule_kind : Rules L) (journal : List ℕ) (clients : List ClientWord) (proofs : List ProofWord) (rules : List (ClientRules L)) where
-  trains_keep : (trains : List ℕ) (network : NetworkFile) (base : BaseFile) (old new : Scene Src Snk Dsk) (result : Result Ends Refusal) → ReadsTrains source sink disk rule_kind trains journal clients proofs rules network base old new result
-      → KeepsTo (source_at trains ∷ disk_at journal ∷ client_calls clients proofs) old new result
-  trains_keep trains network base old new result works =
-      follows_keep (source_at trains ∷ []) (disk_at journal ∷ client_calls clients proofs) (TrainStep source trains) (λ (read : List Train). ServeStep source sink disk rule_kind (files_of network base read) journal clients proofs rules)
-      (file_keeps kind.Trains source trains IsTrainFile HasTrainFault) (λ read before after ended step. step.only) old new result works
+module _ {Src Snk Dsk L : Type 0} (kinds : Kinds Src Snk Dsk L) (names : GivenNames) (clientele : Clientele L) where
+  -- the opening calls behind that of the journal
+  abbrev calls : List Opening
+  calls = client_calls clientele.clients clientele.proofs
 
-  base_keeps : (base trains : List ℕ) (network : NetworkFile) (old new : Scene Src Snk Dsk) (result : Result Ends Refusal) → ReadsBase source sink disk rule_kind base trains journal clients proofs rules network old new result
-      → KeepsTo (source_at base ∷ source_at trains ∷ disk_at journal ∷ client_calls clients proofs) old new result
-  base_keeps base trains network old new result works =
-      follows_keep (source_at base ∷ []) (source_at trains ∷ disk_at journal ∷ client_calls clients proofs) (BaseStep source network.named.network.zones base) (λ (file : BaseFile). ReadsTrains source sink disk rule_kind trains journal clients proofs rules network file)
-      (file_keeps kind.Base source base (IsBaseFile network.named.network.zones) (HasBaseFault network.named.network.zones)) (λ file. trains_keep trains network file) old new result works
+  trains_keep : (network : NetworkFile) (base : BaseFile) (old new : Scene Src Snk Dsk) (result : Result Ends Refusal) → ReadsTrains kinds names clientele network base old new result
+      → KeepsTo (source_at names.trains ∷ disk_at names.journal ∷ calls) old new result
+  trains_keep network base old new result works =
+      follows_keep (source_at names.trains ∷ []) (disk_at names.journal ∷ calls) (TrainStep kinds.source names.trains) (λ (read : List Train). ServeStep kinds (files_of network base read) names.journal clientele)
+      (file_keeps kind.Trains kinds.source names.trains IsTrainFile HasTrainFault) (λ read before after ended step. step.only) old new result works
+
+  base_keeps : (network : NetworkFile) (old new : Scene Src Snk Dsk) (result : Result Ends Refusal) → ReadsBase kinds names clientele network old new result
+      → KeepsTo (source_at names.base ∷ source_at names.trains ∷ disk_at names.journal ∷ calls) old new result
+  base_keeps network old new result works =
+      follows_keep (source_at names.base ∷ []) (source_at names.trains ∷ disk_at names.journal ∷ calls) (BaseStep kinds.source network.named.network.zones names.base) (λ (file : BaseFile). ReadsTrains kinds names clientele network file)
+      (file_keeps kind.Base kinds.source names.base (IsBaseFile network.named.network.zones) (HasBaseFault network.named.network.zones)) (λ file. trains_keep network file) old new result works
 
   -- the work of `serve` keeps to its opening calls
-  pub works_keep : (network base trains : List ℕ) (old new : Scene Src Snk Dsk) (result : Result Ends Refusal) → ReadsNetwork source sink disk rule_kind network base trains journal clients proofs rules old new result
-      → KeepsTo (serve_calls network base trains journal clients proofs) old new result
-  works_keep network base trains old new result works =
-      follows_keep (source_at network ∷ []) (source_at base ∷ source_at trains ∷ disk_at journal ∷ client_calls clients proofs) (NetworkStep source network) (λ (file : NetworkFile). ReadsBase source sink disk rule_kind base trains journal clients proofs rules file)
-      (file_keeps kind.Network source network IsNetworkFile HasNetworkFault) (λ file. base_keeps base trains file) old new result works
+  pub works_keep : (old new : Scene Src Snk Dsk) (result : Result Ends Refusal) → ReadsNetwork kinds names clientele old new result
+      → KeepsTo (serve_calls names clientele.clients clientele.proofs) old new result
+  works_keep old new result works =
+      follows_keep (source_at names.network ∷ []) (source_at names.base ∷ source_at names.trains ∷ disk_at names.journal ∷ calls) (NetworkStep kinds.source names.network) (λ (file : NetworkFile). ReadsBase kinds names clientele file)
+      (file_keeps kind.Network kinds.source names.network IsNetworkFile HasNetworkFault) (λ file. base_keeps file) old new result works
 
-  ends_back : (old new : Scene Src Snk Dsk) (outcome : Result Ends Refusal) (status : Status) → EndsRun sink old new outcome status → Undisturbed old.standing new.standing
+  ends_back : (old new : Scene Src Snk Dsk) (outcome : Result Ends Refusal) (status : Status) → EndsRun kinds.sink old new outcome status → Undisturbed old.standing new.standing
   ends_back old new (Ok ends) status said = said.only.standing
   ends_back old new (Err refusal) status said = said.reports.only.standing
 
   -- whatever came, all that was opened is put back
-  pub serve_back : (network base trains : List ℕ) (old new : Scene Src Snk Dsk) (status : Status) → RunsServe source sink disk rule_kind network base trains journal clients proofs rules old new status → Undisturbed old.standing new.standing
-  serve_back network base trains old new status runs = λ call. ends_back runs.between new runs.outcome status runs.ends call ∙ runs.keeps.keeps.standing call
+  pub serve_back : (old new : Scene Src Snk Dsk) (status : Status) → RunsServe kinds names clientele old new status → Undisturbed old.standing new.standing
+  serve_back old new status runs = λ call. ends_back runs.between new runs.outcome status runs.ends call ∙ runs.keeps.keeps.standing call

@@ -1,6 +1,7 @@
 pub mod Runs
 pub mod Jobs
 pub mod PlannedClients
+pub mod Clienteles
 pub mod ServeRuns
 pub mod Works
 pub mod ServeJournals

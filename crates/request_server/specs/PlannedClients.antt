@@ -7,6 +7,7 @@ use Rattle.served_clients.specs.StreamClients.{AreDistinct, IsFit, stream_calls,
 use Rattle.served_clients.specs.Lending.{Loan}
 use Rattle.served_clients.specs.declared.client_streams.streams.ClientStreams.{ClientStreams}
 use Rattle.command_line.specs.declared.client_words.clients.ClientWord.{ClientWord}
+use Rattle.command_line.specs.declared.client_words.clients.TheConstants.{MAX_CLIENTS}
 use Rattle.line_sessions.specs.declared.proofs.Proofs.{Proofs}
 use Rattle.line_sessions.specs.declared.proofs.Proofs.TheVariants.{Unwanted, To}
 use Rattle.command_line.specs.Proofs.{proof_of}
@@ -21,11 +22,11 @@ client_calls [] proofs = []
 client_calls (client ∷ clients) proofs =
     stream_calls client (proof_of proofs client.client) ++ client_calls clients proofs
 
--- 1 to 16 clients, with names of clients, whose names are distinct, and so are the names of all
--- that is opened for them: their inputs, and their outputs and files together
+-- 1 to `MAX_CLIENTS` clients, with names of clients, whose names are distinct, and so are the names
+-- of all that is opened for them: their inputs, and their outputs and files together
 pub record AreClients (clients : List ClientWord) (proofs : List ProofWord) : Type 0 where
   pub some : 1 ≤ length clients
-  pub few : length clients ≤ 16
+  pub few : length clients ≤ MAX_CLIENTS
   pub named : All (λ client. IsClientName client.client) clients
   pub names : AllPairs (λ one other. one.client ≢ other.client) clients
   pub calls : AreDistinct (client_calls clients proofs)

@@ -8,9 +8,8 @@ use Rattle.served_clients.specs.Seats.{IsDone}
 use Rattle.served_clients.specs.Talks.{Talk}
 use Rattle.served_clients.specs.declared.client_seats.seats.Seat.{Seat}
 use Rattle.line_answers.specs.declared.shared.Shared.{Shared}
-use Rattle.line_sessions.specs.Ends.{Passes, Streams}
+use Rattle.line_sessions.specs.Ends.{Passes, Scene, Streams}
 use Rattle.line_sessions.specs.Proofs.{is_wanted}
-use Rattle.line_sessions.specs.declared.proofs.Proofs.{Proofs}
 use Rattle.line_sessions.specs.declared.sessions.Ended.{Ended}
 use Rattle.served_clients.specs.book.Ledgers.{Ledger}
 use Rattle.rail_types.specs.declared.entries.Entry.{Entry}
@@ -22,14 +21,15 @@ use Rattle.served_clients.specs.declared.plans.Session.{Session}
 -- the end, each reply is what a beginning of the history gives, and the rules were told its own
 -- entries that the replies print.
 pub record IsSession {D Src Snk Btw L : Type 0} (kind : Rules L) (shared : Shared D)
-    (streams : Streams Src Snk) (ended : Ended) (seat seat' : Seat D Btw L)
-    (source source' : Src) (sink sink' : Snk) (proofs proofs' : Proofs Snk) : Type 0 where
+    (streams : Streams Src Snk) (ended : Ended) (old new : Scene (Seat D Btw L) Src Snk)
+    : Type 0 where
   pub talk : Talk
-  pub name : talk.name ≡ seat.client.name
-  pub rules : talk.rules ≡ stand kind seat.rules.items
-  pub proves : talk.proves ≡ is_wanted proofs
-  pub passes : Passes streams ended talk.traffic source source' sink sink' proofs proofs'
-  pub done : IsDone kind shared seat' talk
+  pub name : talk.name ≡ old.desk.client.name
+  pub rules : talk.rules ≡ stand kind old.desk.rules.items
+  pub proves : talk.proves ≡ is_wanted old.proofs
+  pub passes : Passes streams ended talk.traffic
+      old.source new.source old.sink new.sink old.proofs new.proofs
+  pub done : IsDone kind shared new.desk talk
 
 -- The client of this plan was served so: this passed in its session, whose end its
 -- streams show. Proofs went along with its replies where it wants them. Its rules were

@@ -1,9 +1,5 @@
 -- The run of `serve`.
-use Rattle.std.specs.Prelude.{◌≡◌, ℕ, All, List, Result, Ok, Err}
-use Rattle.admission_rules.specs.declared.rules.Rule.{Ghosts as Rules}
-use Rattle.admission_rules.specs.declared.client_rules.clients.ClientRules.{ClientRules}
-use Rattle.command_line.specs.declared.client_words.clients.ClientWord.{ClientWord}
-use Rattle.command_line.specs.declared.proof_words.proofs.ProofWord.{ProofWord}
+use Rattle.std.specs.Prelude.{◌≡◌, All, List, Result, Ok, Err}
 use Rattle.command_files.specs.Files.{BaseStep, NetworkStep, TrainStep}
 use Rattle.command_files.specs.declared.bases.BaseFile.{BaseFile}
 use Rattle.command_files.specs.declared.networks.NetworkFile.{NetworkFile}
@@ -14,14 +10,15 @@ use Rattle.command_reports.specs.declared.exit_status.Status.{Status}
 use Rattle.command_reports.specs.Scenes.{ChangesOnlyReport, Scene}
 use Rattle.command_reports.specs.Writing.{ReportSays}
 use Rattle.line_sessions.specs.declared.sessions.Why.TheVariants.{Input}
-use Rattle.outside_io.specs.declared.disks.Disk.{Ghosts as Disks}
 use Rattle.outside_io.specs.declared.sinks.Sink.{Ghosts as Sinks}
-use Rattle.outside_io.specs.declared.sources.Source.{Ghosts as Sources}
 use Rattle.rail_types.specs.declared.trains.Train.{Train}
 use Rattle.served_clients.specs.Ends.{EndsSay, report_text}
 use Rattle.served_clients.specs.declared.serve_reports.ends.Ends.{Ends}
 use Rattle.request_server.specs.Works.{ReadsNetwork, serve_calls}
+use Rattle.request_server.specs.Clienteles.{Clientele}
 use Rattle.served_clients.specs.Files.{files_of}
+use Rattle.served_clients.specs.GivenNames.{GivenNames}
+use Rattle.served_clients.specs.Kinds.{Kinds}
 use Rattle.request_server.specs.ServeJournals.{Serves}
 
 -- what is reported at the end: the ends of the clients, or what refused
@@ -32,23 +29,18 @@ EndsRun sink old new (Err refusal) status = TellsRefusal sink refusal old new st
 
 -- The files were read, the journal was opened, the clients were served, and this was reported: in
 -- this order, each name opened once, and all put back.
-pub record RunsServe {Src Snk Dsk L : Type 0} (source : Sources Src) (sink : Sinks Snk)
-    (disk : Disks Dsk) (kind : Rules L) (network base trains journal : List ℕ)
-    (clients : List ClientWord) (proofs : List ProofWord) (rules : List (ClientRules L))
-    (old new : Scene Src Snk Dsk) (status : Status) : Type 0 where
+pub record RunsServe {Src Snk Dsk L : Type 0} (kinds : Kinds Src Snk Dsk L) (names : GivenNames)
+    (clientele : Clientele L) (old new : Scene Src Snk Dsk) (status : Status) : Type 0 where
   pub between : Scene Src Snk Dsk
   pub outcome : Result Ends Refusal
-  pub works : ReadsNetwork source sink disk kind network base trains journal clients proofs
-      rules old between outcome
-  pub keeps : KeepsTo (serve_calls network base trains journal clients proofs) old between outcome
-  pub ends : EndsRun sink between new outcome status
+  pub works : ReadsNetwork kinds names clientele old between outcome
+  pub keeps : KeepsTo (serve_calls names clientele.clients clientele.proofs) old between outcome
+  pub ends : EndsRun kinds.sink between new outcome status
 
 -- All was done: the files were read, the journal was opened, the clients were served over it, the
 -- input of each was read to its end, and a line for each and for each of its rules was reported.
-pub record IsServed {Src Snk Dsk L : Type 0} (source : Sources Src) (sink : Sinks Snk)
-    (disk : Disks Dsk) (kind : Rules L) (network base trains journal : List ℕ)
-    (clients : List ClientWord) (proofs : List ProofWord) (rules : List (ClientRules L))
-    (old new : Scene Src Snk Dsk) : Type 0 where
+pub record IsServed {Src Snk Dsk L : Type 0} (kinds : Kinds Src Snk Dsk L) (names : GivenNames)
+    (clientele : Clientele L) (old new : Scene Src Snk Dsk) : Type 0 where
   pub network_file : NetworkFile
   pub base_file : BaseFile
   pub train_list : List Train
@@ -56,12 +48,14 @@ pub record IsServed {Src Snk Dsk L : Type 0} (source : Sources Src) (sink : Sink
   pub second : Scene Src Snk Dsk
   pub third : Scene Src Snk Dsk
   pub fourth : Scene Src Snk Dsk
-  pub read_network : NetworkStep source network old first (Ok network_file)
-  pub read_base : BaseStep source network_file.named.network.zones base first second (Ok base_file)
-  pub read_trains : TrainStep source trains second third (Ok train_list)
+  pub read_network : NetworkStep kinds.source names.network old first (Ok network_file)
+  pub read_base :
+      BaseStep kinds.source network_file.named.network.zones names.base first second (Ok base_file)
+  pub read_trains : TrainStep kinds.source names.trains second third (Ok train_list)
   pub ends : Ends
-  pub serves : Serves source sink disk kind (files_of network_file base_file train_list) journal
-      clients proofs rules third fourth ends
+  pub serves : Serves kinds (files_of network_file base_file train_list) names.journal clientele
+      third fourth ends
   pub inputs : All (λ session. session.ended.why ≡ Input) serves.serving.sessions
-  pub told : ReportSays sink (report_text kind serves.serving.sessions) fourth new (Ok tt)
+  pub told : ReportSays kinds.sink (report_text kinds.rule serves.serving.sessions)
+      fourth new (Ok tt)
   pub only : ChangesOnlyReport fourth new

@@ -1,24 +1,21 @@
 -- What clients that are served over a journal come to.
 use Rattle.std.specs.Prelude.{◌≡◌, All, List, map, Result, Ok, Err}
-use Rattle.admission_rules.specs.declared.rules.Rule.{Ghosts as Rules}
 use Rattle.client_lines.specs.Names.{Names}
 use Rattle.admission_rules.specs.Clients.{rules_named}
-use Rattle.admission_rules.specs.declared.client_rules.clients.ClientRules.{ClientRules}
 use Rattle.request_server.specs.PlannedClients.{client_calls, returned_of, streams_of}
 use Rattle.served_clients.specs.StreamClients.{HadStreams}
 use Rattle.served_clients.specs.Refusing.{IsOpen}
-use Rattle.command_line.specs.declared.client_words.clients.ClientWord.{ClientWord}
 use Rattle.command_line.specs.Proofs.{proof_of}
-use Rattle.command_line.specs.declared.proof_words.proofs.ProofWord.{ProofWord}
 use Rattle.command_reports.specs.declared.refusals.Refusal.{Refusal}
 use Rattle.command_reports.specs.Scenes.{Scene}
 use Rattle.line_sessions.specs.Ends.{streams, Streams}
-use Rattle.outside_io.specs.declared.disks.Disk.{Ghosts as Disks}
 use Rattle.outside_io.specs.declared.sinks.Sink.{Ghosts as Sinks}
 use Rattle.outside_io.specs.declared.sources.Source.{Ghosts as Sources}
 use Rattle.served_clients.specs.book.Footings.{footing_of}
 use Rattle.served_clients.specs.book.Ledgers.{Ledger}
 use Rattle.served_clients.specs.ClientRuns.{AreMatched}
+use Rattle.request_server.specs.Clienteles.{Clientele}
+use Rattle.served_clients.specs.Kinds.{Kinds}
 use Rattle.request_server.specs.Runs.{WereServed}
 use Rattle.outside_io.specs.declared.betweens.NoBetween.{NoBetween}
 use Rattle.served_clients.specs.declared.plans.Plan.{Plan}
@@ -38,31 +35,30 @@ streams_by source sink = streams source.left source.faults sink.held sink.faults
 -- of a client where one of the proofs names it, into the file of the first that does. The rules of
 -- a client are those in the elements with its name, in order. These are the ends of their sessions.
 -- The plans are told without what happens between searches, on which nothing that is told depends.
-pub record IsServing {Src Snk Dsk L : Type 0} (source : Sources Src) (sink : Sinks Snk)
-    (disk : Disks Dsk) (kind : Rules L) (known : Names) (clients : List ClientWord)
-    (proofs : List ProofWord) (rules : List (ClientRules L)) (found : Ledger Dsk) (after : Dsk)
-    (old new : Scene Src Snk Dsk) (ends : Ends) : Type 0 where
+pub record IsServing {Src Snk Dsk L : Type 0} (kinds : Kinds Src Snk Dsk L) (known : Names)
+    (clientele : Clientele L) (found : Ledger Dsk) (after : Dsk) (old new : Scene Src Snk Dsk)
+    (ends : Ends) : Type 0 where
   pub left : Ledger Dsk
   pub plans : List (Plan Src Snk NoBetween L)
   pub sessions : List (Session Src Snk L)
-  pub opens : All (IsOpen old.standing) (client_calls clients proofs)
+  pub opens : All (IsOpen old.standing) (client_calls clientele.clients clientele.proofs)
   pub quiet : new.faults ≡ old.faults
-  pub names : map (λ plan. plan.name) plans ≡ map (λ client. client.client) clients
+  pub names : map (λ plan. plan.name) plans ≡ map (λ client. client.client) clientele.clients
   pub given : map (λ plan. plan.rules.items) plans
-      ≡ map (λ client. rules_named client.client rules) clients
+      ≡ map (λ client. rules_named client.client clientele.rules) clientele.clients
   pub had : AreMatched
-      (λ client plan session. HadStreams old new client (proof_of proofs client.client)
-      (streams_of plan) (returned_of session)) clients plans sessions
-  pub served : WereServed kind disk.faults (streams_by source sink) known found left plans sessions
+      (λ client plan session. HadStreams old new client (proof_of clientele.proofs client.client)
+      (streams_of plan) (returned_of session)) clientele.clients plans sessions
+  pub served : WereServed kinds.rule kinds.disk.faults (streams_by kinds.source kinds.sink) known
+      found left plans sessions
   pub footing : footing_of left ≡ footing_of found
-  pub closed : IsClosed disk left after
-  pub ends_are : IsEnds kind sessions ends
+  pub closed : IsClosed kinds.disk left after
+  pub ends_are : IsEnds kinds.rule sessions ends
 
 -- what is said of a book over which clients are served
-abbrev pub BookSays : {Src Snk Dsk L : Type 0} → Sources Src → Sinks Snk → Disks Dsk → Rules L
-    → Names → List ClientWord → List ProofWord → List (ClientRules L) → Ledger Dsk → Dsk
-    → Scene Src Snk Dsk → Scene Src Snk Dsk → Result Ends Refusal → Type 0
-BookSays source sink disk kind known clients proofs rules found after old new (Ok ends) =
-    IsServing source sink disk kind known clients proofs rules found after old new ends
-BookSays source sink disk kind known clients proofs rules found after old new (Err refusal) =
-    IsUnserved (client_calls clients proofs) found after old new refusal
+abbrev pub BookSays : {Src Snk Dsk L : Type 0} → Kinds Src Snk Dsk L → Names → Clientele L
+    → Ledger Dsk → Dsk → Scene Src Snk Dsk → Scene Src Snk Dsk → Result Ends Refusal → Type 0
+BookSays kinds known clientele found after old new (Ok ends) =
+    IsServing kinds known clientele found after old new ends
+BookSays kinds known clientele found after old new (Err refusal) =
+    IsUnserved (client_calls clientele.clients clientele.proofs) found after old new refusal

@@ -36,7 +36,8 @@ pub fn serve_client<'a, R: Wait, D: Disk, S: Source, T: Sink, B: Between + Drop,
         (scene seat.new source.new sink.new proofs.new) }
     // By what the pass of the seat has seen at the end, the session is one with the history.
     ensures session { IsSession L.Rule shared.now (streams S.left S.faults T.held T.faults) result
-        seat.old seat.new source.old source.new sink.old sink.new proofs.old proofs.new }
+        (scene seat.old source.old sink.old proofs.old)
+        (scene seat.new source.new sink.new proofs.new) }
 {
     serve_lines(rt, alloc, seat, source, sink, proofs)
 }

@@ -6,7 +6,9 @@ ghost use Rattle.std.specs.Prelude.{vec_len, vec_capacity};
 ghost use Rattle.served_clients.specs.gate.Passes.{view};
 ghost use Rattle.served_clients.specs.gate.Views.{StartsWith};
 ghost use Rattle.client_lines.specs.Within.{AreSound};
+ghost use Rattle.command_line.specs.declared.client_words.clients.TheConstants.{MAX_CLIENTS};
 ghost use Rattle.served_clients.specs.Gates.{IsHost, IsNewcomer};
+ghost use Rattle.served_clients.specs.declared.client_seats.gates.TheConstants.{TURNS};
 ghost use Rattle.served_clients.specs.Joins.{AreJoined};
 ghost use Rattle.served_clients.specs.ClientRuns.{AreMatched};
 ghost use Rattle.served_clients.specs.Seats.{found_at, IsBack};
@@ -26,6 +28,7 @@ use crate::clients::serve_client;
 use crate::jobs::Job;
 use admission_rules::Rule;
 use client_lines::Known;
+use command_line::client_words::MAX_CLIENTS;
 use line_answers::Shared;
 use line_sessions::{Ended, Why};
 use no_memory::NoMemory;
@@ -59,7 +62,7 @@ pub fn serve_clients<
     plans: Vec<Plan<S, T, B, L>>,
 ) -> Result<(Book<D>, Vec<Session<S, T, L>>), (Book<D>, Vec<Plan<S, T, B, L>>, NoMemory)>
     requires some { 1 ≤ length plans.items }
-    requires few { length plans.items ≤ 16 }
+    requires few { length plans.items ≤ MAX_CLIENTS }
     requires named { All (λ p. IsClientName p.name) plans.items }
     requires names { AllPairs (λ a b. a.name ≢ b.name) plans.items }
     requires settled { settled_of book ≡ length book.entries }
@@ -120,7 +123,7 @@ fn seat_all<'a, D: Disk, S: Source + Drop, T: Sink + Drop, B: Between + Drop, L:
 ) -> Vec<Job<'a, D, S, T, B, L>>
     requires shared { IsShared shared.now }
     requires host { IsHost shared.now pass.old }
-    requires share { (view pass.old).share ≡ length plans.items * 400000 + 1 }
+    requires share { (view pass.old).share ≡ length plans.items * TURNS + 1 }
     requires names { map (λ n. n.client.name) newcomers.items ≡ map (λ p. p.name) plans.items }
     requires newcomers { All (λ n. IsNewcomer (timetable_at shared.now.gate)
         (found_at shared.now.gate) n.client.name n) newcomers.items }
@@ -213,7 +216,7 @@ fn serve_each<
     thread::for_each_mut(
         rt,
         jobs,
-        16,
+        MAX_CLIENTS,
         &|_, job| { serve_job(rt, alloc, shared, job) },
     );
 }
@@ -253,7 +256,7 @@ fn join_all<'a, D: Disk, S: Source + Drop, T: Sink + Drop, B: Between + Drop, L:
     requires room { vec_len jobs ≤ vec_capacity sessions }
     ensures ready { IsReady shared.now.gate pass.new }
     ensures share { (view pass.new).share
-        ≡ (view pass.old).share + length jobs.entry.items * 400000 }
+        ≡ (view pass.old).share + length jobs.entry.items * TURNS }
     ensures joined { (clients : _) (talks : List talk_type) → AreMatched
         (IsDoneJob L.Rule shared.now (streams S.left S.faults T.held T.faults))
         clients (reverse jobs.entry.items) talks

@@ -6,7 +6,7 @@ mod newcomers;
 mod seats;
 mod tellings;
 
-pub use gates::{close_gate, leave_seat, open_gate, take_seat};
+pub use gates::{TURNS, close_gate, leave_seat, open_gate, take_seat};
 pub use newcomers::Newcomer;
 pub use seats::Seat;
 #[doc(hidden)]

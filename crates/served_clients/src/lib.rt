@@ -5,6 +5,7 @@
 pub mod client_seats;
 pub mod client_streams;
 mod plans;
+mod run_names;
 pub mod serve_reports;
 pub mod served_journals;
 
@@ -14,3 +15,4 @@ pub use line_answers as answers;
 pub use line_answers::{book, bytes, gate, history};
 pub use line_sessions as sessions;
 pub use plans::{Plan, Session};
+pub use run_names::RunNames;

@@ -10,8 +10,10 @@ ghost use Rattle.batch_command.specs.Seating.{IsClerkOf};
 ghost use Rattle.batch_command.specs.declared.batch_server.members.Member.{Member as member_type};
 ghost use Rattle.served_clients.specs.gate.Passes.{view};
 ghost use Rattle.served_clients.specs.lines.declared.lines.TheConstants.{MAX_LINE_BYTES};
+ghost use Rattle.command_line.specs.declared.batch_words.clients.TheConstants.{MAX_WORKERS};
 ghost use Rattle.served_clients.specs.turns.Turns.{IsReady};
 ghost use Rattle.served_clients.specs.sessions.declared.sessions.TheConstants.{MAX_LINES};
+ghost use Rattle.served_clients.specs.declared.client_seats.gates.TheConstants.{TURNS};
 
 use crate::batch_server::clerks::Clerk;
 use crate::batch_server::kept::keep;
@@ -52,7 +54,7 @@ pub(crate) fn answer_all<
     requires ready { IsReady shared.now.gate pass.old }
     requires fresh { (view pass.old).turns ≡ [] }
     requires some { 1 ≤ length clerks.items }
-    requires few { length clerks.items ≤ 16 }
+    requires few { length clerks.items ≤ MAX_WORKERS }
     requires clerks { All (IsFresh shared.now) clerks.items }
     requires count { length lines.now ≤ MAX_LINES }
     requires texts { All (λ line. length line ≤ MAX_LINE_BYTES) lines.now }
@@ -62,7 +64,7 @@ pub(crate) fn answer_all<
     requires room { IsRoomFor (length clerks.items) owners.now room }
     ensures ready { IsReady shared.now.gate pass.new }
     ensures share { (view pass.new).share
-        ≡ (view pass.old).share + length clerks.entry.items * 400000 }
+        ≡ (view pass.old).share + length clerks.entry.items * TURNS }
     ensures answered { (members : list_of (member_type B L))
         → AreMatched (IsClerkOf L.Rule shared.now) members clerks.entry.items
         → HaveAnswered L.Rule shared.now lines.now owners.now members result.0.items

@@ -5,6 +5,7 @@ ghost use Rattle.std.specs.Prelude.{option_map};
 ghost use Rattle.batch_command.specs.Batches.{WereAnswered};
 ghost use Rattle.served_clients.specs.lines.Within.{AreSound};
 ghost use Rattle.served_clients.specs.lines.declared.lines.TheConstants.{MAX_LINE_BYTES};
+ghost use Rattle.command_line.specs.declared.batch_words.clients.TheConstants.{MAX_WORKERS};
 ghost use Rattle.served_clients.specs.sessions.declared.sessions.TheConstants.{MAX_LINES};
 ghost use Rattle.served_clients.specs.book.Footings.{footing_of};
 ghost use Rattle.served_clients.specs.book.Ledgers.{settled_of};
@@ -55,7 +56,7 @@ pub fn answer_list<
     owners: &[Option<u32>],
 ) -> Result<Answered<D, L>, (Book<D>, NoMemory)>
     requires some { 1 ≤ length members.items }
-    requires few { length members.items ≤ 16 }
+    requires few { length members.items ≤ MAX_WORKERS }
     requires named { All (λ member. IsClientName member.name) members.items }
     requires names { AllPairs (λ a b. a.name ≢ b.name) members.items }
     requires settled { settled_of book ≡ length book.entries }

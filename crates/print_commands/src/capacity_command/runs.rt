@@ -5,8 +5,9 @@ ghost use Rattle.outside_io.specs.Openings.{Undisturbed};
 ghost use Rattle.outside_io.specs.Places.{Untouched};
 ghost use Rattle.command_reports.specs.Scenes.{scene};
 ghost use Rattle.command_reports.specs.Works.{Runs};
-ghost use Rattle.print_commands.specs.Steps.{IsPrinted, print_calls, Prints, WasOnlyRead};
-ghost use Rattle.print_commands.specs.Capacities.{HasNoCapacity, stretch_of, TellsCapacity};
+ghost use Rattle.print_commands.specs.Steps.{IsPrinted, print_calls, Prints, ReadsHistory};
+ghost use Rattle.print_commands.specs.Steps.{WasOnlyRead};
+ghost use Rattle.print_commands.specs.Capacities.{HasNoCapacity, TellsCapacity};
 
 use crate::capacity_command::works::work;
 use capacity_406::Stretch;
@@ -15,37 +16,34 @@ use command_reports::finish;
 use outside_io::Outside;
 use std::alloc::Global;
 
-/// Runs `capacity` over the names of a network's file, a base timetable's and a journal, the
-/// first and the last zone of a stretch, a window of ticks from `from` on and before `to`, and
-/// the name of a text: opens and reads the three, writes the capacity of the stretch, and reports
-/// where something refused. A zone that the network doesn't have, and more trains than one
-/// compression takes, end with `No`.
+/// Runs `capacity` over the names of a network's file, a base timetable's and a journal, a stretch
+/// with a window of ticks from `from` on and before `to`, and the name of a text: opens and reads
+/// the three, writes the capacity of the stretch, and reports where something refused. A zone that
+/// the network doesn't have, and more trains than one compression takes, end with `No`.
 pub fn run_capacity<O: Outside>(
     alloc: Global,
     network: &str,
     base: &str,
     journal: &str,
-    first: u32,
-    last: u32,
-    from: u32,
-    to: u32,
+    stretch: &Stretch,
     out: &str,
     outside: &mut O,
 ) -> Status
-    requires window { from < to }
+    requires window { stretch.now.from < stretch.now.to }
     // All that is done, by the status and the report.
     ensures runs { Runs O.Snk.Sink (print_calls network.now base.now journal.now out.now)
-        (Prints O.Src.Source O.Snk.Sink O.Dsk.Disk network.now base.now journal.now out.now
-        (TellsCapacity (stretch_of first last from to))) (scene O.Outside outside.old)
-        (scene O.Outside outside.new) result }
+        (Prints O.Snk.Sink
+        (ReadsHistory O.Src.Source O.Dsk.Disk network.now base.now journal.now) out.now
+        (TellsCapacity stretch.now)) (scene O.Outside outside.old) (scene O.Outside outside.new)
+        result }
     // At Done the text of the stretch's capacity stands whole behind what its sink held before.
     ensures done { result ≡ Status.Done → IsPrinted O.Src.Source O.Snk.Sink O.Dsk.Disk network.now
-        base.now journal.now out.now (TellsCapacity (stretch_of first last from to))
-        (scene O.Outside outside.old) (scene O.Outside outside.new) }
+        base.now journal.now out.now (TellsCapacity stretch.now) (scene O.Outside outside.old)
+        (scene O.Outside outside.new) }
     // At No the journal was read, and a zone is none of its network, or the trains
     // of the stretch are too many.
     ensures no { result ≡ Status.No → HasNoCapacity O.Src.Source O.Dsk.Disk network.now base.now
-        journal.now (stretch_of first last from to) (scene O.Outside outside.old) }
+        journal.now stretch.now (scene O.Outside outside.old) }
     // At a refusal no sink gained anything.
     ensures clean { result ≢ Status.Done → result ≢ Status.Report
         → Untouched (O.sinks outside.old) (O.sinks outside.new) }
@@ -59,12 +57,6 @@ pub fn run_capacity<O: Outside>(
     ensures disks { (name : List ℕ) → name ≢ journal.now
         → O.disks outside.new name ≡ O.disks outside.old name }
 {
-    let stretch = Stretch {
-        first,
-        last,
-        from,
-        to,
-    };
-    let outcome = work(alloc, network, base, journal, &stretch, out, outside);
+    let outcome = work(alloc, network, base, journal, stretch, out, outside);
     finish(outcome, outside)
 }

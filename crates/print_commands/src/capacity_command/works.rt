@@ -2,7 +2,7 @@
 
 ghost use Rattle.std.specs.Prelude.{◌<◌};
 ghost use Rattle.command_reports.specs.Scenes.{scene};
-ghost use Rattle.print_commands.specs.Steps.{Prints, WritesTold};
+ghost use Rattle.print_commands.specs.Steps.{Prints, ReadsHistory, WritesTold};
 ghost use Rattle.print_commands.specs.Capacities.{TellsCapacity};
 
 use crate::capacity_command::texts::text_of;
@@ -26,9 +26,10 @@ pub(crate) fn work<O: Outside>(
     outside: &mut O,
 ) -> Result<Status, Refusal>
     requires window { stretch.now.from < stretch.now.to }
-    ensures works { Prints O.Src.Source O.Snk.Sink O.Dsk.Disk network.now base.now journal.now
-        out.now (TellsCapacity stretch.now) (scene O.Outside outside.old)
-        (scene O.Outside outside.new) result }
+    ensures works { Prints O.Snk.Sink
+        (ReadsHistory O.Src.Source O.Dsk.Disk network.now base.now journal.now) out.now
+        (TellsCapacity stretch.now) (scene O.Outside outside.old) (scene O.Outside outside.new)
+        result }
 {
     let history = read_history_files(alloc, network, base, journal, outside)?;
     write_text(alloc, &history, stretch, out, outside)

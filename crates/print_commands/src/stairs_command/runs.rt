@@ -5,7 +5,8 @@ ghost use Rattle.outside_io.specs.Openings.{Undisturbed};
 ghost use Rattle.outside_io.specs.Places.{Untouched};
 ghost use Rattle.command_reports.specs.Scenes.{scene};
 ghost use Rattle.command_reports.specs.Works.{Runs};
-ghost use Rattle.print_commands.specs.Steps.{IsPrinted, print_calls, Prints, WasOnlyRead};
+ghost use Rattle.print_commands.specs.Steps.{IsPrinted, print_calls, Prints, ReadsHistory};
+ghost use Rattle.print_commands.specs.Steps.{WasOnlyRead};
 ghost use Rattle.print_commands.specs.Tables.{HasNoGrant, TellsStairs};
 
 use crate::stairs_command::works::work;
@@ -29,7 +30,8 @@ pub fn run_stairs<O: Outside>(
 ) -> Status
     // All that is done, by the status and the report.
     ensures runs { Runs O.Snk.Sink (print_calls network.now base.now journal.now out.now)
-        (Prints O.Src.Source O.Snk.Sink O.Dsk.Disk network.now base.now journal.now out.now
+        (Prints O.Snk.Sink
+        (ReadsHistory O.Src.Source O.Dsk.Disk network.now base.now journal.now) out.now
         (TellsStairs entry)) (scene O.Outside outside.old) (scene O.Outside outside.new) result }
     // At Done the table of the entry's stairway stands whole behind what its sink held before.
     ensures done { result ≡ Status.Done → IsPrinted O.Src.Source O.Snk.Sink O.Dsk.Disk network.now

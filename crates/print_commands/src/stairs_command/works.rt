@@ -1,7 +1,7 @@
 //! The work of `stairs`: reads the history of a journal, and writes the stairway of an entry.
 
 ghost use Rattle.command_reports.specs.Scenes.{scene};
-ghost use Rattle.print_commands.specs.Steps.{Prints, WritesTold};
+ghost use Rattle.print_commands.specs.Steps.{Prints, ReadsHistory, WritesTold};
 ghost use Rattle.print_commands.specs.Tables.{TellsStairs};
 
 use crate::read_history_files;
@@ -23,9 +23,9 @@ pub(crate) fn work<O: Outside>(
     out: &str,
     outside: &mut O,
 ) -> Result<Status, Refusal>
-    ensures works { Prints O.Src.Source O.Snk.Sink O.Dsk.Disk network.now base.now journal.now
-        out.now (TellsStairs entry) (scene O.Outside outside.old) (scene O.Outside outside.new)
-        result }
+    ensures works { Prints O.Snk.Sink
+        (ReadsHistory O.Src.Source O.Dsk.Disk network.now base.now journal.now) out.now
+        (TellsStairs entry) (scene O.Outside outside.old) (scene O.Outside outside.new) result }
 {
     let history = read_history_files(alloc, network, base, journal, outside)?;
     write_table(alloc, &history, entry, out, outside)

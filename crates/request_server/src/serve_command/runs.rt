@@ -1,11 +1,14 @@
 //! The run of `serve`.
 
 ghost use Rattle.std.specs.Prelude.{◌≡◌, ◌≢◌, ℕ, List};
+ghost use Rattle.request_server.specs.Clienteles.{clientele_of};
 ghost use Rattle.request_server.specs.PlannedClients.{AreClients};
 ghost use Rattle.command_reports.specs.Scenes.{scene};
 ghost use Rattle.outside_io.specs.Openings.{Undisturbed};
 ghost use Rattle.outside_io.specs.Places.{Untouched};
 ghost use Rattle.request_server.specs.ServeRuns.{EndsRun, IsServed, RunsServe};
+ghost use Rattle.served_clients.specs.GivenNames.{names_in};
+ghost use Rattle.served_clients.specs.Kinds.{kinds_of};
 
 use crate::serve_command::works::serve;
 use admission_rules::Rule;
@@ -15,6 +18,7 @@ use command_line::proof_words::ProofWord;
 use command_reports::exit_status::Status;
 use command_reports::{Refusal, finish};
 use outside_io::Outside;
+use served_clients::RunNames;
 use served_clients::serve_reports::{Ends, tell_ends};
 use std::alloc::AllocGlobal;
 use std::sync::Wait;
@@ -30,10 +34,7 @@ use std::thread::Threads;
 /// elements with other names are dropped.
 pub fn run_serve<R: AllocGlobal + Threads + Wait + Sync, O: Outside, L: Rule + Send>(
     rt: &R,
-    network: &str,
-    trains: &str,
-    base: &str,
-    journal: &str,
+    names: &RunNames<'_>,
     clients: &[ClientWord],
     proofs: &[ProofWord],
     rules: Vec<ClientRules<L>>,
@@ -41,14 +42,15 @@ pub fn run_serve<R: AllocGlobal + Threads + Wait + Sync, O: Outside, L: Rule + S
 ) -> Status
     requires clients { AreClients clients.now proofs.now }
     // All that is done, by the status and the report.
-    ensures runs { RunsServe O.Src.Source O.Snk.Sink O.Dsk.Disk L.Rule network.now base.now
-        trains.now journal.now clients.now proofs.now rules.items (scene O.Outside outside.old)
-        (scene O.Outside outside.new) result }
+    ensures runs { RunsServe (kinds_of O.Src.Source O.Snk.Sink O.Dsk.Disk L.Rule)
+        (names_in names.now) (clientele_of clients.now proofs.now rules.items)
+        (scene O.Outside outside.old) (scene O.Outside outside.new) result }
     // At Done each line of each client was answered, with its proofs where they are wanted, and a
     // line for each client and for each of its rules was reported.
-    ensures done { result ≡ Status.Done → IsServed O.Src.Source O.Snk.Sink O.Dsk.Disk L.Rule
-        network.now base.now trains.now journal.now clients.now proofs.now rules.items
-        (scene O.Outside outside.old) (scene O.Outside outside.new) }
+    ensures done { result ≡ Status.Done
+        → IsServed (kinds_of O.Src.Source O.Snk.Sink O.Dsk.Disk L.Rule) (names_in names.now)
+        (clientele_of clients.now proofs.now rules.items) (scene O.Outside outside.old)
+        (scene O.Outside outside.new) }
     // At a refusal no sink but the report gained anything.
     ensures clean { result ≢ Status.Done → result ≢ Status.ClientEnd → result ≢ Status.Report
         → result ≢ Status.Memory → Untouched (O.sinks outside.old) (O.sinks outside.new) }
@@ -56,12 +58,10 @@ pub fn run_serve<R: AllocGlobal + Threads + Wait + Sync, O: Outside, L: Rule + S
     ensures words { result ≢ Status.Words }
     // Whatever the status, all that was opened is put back, and no other disk changed.
     ensures back { Undisturbed (O.standing outside.old) (O.standing outside.new) }
-    ensures disks { (name : List ℕ) → name ≢ journal.now
+    ensures disks { (name : List ℕ) → name ≢ names.now.journal.now
         → O.disks outside.new name ≡ O.disks outside.old name }
 {
-    let outcome = serve(
-        rt, network, base, trains, journal, clients, proofs, rules, outside,
-    );
+    let outcome = serve(rt, names, clients, proofs, rules, outside);
     end(outcome, outside)
 }
 

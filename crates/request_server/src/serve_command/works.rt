@@ -1,9 +1,12 @@
 //! The work of `serve`: reads the three files, and then serves.
 
+ghost use Rattle.request_server.specs.Clienteles.{clientele_of};
 ghost use Rattle.request_server.specs.PlannedClients.{AreClients};
 ghost use Rattle.command_reports.specs.Scenes.{scene};
 ghost use Rattle.request_server.specs.Works.{ReadsBase, ReadsNetwork, ReadsTrains};
 ghost use Rattle.served_clients.specs.Files.{IsBaseRead, IsNetworkRead};
+ghost use Rattle.served_clients.specs.GivenNames.{names_in};
+ghost use Rattle.served_clients.specs.Kinds.{kinds_of};
 
 use crate::serve_command::journals::serve_files;
 use admission_rules::Rule;
@@ -14,6 +17,7 @@ use command_line::client_words::ClientWord;
 use command_line::proof_words::ProofWord;
 use command_reports::Refusal;
 use outside_io::Outside;
+use served_clients::RunNames;
 use served_clients::serve_reports::Ends;
 use served_clients::served_journals::Files;
 use std::alloc::AllocGlobal;
@@ -23,33 +27,26 @@ use std::thread::Threads;
 /// The work of `serve`.
 pub(crate) fn serve<R: AllocGlobal + Threads + Wait + Sync, O: Outside, L: Rule + Send>(
     rt: &R,
-    network: &str,
-    base: &str,
-    trains: &str,
-    journal: &str,
+    names: &RunNames<'_>,
     clients: &[ClientWord],
     proofs: &[ProofWord],
     rules: Vec<ClientRules<L>>,
     outside: &mut O,
 ) -> Result<Ends, Refusal>
     requires clients { AreClients clients.now proofs.now }
-    ensures works { ReadsNetwork O.Src.Source O.Snk.Sink O.Dsk.Disk L.Rule network.now base.now
-        trains.now journal.now clients.now proofs.now rules.items (scene O.Outside outside.old)
-        (scene O.Outside outside.new) result }
+    ensures works { ReadsNetwork (kinds_of O.Src.Source O.Snk.Sink O.Dsk.Disk L.Rule)
+        (names_in names.now) (clientele_of clients.now proofs.now rules.items)
+        (scene O.Outside outside.old) (scene O.Outside outside.new) result }
 {
-    let network = read_network_file(rt.alloc(), network, outside)?;
-    serve_network(
-        rt, network, base, trains, journal, clients, proofs, rules, outside,
-    )
+    let network = read_network_file(rt.alloc(), names.network, outside)?;
+    serve_network(rt, network, names, clients, proofs, rules, outside)
 }
 
 // The same, once the network is read.
 fn serve_network<R: AllocGlobal + Threads + Wait + Sync, O: Outside, L: Rule + Send>(
     rt: &R,
     network: NetworkFile,
-    base: &str,
-    trains: &str,
-    journal: &str,
+    names: &RunNames<'_>,
     clients: &[ClientWord],
     proofs: &[ProofWord],
     rules: Vec<ClientRules<L>>,
@@ -57,14 +54,12 @@ fn serve_network<R: AllocGlobal + Threads + Wait + Sync, O: Outside, L: Rule + S
 ) -> Result<Ends, Refusal>
     requires clients { AreClients clients.now proofs.now }
     requires network { IsNetworkRead network }
-    ensures works { ReadsBase O.Src.Source O.Snk.Sink O.Dsk.Disk L.Rule base.now trains.now
-        journal.now clients.now proofs.now rules.items network (scene O.Outside outside.old)
-        (scene O.Outside outside.new) result }
+    ensures works { ReadsBase (kinds_of O.Src.Source O.Snk.Sink O.Dsk.Disk L.Rule)
+        (names_in names.now) (clientele_of clients.now proofs.now rules.items) network
+        (scene O.Outside outside.old) (scene O.Outside outside.new) result }
 {
-    let base = read_base_file(rt.alloc(), base, network.named.network.zones, outside)?;
-    serve_base(
-        rt, network, base, trains, journal, clients, proofs, rules, outside,
-    )
+    let base = read_base_file(rt.alloc(), names.base, network.named.network.zones, outside)?;
+    serve_base(rt, network, base, names, clients, proofs, rules, outside)
 }
 
 // The same, once the base timetable is read.
@@ -72,8 +67,7 @@ fn serve_base<R: AllocGlobal + Threads + Wait + Sync, O: Outside, L: Rule + Send
     rt: &R,
     network: NetworkFile,
     base: BaseFile,
-    trains: &str,
-    journal: &str,
+    names: &RunNames<'_>,
     clients: &[ClientWord],
     proofs: &[ProofWord],
     rules: Vec<ClientRules<L>>,
@@ -81,16 +75,16 @@ fn serve_base<R: AllocGlobal + Threads + Wait + Sync, O: Outside, L: Rule + Send
 ) -> Result<Ends, Refusal>
     requires clients { AreClients clients.now proofs.now }
     requires base { IsBaseRead network base }
-    ensures works { ReadsTrains O.Src.Source O.Snk.Sink O.Dsk.Disk L.Rule trains.now journal.now
-        clients.now proofs.now rules.items network base (scene O.Outside outside.old)
-        (scene O.Outside outside.new) result }
+    ensures works { ReadsTrains (kinds_of O.Src.Source O.Snk.Sink O.Dsk.Disk L.Rule)
+        (names_in names.now) (clientele_of clients.now proofs.now rules.items) network base
+        (scene O.Outside outside.old) (scene O.Outside outside.new) result }
 {
     bases_make_timetables();
-    let trains = read_train_file(rt.alloc(), trains, outside)?;
+    let trains = read_train_file(rt.alloc(), names.trains, outside)?;
     let files = Files {
         network,
         base,
         trains,
     };
-    serve_files(rt, files, journal, clients, proofs, rules, outside)
+    serve_files(rt, files, names.journal, clients, proofs, rules, outside)
 }

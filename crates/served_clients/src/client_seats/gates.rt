@@ -5,8 +5,10 @@ ghost use Rattle.std.specs.Prelude.{AllPairs, IfErr, IfOk, length};
 ghost use Rattle.line_answers.specs.gate.Passes.{opened, turns_given, turns_left, view};
 ghost use Rattle.line_answers.specs.gate.Views.{StartsWith};
 ghost use Rattle.client_lines.specs.Within.{AreSound};
+ghost use Rattle.command_line.specs.declared.client_words.clients.TheConstants.{MAX_CLIENTS};
 ghost use Rattle.admission_rules.specs.Ruled.{stand};
 ghost use Rattle.served_clients.specs.Gates.{IsHost, IsNewcomer, IsOpened};
+ghost use Rattle.served_clients.specs.declared.client_seats.gates.TheConstants.{TURNS};
 ghost use Rattle.served_clients.specs.Joins.{AreJoined};
 ghost use Rattle.served_clients.specs.ClientRuns.{IsRun, told_own};
 ghost use Rattle.served_clients.specs.Seats.{found_at, IsBack, IsDone, IsTaken};
@@ -32,18 +34,18 @@ use outside_io::{Between, Disk};
 use rail_types::networks_without_flaws;
 use std::alloc::Global;
 
-// Each line takes at most four turns, and a client has at most 100,000 lines.
-const TURNS: u64 = 400_000;
+/// Turns that a client may take: each of its lines takes at most four, and it has at most 100,000.
+pub const TURNS: u64 = 400_000;
 
-/// Gives a book to a gate with seats for so many clients, at most 16, and hands out the pass from
-/// which they get theirs. For want of memory the book is handed back.
+/// Gives a book to a gate with seats for so many clients, at most `MAX_CLIENTS`, and hands out the
+/// pass from which they get theirs. For want of memory the book is handed back.
 pub fn open_gate<D: Disk>(
     alloc: Global,
     book: Book<D>,
     known: Known,
     clients: usize,
 ) -> Result<(Shared<D>, Pass<Book<D>>), (Book<D>, NoMemory)>
-    requires few { clients ≤ 16 }
+    requires few { clients ≤ MAX_CLIENTS }
     requires known { AreSound known }
     requires network { known.railway.network ≡ book.timetable.net }
     ensures opened { IfOk result (λ r. IsOpened book known clients r.0 r.1) }
@@ -91,11 +93,11 @@ pub fn take_seat<'a, D: Disk, B: Between + Drop, L: Rule>(
 ) -> Seat<'a, D, B, L>
     requires shared { IsShared shared.now }
     requires host { IsHost shared.now pass.old }
-    requires share { 400000 < (view pass.old).share }
+    requires share { TURNS < (view pass.old).share }
     requires newcomer { IsNewcomer (timetable_at shared.now.gate) (found_at shared.now.gate)
         newcomer.client.name newcomer }
     ensures host { IsHost shared.now pass.new }
-    ensures share { (view pass.new).share + 400000 ≡ (view pass.old).share }
+    ensures share { (view pass.new).share + TURNS ≡ (view pass.old).share }
     ensures taken { IsTaken shared.now result }
     ensures name { result.client.name ≡ newcomer.client.name }
     ensures between { result.between ≡ between }
@@ -124,7 +126,7 @@ pub fn leave_seat<'a, D: Disk, B: Between + Drop, L: Rule>(
     requires ready { IsReady shared.now.gate pass.old }
     requires back { IsBack shared.now seat }
     ensures ready { IsReady shared.now.gate pass.new }
-    ensures share { (view pass.new).share ≡ (view pass.old).share + 400000 }
+    ensures share { (view pass.new).share ≡ (view pass.old).share + TURNS }
     ensures turns { (view seat.entry.pass).turns ≡ []
         → (view pass.new).turns ≡ (view pass.old).turns }
     ensures rules { result ≡ seat.entry.rules }

@@ -2,7 +2,7 @@ use Rattle.command_reports.specs.declared.exit_status.Status.TheVariants.{Done, 
 use Rattle.command_reports.specs.Scenes.{scene}
 use Rattle.command_reports.specs.Works.{Runs}
 use Rattle.command_reports.proofs.Ends.{runs_back, runs_disks}
-use Rattle.print_commands.specs.Steps.{print_calls, Prints}
+use Rattle.print_commands.specs.Steps.{print_calls, Prints, ReadsHistory}
 use Rattle.print_commands.proofs.Printed.{print_keeps, run_clean, run_done, run_no, run_read, run_words}
 use Rattle.print_commands.specs.Tables.{TellsStairs}
 use Rattle.print_commands.proofs.StairsRefused.{has_no_grant, stairs_never}
@@ -22,7 +22,7 @@ returns g c =
     let between = scene g.O.Outside c.work-outcome.new.outside in
     let new = scene g.O.Outside c.finish.new.outside in
     let status = c.finish.result in
-    let runs : Runs sink (print_calls network base journal out) (Prints source sink disk network base journal out tells) old new status = record {
+    let runs : Runs sink (print_calls network base journal out) (Prints sink (ReadsHistory source disk network base journal) out tells) old new status = record {
       between = between;
       outcome = c.work-outcome.result;
       works = c.work-outcome.ensures.works;
@@ -35,7 +35,7 @@ returns g c =
       no = λ is. has_no_grant source disk network base journal c.args.entry old (run_no source sink disk network base journal out tells old new status runs is);
       clean = run_clean source sink disk network base journal out tells old new status runs;
       words = run_words source sink disk network base journal out tells (stairs_never c.args.entry Words (λ e. cc) (λ e. cc)) old new status runs;
-      back = runs_back sink (print_calls network base journal out) (Prints source sink disk network base journal out tells) old new status runs;
+      back = runs_back sink (print_calls network base journal out) (Prints sink (ReadsHistory source disk network base journal) out tells) old new status runs;
       read = run_read source sink disk network base journal out tells old new status runs;
-      disks = λ name differs. runs_disks sink (print_calls network base journal out) (Prints source sink disk network base journal out tells) old new status runs name ((λ e. cc), ((λ e. cc), ((λ e. differs cc), ((λ e. cc), tt))));
+      disks = λ name differs. runs_disks sink (print_calls network base journal out) (Prints sink (ReadsHistory source disk network base journal) out tells) old new status runs name ((λ e. cc), ((λ e. cc), ((λ e. differs cc), ((λ e. cc), tt))));
     }
