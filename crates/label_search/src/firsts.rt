@@ -32,6 +32,13 @@ use occupation_book::Occupations;
 use rail_types::{Tick, Window};
 use std::alloc::Global;
 
+// A move from the place of a label, by its number there.
+#[derive(Clone, Copy, Debug)]
+struct Onward {
+    label: usize,
+    number: usize,
+}
+
 // What the search has when no work is due before its best end.
 pub(crate) fn explore_first(
     alloc: Global,
@@ -106,9 +113,11 @@ fn take_up(
         }
         Work::Move { number, from } => {
             let part = part_from(&front, from);
-            move_on(
-                alloc, plan, book, trip, search, queue, &part, task.label, *number,
-            )
+            let onward = Onward {
+                label: task.label,
+                number: *number,
+            };
+            move_on(alloc, plan, book, trip, search, queue, &part, onward)
         }
     }
 }
@@ -179,7 +188,8 @@ fn leave_moves(
 {
     let place = place_at(plan, front.place);
     for number in 0..place.moves.len() {
-        go_on(alloc, plan, book, trip, search, queue, front, label, number)?;
+        let onward = Onward { label, number };
+        go_on(alloc, plan, book, trip, search, queue, front, onward)?;
     }
     Ok(())
 }
@@ -220,8 +230,7 @@ fn move_on(
     search: &mut Search,
     queue: &mut Queue,
     part: &Front,
-    label: usize,
-    number: usize,
+    onward: Onward,
 ) -> Result<(), NoMemory>
     requires plan { IsPlan plan.now book.now }
     requires part { IsFrontOf plan.now search.old part.now }
@@ -229,18 +238,19 @@ fn move_on(
     ensures search { IsSearch plan.now trip.now book.now search.new }
     ensures advanced { OnOk result (IsAdvanced plan.now search.old search.new queue.old queue.new) }
     ensures done { OnOk result ((IsTrue (place_of plan.now part.now.place).standing
-        → part.now.ready ≡ true) → number < length (place_of plan.now part.now.place).moves
+        → part.now.ready ≡ true)
+        → onward.number < length (place_of plan.now part.now.place).moves
         → (tick : ℤ) → Holds part.now.ticks tick → IsMoveInHand plan.now trip.now book.now
-        search.new queue.new label part.now.place tick number) }
+        search.new queue.new onward.label part.now.place tick onward.number) }
 {
     let place = place_at(plan, part.place);
-    if number >= place.moves.len() {
+    if onward.number >= place.moves.len() {
         return Ok(());
     }
     if place.standing && !part.ready {
         return Ok(());
     }
-    go_on(alloc, plan, book, trip, search, queue, part, label, number)
+    go_on(alloc, plan, book, trip, search, queue, part, onward)
 }
 
 // The waits from ticks of a label, where the train stands there and has not waited.
@@ -279,50 +289,49 @@ fn go_on(
     search: &mut Search,
     queue: &mut Queue,
     part: &Front,
-    label: usize,
-    number: usize,
+    onward: Onward,
 ) -> Result<(), NoMemory>
     requires plan { IsPlan plan.now book.now }
     requires part { IsFrontOf plan.now search.old part.now }
-    requires number { number < length (place_of plan.now part.now.place).moves }
+    requires number { onward.number < length (place_of plan.now part.now.place).moves }
     requires goes { IsTrue (place_of plan.now part.now.place).standing → part.now.ready ≡ true }
     requires search { IsSearch plan.now trip.now book.now search.old }
     ensures search { IsSearch plan.now trip.now book.now search.new }
     ensures advanced { OnOk result (IsAdvanced plan.now search.old search.new queue.old queue.new) }
     ensures done { OnOk result ((tick : ℤ) → Holds part.now.ticks tick
-        → IsMoveInHand plan.now trip.now book.now search.new queue.new label part.now.place tick
-        number) }
+        → IsMoveInHand plan.now trip.now book.now search.new queue.new onward.label
+        part.now.place tick onward.number) }
 {
-    let step = move_at(plan, part.place, number);
+    let step = move_at(plan, part.place, onward.number);
     let rest = enters(part, plan, &search.limits, step);
     let Some(free) = next_start(step.pieces.as_slice(), book, &rest) else {
         return Ok(());
     };
     let known = search.labels.len();
-    reach(plan, book, trip, search, part, number, &free)?;
+    reach(plan, book, trip, search, part, onward.number, &free)?;
     leave_later(alloc, plan, book, trip, search, queue, known)?;
     if free.to >= rest.to {
         return Ok(());
     }
     let ahead = ahead_to(&search.limits.ahead, &step.target);
-    queue.push(alloc, &move_behind(&free, step, &ahead, label, number))
+    queue.push(alloc, &move_behind(&free, step, &ahead, onward))
 }
 
 // A move behind its first free ticks.
-fn move_behind(free: &Window, step: &Move, ahead: &Ahead, label: usize, number: usize) -> Due
+fn move_behind(free: &Window, step: &Move, ahead: &Ahead, onward: Onward) -> Due
     requires near { IsNear free.now.from × IsNear free.now.to }
     requires run { IsShort step.now.run }
     requires ahead { IsAhead ahead.now }
     ensures tick { result.tick ≡ ((free.now.to +ℤ pos 1) +ℤ step.now.run) +ℤ ahead.now.ticks }
-    ensures label { result.task.label ≡ label }
-    ensures work { result.task.work ≡ Work.Move number (free.now.to +ℤ pos 1) }
+    ensures label { result.task.label ≡ onward.label }
+    ensures work { result.task.work ≡ Work.Move onward.number (free.now.to +ℤ pos 1) }
 {
     Due {
         tick: free.to + 1 + step.run + ahead.ticks,
         task: Task {
-            label,
+            label: onward.label,
             work: Work::Move {
-                number,
+                number: onward.number,
                 from: free.to + 1,
             },
         },

@@ -624,6 +624,13 @@ fn dwell_at(request: &Request, spot: &Spot) -> u32 {
     }
 }
 
+// A tick at a place.
+#[derive(Clone, Copy, Debug)]
+struct Moment {
+    place: usize,
+    tick: u32,
+}
+
 // What a train can do at a tick of a place, where it is there.
 fn visit(
     alloc: Global,
@@ -633,9 +640,9 @@ fn visit(
     taken: &[Claim],
     graph: &Graph,
     walk: &mut Walk,
-    place: usize,
-    tick: u32,
+    moment: Moment,
 ) -> Result<(), NoMemory> {
+    let Moment { place, tick } = moment;
     let Some(spot) = graph.spots.get(place) else {
         return Ok(());
     };
@@ -697,8 +704,9 @@ pub fn expect(
             );
         }
         for place in 0..places {
+            let moment = Moment { place, tick };
             visit(
-                alloc, net, settings, request, taken, &graph, &mut walk, place, tick,
+                alloc, net, settings, request, taken, &graph, &mut walk, moment,
             )?;
         }
     }
