@@ -12,6 +12,7 @@ use Rattle.grant_journal.specs.Headers.{header_of}
 use Rattle.grant_journal.specs.Histories.{ReadsAs}
 use Rattle.path_recover.specs.Beginning.{HasInitCause, IsNotEmpty, IsUntouched, WasEmpty}
 use Rattle.path_recover.specs.declared.journal_reading.beginning.InitFault.{InitFault}
+use Rattle.path_recover.specs.declared.journal_reading.beginning.TheConstants.{BEGINNING_BYTES}
 use Rattle.path_recover.specs.declared.journal_reading.beginning.InitFault.TheVariants.{NotEmpty}
 use Rattle.path_recover.specs.declared.journal_reading.beginning.InitFault.TheVariants.{Fault}
 use Rattle.path_recover.specs.Texts.{not_empty_text}
@@ -34,7 +35,7 @@ pub record IsBegun {D : Type 0} (disk : Ghosts D) (network base : List ℕ)
       → image ≡ header_of network base ++ 0 ∷ []
   pub exact_now : IfSome (disk.contents after)
       (λ file. file ≡ header_of network base ++ 0 ∷ [])
-  pub size : IfSome (disk.contents after) (λ file. length file ≡ 77)
+  pub size : IfSome (disk.contents after) (λ file. length file ≡ BEGINNING_BYTES)
   pub quiet : disk.faults after ≡ disk.faults before
 
 -- no journal was begun on the disk

@@ -11,7 +11,10 @@ use outside_io::MemDisk;
 use path_commit::{Book, Sent};
 use path_recover::journal_reading::{init, is_on};
 use path_recover::open;
-use rail_types::{Base, Block, Cell, List, Network, Settings};
+use rail_types::{
+    Base, Block, Cell, List, MAX_HORIZON, MAX_JOURNAL_BYTES, MAX_RELEASE, MAX_SETTING, MAX_TICK_S,
+    MIN_JOURNAL_BYTES, Network, Settings,
+};
 use std::alloc::Global;
 
 const NETWORK: [u8; 32] = [7; 32];
@@ -70,13 +73,13 @@ fn is_settings(settings: &Settings) -> bool
     ensures { IsTrue result → IsSettingsWithinLimits settings.now }
 {
     1 <= settings.tick_s
-        && settings.tick_s <= 3_600
-        && settings.setting <= 1_000
-        && settings.release <= 1_000
+        && settings.tick_s <= MAX_TICK_S
+        && settings.setting <= MAX_SETTING
+        && settings.release <= MAX_RELEASE
         && 1 <= settings.horizon
-        && settings.horizon <= 17_280
-        && 77 <= settings.journal_bytes
-        && settings.journal_bytes <= 268_435_456
+        && settings.horizon <= MAX_HORIZON
+        && MIN_JOURNAL_BYTES <= settings.journal_bytes
+        && settings.journal_bytes <= MAX_JOURNAL_BYTES
 }
 
 fn is_timetable(net: &Network, base: &Base) -> bool

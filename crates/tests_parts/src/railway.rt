@@ -7,7 +7,8 @@ ghost use Rattle.rail_types.specs.Timetables.{IsTimetable, timetable_of};
 use no_memory::NoMemory;
 use plan_core::World;
 use rail_types::{
-    Base, Block, Cell, List, Name, Network, Path, Request, Run, Settings, Train, Wanted, Window,
+    Base, Block, Cell, List, MAX_HORIZON, MAX_JOURNAL_BYTES, MAX_RELEASE, MAX_SETTING, MAX_TICK_S,
+    MIN_JOURNAL_BYTES, Name, Network, Path, Request, Run, Settings, Train, Wanted, Window,
 };
 use std::alloc::Global;
 
@@ -48,13 +49,13 @@ fn is_settings(settings: &Settings) -> bool
     ensures { IsTrue result → IsSettingsWithinLimits settings.now }
 {
     1 <= settings.tick_s
-        && settings.tick_s <= 3_600
-        && settings.setting <= 1_000
-        && settings.release <= 1_000
+        && settings.tick_s <= MAX_TICK_S
+        && settings.setting <= MAX_SETTING
+        && settings.release <= MAX_RELEASE
         && 1 <= settings.horizon
-        && settings.horizon <= 17_280
-        && 77 <= settings.journal_bytes
-        && settings.journal_bytes <= 268_435_456
+        && settings.horizon <= MAX_HORIZON
+        && MIN_JOURNAL_BYTES <= settings.journal_bytes
+        && settings.journal_bytes <= MAX_JOURNAL_BYTES
 }
 
 // Whether the network has no flaw, the settings are within their limits, and nothing is planned.

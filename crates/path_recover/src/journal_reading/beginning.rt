@@ -3,10 +3,16 @@ ghost use Rattle.std.specs.Prelude.{length};
 ghost use Rattle.outside_io.specs.Disks.{Spans};
 ghost use Rattle.grant_journal.specs.Headers.{header_of};
 ghost use Rattle.grant_journal.specs.Histories.{ReadsAs};
+ghost use Rattle.path_recover.specs.declared.journal_reading.beginning.TheConstants.{
+  BEGINNING_BYTES,
+};
 ghost use Rattle.path_recover.specs.Beginning.{HasInitCause, IsNotEmpty, IsUntouched, WasEmpty};
 
 use grant_journal::journal_text::{HEADER_BYTES, header};
 use outside_io::Disk;
+
+/// The length of a journal without entries: its header and a closed gate.
+pub const BEGINNING_BYTES: usize = HEADER_BYTES + 1;
 
 /// Why a journal is not begun.
 #[derive(Clone, Copy, Debug, PartialEq, Eq)]
@@ -28,7 +34,8 @@ pub fn init<D: Disk>(disk: &mut D, network: &[u8; 32], base: &[u8; 32]) -> Resul
         image ≡ header_of network.now base.now ++ 0 ∷ []) }
     ensures exact_now { OnOk result (IfSome (D.contents disk.new)
         (λ file. file ≡ header_of network.now base.now ++ 0 ∷ [])) }
-    ensures size { OnOk result (IfSome (D.contents disk.new) (λ file. length file ≡ 77)) }
+    ensures size { OnOk result (IfSome (D.contents disk.new)
+        (λ file. length file ≡ BEGINNING_BYTES)) }
     ensures empty { OnOk result (WasEmpty D.Disk disk.old) }
     ensures refused { IfErr result (λ fault. IfSome (D.contents disk.old) (IsNotEmpty fault)) }
     ensures untouched { IfErr result (λ fault. IsUntouched D.Disk disk.old disk.new fault) }
@@ -51,10 +58,10 @@ pub fn init<D: Disk>(disk: &mut D, network: &[u8; 32], base: &[u8; 32]) -> Resul
 }
 
 // The header and a closed gate.
-fn begun(network: &[u8; 32], base: &[u8; 32]) -> [u8; 77]
+fn begun(network: &[u8; 32], base: &[u8; 32]) -> [u8; BEGINNING_BYTES]
     ensures { result ≡ header_of network.now base.now ++ 0 ∷ [] }
 {
-    let mut first = [0u8; 77];
+    let mut first = [0u8; BEGINNING_BYTES];
     first[..HEADER_BYTES].copy_from_slice(&header(network, base));
     first
 }
