@@ -11,12 +11,12 @@ ghost use Rattle.served_clients.specs.Kinds.{kinds_of};
 
 use crate::books::serve_book;
 use command_line::client_words::ClientWord;
-use command_reports::Refusal;
+use command_reports::{Refusal, not_opened};
 use outside_io::Outside;
 use served_clients::admission::Rule;
 use served_clients::admission::client_rules::ClientRules;
 use served_clients::serve_reports::Ends;
-use served_clients::served_journals::{Files, Opened, not_opened, open_book};
+use served_clients::served_journals::{Files, Opened, open_book};
 use std::alloc::AllocGlobal;
 use std::sync::Wait;
 use std::thread::Threads;

@@ -83,7 +83,3 @@ pub told_prepares : (network : NetworkFile) (base : BaseFile) (old : Register) (
 told_prepares network base old may_leave carried (Ok prepared) is spelled has short tells = told_prepared network base old may_leave carried prepared is spelled has short tells
 told_prepares network base old may_leave carried (Err refusal) is spelled has short (inl tells) = inl (tells.0, told_first (timetable_on network base) old carried refusal is tells.1)
 told_prepares network base old may_leave carried (Err refusal) is spelled has short (inr memory) = inr memory
-
--- a journal begins with a letter, and has more than one byte
-pub told_marked : (network base : List ℕ) (old : List Entry) (may_leave : Bool) (carried : Carried) (prepared : Prepared) → carried.file ≡ front_of (header_of network base) (bodies_of (entries_at old carried.kept.items)) ++ 0 ∷ [] → TellsAll old may_leave carried prepared → IsMarked prepared.file
-told_marked network base old may_leave carried prepared spelled tells = record { first = _; rest = _; split = tells.file ∙ spelled; mark = λ e. absurd (omega (arith, e)); more = λ e. cc }

@@ -6,9 +6,9 @@ ghost use Rattle.carry_command.specs.Unfinished.{IsMarked};
 ghost use Rattle.carry_command.specs.Disks.{DiskEnds, EmptyStep, IsEmpty, IsNotEmptyDisk};
 ghost use Rattle.carry_command.specs.Disks.{IsNotWritten, IsWritten, WriteStep};
 
-use crate::refusals::{init_refusal, not_opened};
 use crate::whole_files::{check_empty, write_whole};
-use command_reports::Refusal;
+use command_reports::{Refusal, not_opened};
+use init_command::refusals::init_refusal;
 use outside_io::Outside;
 use path_recover::InitFault;
 use std::alloc::Global;

@@ -9,7 +9,6 @@ mod lines;
 mod names;
 mod olds;
 mod preparing;
-mod refusals;
 mod runs;
 mod spelling;
 pub mod whole_files;

@@ -11,10 +11,10 @@ ghost use Rattle.carry_command.specs.Works.{CarriesOver, ReadsOld};
 
 use crate::names::CarryNames;
 use crate::preparing::prepare;
-use crate::refusals::{from_refusal, not_opened};
 use crate::writing::write_prepared;
 use command_files::{BaseFile, NetworkFile};
-use command_reports::Refusal;
+use command_reports::{Refusal, not_opened};
+use init_command::refusals::from_refusal;
 use outside_io::{Disk, Outside};
 use path_recover::OpenFault;
 use path_recover::history::History;

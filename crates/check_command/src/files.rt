@@ -8,9 +8,9 @@ ghost use Rattle.proof_texts.specs.declared.reading.TheConstants.{
   MAX_PROOF_FILE_BYTES as most_bytes,
 };
 
-use command_reports::Refusal;
 use command_reports::exit_status::Status;
 use command_reports::file_rounds::FileFault;
+use command_reports::{Refusal, not_opened, not_read};
 use outside_io::{AllFault, Outside, read_all};
 use proof_texts::MAX_PROOF_FILE_BYTES;
 use std::alloc::Global;
@@ -51,18 +51,8 @@ pub(crate) fn read_proof_file<O: Outside>(
 {
     match bytes_of(alloc, name, outside) {
         Ok(bytes) => Ok(bytes),
-        Err(FileFault::NotOpened) => Err(Refusal::with(
-            alloc,
-            Status::Opening,
-            b"open: ",
-            name.as_bytes(),
-        )),
-        Err(FileFault::Failed) => Err(Refusal::with(
-            alloc,
-            Status::Opening,
-            b"read: ",
-            name.as_bytes(),
-        )),
+        Err(FileFault::NotOpened) => Err(not_opened(alloc, name)),
+        Err(FileFault::Failed) => Err(not_read(alloc, name)),
         Err(FileFault::TooLong) => Err(Refusal::with(
             alloc,
             Status::No,

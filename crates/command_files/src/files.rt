@@ -6,9 +6,9 @@ ghost use Rattle.command_files.specs.Kinds.{excess_of, head_of, limit_of, status
 ghost use Rattle.command_files.specs.Steps.{BytesSay};
 ghost use Rattle.command_reports.specs.Scenes.{scene};
 
-use command_reports::Refusal;
 use command_reports::exit_status::Status;
 use command_reports::file_rounds::{FileFault, read_file};
+use command_reports::{Refusal, not_opened, not_read};
 use outside_io::Outside;
 use rail_types::{MAX_NETWORK_FILE_BYTES, MAX_TIMETABLE_FILE_BYTES};
 use std::alloc::Global;
@@ -84,18 +84,8 @@ pub(crate) fn bytes_of<O: Outside>(
 {
     match read_file(alloc, kind.limit(), name, outside) {
         Ok(bytes) => Ok(bytes),
-        Err(FileFault::NotOpened) => Err(Refusal::with(
-            alloc,
-            Status::Opening,
-            b"open: ",
-            name.as_bytes(),
-        )),
-        Err(FileFault::Failed) => Err(Refusal::with(
-            alloc,
-            Status::Opening,
-            b"read: ",
-            name.as_bytes(),
-        )),
+        Err(FileFault::NotOpened) => Err(not_opened(alloc, name)),
+        Err(FileFault::Failed) => Err(not_read(alloc, name)),
         Err(FileFault::TooLong) => Err(kind.refusal(alloc, kind.excess())),
         Err(FileFault::Memory) => Err(Refusal::Memory),
     }

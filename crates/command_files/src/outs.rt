@@ -3,9 +3,9 @@
 ghost use Rattle.command_files.specs.Outs.{OutStep};
 ghost use Rattle.command_reports.specs.Scenes.{scene};
 
-use command_reports::Refusal;
 use command_reports::exit_status::Status;
 use command_reports::file_rounds::{OutFault, write_file};
+use command_reports::{Refusal, not_opened};
 use outside_io::Outside;
 use std::alloc::Global;
 
@@ -23,11 +23,6 @@ pub fn write_out<O: Outside>(
     match write_file(name, bytes, outside) {
         Ok(()) => Ok(Status::Done),
         Err(OutFault::Failed) => Ok(Status::Report),
-        Err(OutFault::NotOpened) => Err(Refusal::with(
-            alloc,
-            Status::Opening,
-            b"open: ",
-            name.as_bytes(),
-        )),
+        Err(OutFault::NotOpened) => Err(not_opened(alloc, name)),
     }
 }

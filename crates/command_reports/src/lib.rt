@@ -7,4 +7,4 @@ pub mod file_rounds;
 mod refusals;
 
 pub use endings::finish;
-pub use refusals::Refusal;
+pub use refusals::{Refusal, disk_failed, not_opened, not_read};

@@ -1,6 +1,7 @@
 //! Why a command goes no further.
 
-ghost use Rattle.std.specs.Prelude.{◌≡◌, IfOk};
+ghost use Rattle.std.specs.Prelude.{◌≡◌, IfOk, codes};
+ghost use Rattle.command_reports.specs.declared.exit_status.Status.TheVariants.{DiskFault, Opening};
 ghost use Rattle.command_reports.specs.Refusals.{IsTold, line_of, line_with, status_of};
 
 use crate::exit_status::Status;
@@ -47,6 +48,27 @@ impl Refusal {
             Refusal::Memory => b"no memory\n",
         }
     }
+}
+
+/// A name could not be opened.
+pub fn not_opened(alloc: Global, name: &str) -> Refusal
+    ensures { IsTold Opening (line_with (codes "open: ") name.now) result }
+{
+    Refusal::with(alloc, Status::Opening, b"open: ", name.as_bytes())
+}
+
+/// What stands under a name could not be read.
+pub fn not_read(alloc: Global, name: &str) -> Refusal
+    ensures { IsTold Opening (line_with (codes "read: ") name.now) result }
+{
+    Refusal::with(alloc, Status::Opening, b"read: ", name.as_bytes())
+}
+
+/// The disk under a name failed.
+pub fn disk_failed(alloc: Global, name: &str) -> Refusal
+    ensures { IsTold DiskFault (line_with (codes "disk: ") name.now) result }
+{
+    Refusal::with(alloc, Status::DiskFault, b"disk: ", name.as_bytes())
 }
 
 // A head, a rest and the end of the line.

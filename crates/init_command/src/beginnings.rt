@@ -2,12 +2,12 @@
 
 ghost use Rattle.std.specs.Prelude.{◌≡◌};
 ghost use Rattle.command_reports.specs.Scenes.{scene};
-ghost use Rattle.init_command.specs.Begins.{BeginStep, DiskSays, TellsInit};
+ghost use Rattle.init_command.specs.Begins.{BeginStep, DiskSays};
 ghost use Rattle.init_command.specs.Disks.{ChangesOnlyDisk};
 
-use crate::refusals::{disk_failed, not_empty, not_opened};
-use command_reports::Refusal;
+use crate::refusals::init_refusal;
 use command_reports::exit_status::Status;
+use command_reports::{Refusal, not_opened};
 use outside_io::Outside;
 use path_recover::{InitFault, init};
 use std::alloc::Global;
@@ -36,16 +36,6 @@ pub(crate) fn begin_journal<O: Outside>(
         Ok(()) => Ok(Status::Done),
         Err(NotBegun::NotOpened) => Err(not_opened(alloc, name)),
         Err(NotBegun::Refused(fault)) => Err(init_refusal(alloc, name, fault)),
-    }
-}
-
-// A fault of the disk by its line.
-fn init_refusal(alloc: Global, name: &str, fault: InitFault) -> Refusal
-    ensures { TellsInit name.now fault result }
-{
-    match fault {
-        InitFault::NotEmpty { len } => not_empty(alloc, len),
-        InitFault::Fault => disk_failed(alloc, name),
     }
 }
 

@@ -4,7 +4,7 @@
 
 mod beginnings;
 mod moving;
-mod refusals;
+pub mod refusals;
 mod runs;
 mod works;
 

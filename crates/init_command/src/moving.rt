@@ -5,15 +5,14 @@ ghost use Rattle.command_reports.specs.Scenes.{scene};
 ghost use Rattle.rail_types.specs.Timetables.{IsTimetable};
 ghost use Rattle.init_command.specs.Disks.{ChangesOnlyDisk};
 ghost use Rattle.init_command.specs.Moves.{DisksKeep, DisksSay, FromSays, MoveEnds, MoveStep};
-ghost use Rattle.init_command.specs.Moves.{TellsFrom, TellsMove, timetable_on};
+ghost use Rattle.init_command.specs.Moves.{TellsMove, timetable_on};
 
-use crate::refusals::{disk_failed, not_empty, not_opened};
+use crate::refusals::{from_refusal, not_empty};
 use command_files::{BaseFile, NetworkFile};
-use command_reports::Refusal;
 use command_reports::exit_status::Status;
-use no_memory::NoMemory;
+use command_reports::{Refusal, disk_failed, not_opened};
 use outside_io::{Disk, Outside};
-use path_recover::{MoveFault, OpenFault, fault_text, init_from};
+use path_recover::{MoveFault, init_from};
 use std::alloc::Global;
 
 // Why no journal was moved.
@@ -58,19 +57,6 @@ fn move_refusal(alloc: Global, journal: &str, from: &str, fault: MoveFault) -> R
         MoveFault::From(fault) => from_refusal(alloc, from, fault),
         MoveFault::Fault => disk_failed(alloc, journal),
         MoveFault::Memory => Refusal::Memory,
-    }
-}
-
-// Why the old journal was refused by its line.
-fn from_refusal(alloc: Global, from: &str, fault: OpenFault) -> Refusal
-    ensures { TellsFrom from.now fault result }
-{
-    if matches!(fault, OpenFault::ReadFault) {
-        return disk_failed(alloc, from);
-    }
-    match fault_text(alloc, &fault) {
-        Ok(Some(text)) => Refusal::with(alloc, Status::Journal, b"from: ", text.as_slice()),
-        Ok(None) | Err(NoMemory) => Refusal::Memory,
     }
 }
 

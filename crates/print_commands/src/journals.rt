@@ -7,9 +7,9 @@ ghost use Rattle.init_command.specs.Moves.{timetable_on};
 ghost use Rattle.print_commands.specs.Journals.{DiskSays, IsHistoryOn, IsRefusedOn, JournalStep};
 ghost use Rattle.rail_types.specs.Timetables.{IsTimetable};
 
-use crate::refusals::{journal_refusal, not_opened};
+use crate::refusals::journal_refusal;
 use command_files::{BaseFile, NetworkFile};
-use command_reports::Refusal;
+use command_reports::{Refusal, not_opened};
 use grant_log::History;
 use outside_io::{Disk, Outside};
 use path_recover::OpenFault;

@@ -1,29 +1,12 @@
 //! Refusals of journals.
 
-ghost use Rattle.std.specs.Prelude.{codes};
-ghost use Rattle.command_reports.specs.declared.exit_status.Status.TheVariants.{DiskFault, Opening};
-ghost use Rattle.command_reports.specs.Refusals.{IsTold, line_with};
 ghost use Rattle.print_commands.specs.Journals.{TellsOpen};
 
-use command_reports::Refusal;
 use command_reports::exit_status::Status;
+use command_reports::{Refusal, disk_failed};
 use no_memory::NoMemory;
 use path_recover::{OpenFault, fault_text};
 use std::alloc::Global;
-
-/// A name could not be opened.
-pub(crate) fn not_opened(alloc: Global, name: &str) -> Refusal
-    ensures { IsTold Opening (line_with (codes "open: ") name.now) result }
-{
-    Refusal::with(alloc, Status::Opening, b"open: ", name.as_bytes())
-}
-
-// The disk under a name failed.
-fn disk_failed(alloc: Global, name: &str) -> Refusal
-    ensures { IsTold DiskFault (line_with (codes "disk: ") name.now) result }
-{
-    Refusal::with(alloc, Status::DiskFault, b"disk: ", name.as_bytes())
-}
 
 /// Why the journal under a name was refused, by its line.
 pub(crate) fn journal_refusal(alloc: Global, name: &str, fault: OpenFault) -> Refusal

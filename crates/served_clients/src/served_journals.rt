@@ -7,4 +7,3 @@ mod refusals;
 
 pub use books::{Opened, close_book, open_book};
 pub use files::Files;
-pub use refusals::not_opened;

@@ -1,9 +1,7 @@
 //! Streams opened under their names.
 
-ghost use Rattle.std.specs.Prelude.{◌∷◌, [], codes, IfErr, IfOk, option_map};
-ghost use Rattle.command_reports.specs.declared.exit_status.Status.TheVariants.{Opening};
+ghost use Rattle.std.specs.Prelude.{◌∷◌, [], IfErr, IfOk, option_map};
 ghost use Rattle.command_reports.specs.Scenes.{scene};
-ghost use Rattle.command_reports.specs.Refusals.{IsTold, line_with};
 ghost use Rattle.outside_io.specs.Openings.{source_at, sink_at};
 ghost use Rattle.served_clients.specs.StreamClients.{AreDistinct, file_calls, file_loans, IsFit};
 ghost use Rattle.served_clients.specs.StreamClients.{pair_calls, pair_loans, stream_calls};
@@ -15,8 +13,7 @@ use crate::client_streams::returning::put_back_client;
 use crate::client_streams::streams::ClientStreams;
 use command_line::Text;
 use command_line::client_words::ClientWord;
-use command_reports::Refusal;
-use command_reports::exit_status::Status;
+use command_reports::{Refusal, not_opened};
 use outside_io::Outside;
 use std::alloc::Global;
 
@@ -128,11 +125,4 @@ fn open_sink<O: Outside>(alloc: Global, name: &str, outside: &mut O) -> Result<O
         Ok(sink) => Ok(sink),
         Err(_) => Err(not_opened(alloc, name)),
     }
-}
-
-// A name could not be opened.
-fn not_opened(alloc: Global, name: &str) -> Refusal
-    ensures { IsTold Opening (line_with (codes "open: ") name.now) result }
-{
-    Refusal::with(alloc, Status::Opening, b"open: ", name.as_bytes())
 }

@@ -10,7 +10,7 @@ returns-in-Err-NotOpened g c =
     let old = scene g.O.Outside c.args.outside.now in
     let new = scene g.O.Outside c.write_file.new.outside in
     let says = rw c.in-Err-NotOpened.field-0-is at c.in-Err-NotOpened.ensures.says in
-    let told = subst (λ (name : List ℕ). IsTold Opening (line_with (codes "open: ") name) c.with.result) c.as_bytes.ensures.value c.with.ensures in
+    let told = c.not_opened.ensures in
     record {
       step = record {
         says = record {
