@@ -15,7 +15,7 @@ use Rattle.command_reports.specs.declared.refusals.Refusal.{Refusal}
 use Rattle.command_reports.specs.declared.refusals.Refusal.TheVariants.{Told}
 use Rattle.command_reports.proofs.Ends.{IsLeft}
 use Rattle.command_files.proofs.Refused.{memory_other}
-use Rattle.init_command.specs.Moves.{timetable_on}
+use Rattle.command_files.specs.Timetables.{timetable_on}
 use Rattle.carry_command.specs.Disks.{WriteStep}
 use Rattle.carry_command.specs.Lent.{IsReturned}
 use Rattle.carry_command.specs.Lines.{left_line}

@@ -16,7 +16,7 @@ use Rattle.rail_types.specs.Timetables.{Timetable}
 use Rattle.command_files.specs.declared.bases.BaseFile.{BaseFile}
 use Rattle.command_files.specs.declared.networks.NetworkFile.{NetworkFile}
 use Rattle.command_reports.specs.declared.refusals.Refusal.{Refusal}
-use Rattle.init_command.specs.Moves.{timetable_on}
+use Rattle.command_files.specs.Timetables.{timetable_on}
 use Rattle.carry_command.specs.Carried.{AreKept, entries_at, IsCarriedOf}
 use Rattle.carry_command.specs.Inside.{TellsAll, TellsFirst, TellsOf}
 use Rattle.carry_command.specs.Lines.{carried_line}

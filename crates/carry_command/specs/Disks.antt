@@ -11,7 +11,7 @@ use Rattle.path_recover.specs.declared.journal_reading.beginning.InitFault.{Init
 use Rattle.carry_command.specs.Unfinished.{IsWholeOrUnfinished}
 use Rattle.command_reports.specs.declared.refusals.Refusal.{Refusal}
 use Rattle.init_command.specs.Begins.{IsNotBegun, TellsInit}
-use Rattle.init_command.specs.Disks.{ChangesOnlyDisk, IsNotOpened}
+use Rattle.command_reports.specs.Disks.{ChangesOnlyDisk, IsNotOpened}
 use Rattle.carry_command.specs.declared.disks.NotDone.{NotDone}
 use Rattle.carry_command.specs.declared.disks.NotDone.TheVariants.{NotOpened, Refused}
 

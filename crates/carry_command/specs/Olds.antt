@@ -8,8 +8,9 @@ use Rattle.path_recover.specs.declared.journal_reading.faults.OpenFault.{OpenFau
 use Rattle.command_files.specs.declared.bases.BaseFile.{BaseFile}
 use Rattle.command_files.specs.declared.networks.NetworkFile.{NetworkFile}
 use Rattle.command_reports.specs.declared.refusals.Refusal.{Refusal}
-use Rattle.init_command.specs.Disks.{ChangesOnlyDisk, IsNotOpened}
-use Rattle.init_command.specs.Moves.{TellsFrom, timetable_on}
+use Rattle.command_reports.specs.Disks.{ChangesOnlyDisk, IsNotOpened}
+use Rattle.init_command.specs.Moves.{TellsFrom}
+use Rattle.command_files.specs.Timetables.{timetable_on}
 use Rattle.print_commands.specs.Journals.{IsHistoryOn, IsRefusedOn}
 use Rattle.carry_command.specs.Lent.{IsLent, IsReturned}
 

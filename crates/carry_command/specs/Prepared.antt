@@ -12,7 +12,7 @@ use Rattle.command_files.specs.declared.networks.NetworkFile.{NetworkFile}
 use Rattle.command_reports.specs.Refusals.{IsTold}
 use Rattle.command_reports.specs.declared.refusals.Refusal.{Refusal}
 use Rattle.command_reports.specs.declared.refusals.Refusal.TheVariants.{Memory}
-use Rattle.init_command.specs.Moves.{timetable_on}
+use Rattle.command_files.specs.Timetables.{timetable_on}
 use Rattle.print_commands.specs.Journals.{TellsEntries}
 use Rattle.carry_command.specs.Carried.{IsCarriedOf}
 use Rattle.carry_command.specs.declared.carried_history.reasons.LeftOut.{LeftOut}

@@ -17,7 +17,7 @@ use Rattle.command_files.specs.declared.networks.NetworkFile.{NetworkFile}
 use Rattle.command_reports.specs.Reports.{Reports, TellsRefusal}
 use Rattle.command_reports.specs.Works.{KeepsTo}
 use Rattle.command_reports.specs.declared.refusals.Refusal.{Refusal}
-use Rattle.init_command.specs.Moves.{timetable_on}
+use Rattle.command_files.specs.Timetables.{timetable_on}
 use Rattle.carry_command.specs.Before.{BeforeStep}
 use Rattle.carry_command.specs.Disks.{EmptyStep, LeavesWhole, WriteStep}
 use Rattle.carry_command.specs.Lent.{IsLent, IsReturned}

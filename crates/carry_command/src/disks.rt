@@ -1,7 +1,7 @@
 //! The disk of the new journal.
 
 ghost use Rattle.command_reports.specs.Scenes.{scene};
-ghost use Rattle.init_command.specs.Disks.{ChangesOnlyDisk};
+ghost use Rattle.command_reports.specs.Disks.{ChangesOnlyDisk};
 ghost use Rattle.carry_command.specs.Unfinished.{IsMarked};
 ghost use Rattle.carry_command.specs.Disks.{DiskEnds, EmptyStep, IsEmpty, IsNotEmptyDisk};
 ghost use Rattle.carry_command.specs.Disks.{IsNotWritten, IsWritten, WriteStep};

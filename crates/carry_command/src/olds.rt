@@ -2,7 +2,7 @@
 
 ghost use Rattle.std.specs.Prelude.{◌≡◌, ◌<◌, ◌^◌, All, IfErr, IfOk, length};
 ghost use Rattle.command_reports.specs.Scenes.{scene};
-ghost use Rattle.init_command.specs.Moves.{timetable_on};
+ghost use Rattle.command_files.specs.Timetables.{timetable_on};
 ghost use Rattle.print_commands.specs.Journals.{IsHistoryOn, IsRefusedOn};
 ghost use Rattle.path_recover.specs.journal.Histories.{bodies_of};
 ghost use Rattle.rail_types.specs.Timetables.{IsTimetable};

@@ -1,7 +1,7 @@
 //! All that is written, before anything is.
 
 ghost use Rattle.std.specs.Prelude.{◌≡◌, ◌<◌, ◌^◌, All, IfOk, length};
-ghost use Rattle.init_command.specs.Moves.{timetable_on};
+ghost use Rattle.command_files.specs.Timetables.{timetable_on};
 ghost use Rattle.path_recover.specs.journal.Histories.{bodies_of};
 ghost use Rattle.rail_types.specs.Timetables.{IsTimetable};
 ghost use Rattle.carry_command.specs.Unfinished.{IsMarked};

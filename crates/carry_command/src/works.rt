@@ -1,7 +1,7 @@
 //! The work of `carry`: reads all that it names, and writes what is carried.
 
 ghost use Rattle.command_reports.specs.Scenes.{scene};
-ghost use Rattle.init_command.specs.Moves.{timetable_on};
+ghost use Rattle.command_files.specs.Timetables.{timetable_on};
 ghost use Rattle.rail_types.specs.Named.{IsNamed};
 ghost use Rattle.rail_types.specs.Timetables.{IsTimetable};
 ghost use Rattle.carry_command.specs.Works.{FindsEmpty, ReadsBase, ReadsBefore, ReadsNetwork};

@@ -4,7 +4,7 @@ use Rattle.proof_texts.specs.lines.Within.{AreSound}
 use Rattle.command_files.specs.declared.bases.BaseFile.{BaseFile}
 use Rattle.command_files.specs.declared.networks.NetworkFile.{NetworkFile}
 use Rattle.path_recover.specs.history.Legal.{Register}
-use Rattle.init_command.specs.Moves.{timetable_on}
+use Rattle.command_files.specs.Timetables.{timetable_on}
 use Rattle.rail_types.specs.declared.tracks.Network.{Network}
 use Rattle.rail_types.specs.declared.trains.Train.{Train}
 use Rattle.rail_types.specs.Timetables.{Timetable}

@@ -8,7 +8,7 @@ use Rattle.outside_io.proofs.Places.{Replaces-returned}
 use Rattle.command_reports.specs.Scenes.{IsReady, IsShut, Scene}
 use Rattle.command_reports.specs.Works.{Keeps, KeepsTo}
 use Rattle.command_reports.specs.declared.refusals.Refusal.{Refusal}
-use Rattle.init_command.specs.Disks.{ChangesOnlyDisk}
+use Rattle.command_reports.specs.Disks.{ChangesOnlyDisk}
 
 keeps_one : {Src Snk Dsk : Type 0} (name : List ℕ) (old new : Scene Src Snk Dsk) → ChangesOnlyDisk name old new → Keeps (disk_at name ∷ []) old new
 keeps_one name old new only = record {

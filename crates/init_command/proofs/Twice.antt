@@ -16,7 +16,7 @@ use Rattle.command_reports.specs.Refusals.{IsTold, line_with}
 use Rattle.command_reports.specs.Works.{Keeps}
 use Rattle.command_reports.specs.declared.refusals.Refusal.{Refusal}
 use Rattle.std.proofs.Common.{codes}
-use Rattle.init_command.specs.Disks.{ChangesOnlyDisk}
+use Rattle.command_reports.specs.Disks.{ChangesOnlyDisk}
 use Rattle.init_command.specs.Moves.{DisksKeep, DisksSay, FromSays, IsMovedTo, IsNotMoved, MoveStep, OpensBoth, TellsMove}
 use Rattle.init_command.specs.declared.moving.NotMoved.{NotMoved}
 use Rattle.init_command.specs.declared.moving.NotMoved.TheVariants.{NotOpened, FromNotOpened, Refused}

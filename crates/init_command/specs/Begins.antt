@@ -18,7 +18,7 @@ use Rattle.path_recover.specs.declared.journal_reading.beginning.InitFault.TheVa
 use Rattle.path_recover.specs.Texts.{not_empty_text}
 use Rattle.command_reports.specs.Refusals.{IsTold, line_with}
 use Rattle.command_reports.specs.declared.refusals.Refusal.{Refusal}
-use Rattle.init_command.specs.Disks.{ChangesOnlyDisk, IsNotOpened}
+use Rattle.command_reports.specs.Disks.{ChangesOnlyDisk, IsNotOpened}
 use Rattle.init_command.specs.declared.beginnings.NotBegun.{NotBegun}
 use Rattle.init_command.specs.declared.beginnings.NotBegun.TheVariants.{NotOpened, Refused}
 

@@ -1,4 +1,3 @@
 pub mod Works
-pub mod Disks
 pub mod Begins
 pub mod Moves

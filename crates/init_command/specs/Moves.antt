@@ -10,7 +10,6 @@ use Rattle.command_reports.specs.declared.exit_status.Status.TheVariants.{Done, 
 use Rattle.command_reports.specs.declared.exit_status.Status.TheVariants.{Opening as not_opened}
 use Rattle.command_reports.specs.declared.exit_status.Status.TheVariants.{DiskFault}
 use Rattle.command_reports.specs.Scenes.{IsReady, IsShut, Opens, Scene}
-use Rattle.rail_types.specs.Timetables.{Timetable, timetable_of}
 use Rattle.path_recover.specs.Beginning.{WasEmpty}
 use Rattle.path_recover.specs.declared.journal_reading.faults.OpenFault.{OpenFault}
 use Rattle.path_recover.specs.declared.journal_reading.faults.OpenFault.TheVariants.{ReadFault}
@@ -23,18 +22,15 @@ use Rattle.path_recover.specs.declared.history_reading.moves.MoveFault.TheVarian
 use Rattle.path_recover.specs.Texts.{fault_text, not_empty_text}
 use Rattle.command_files.specs.declared.bases.BaseFile.{BaseFile}
 use Rattle.command_files.specs.declared.networks.NetworkFile.{NetworkFile}
+use Rattle.command_files.specs.Timetables.{timetable_on}
 use Rattle.command_reports.specs.Refusals.{IsTold, line_with}
 use Rattle.command_reports.specs.Works.{Keeps, KeepsTo}
 use Rattle.command_reports.specs.declared.refusals.Refusal.{Refusal}
 use Rattle.command_reports.specs.declared.refusals.Refusal.TheVariants.{Memory as wants_memory}
-use Rattle.init_command.specs.Disks.{BothReplaced, IsNotOpened}
+use Rattle.command_reports.specs.Disks.{BothReplaced, IsNotOpened}
 use Rattle.init_command.specs.declared.moving.NotMoved.{NotMoved}
 use Rattle.init_command.specs.declared.moving.NotMoved.TheVariants.{NotOpened, FromNotOpened}
 use Rattle.init_command.specs.declared.moving.NotMoved.TheVariants.{Refused}
-
--- the timetable of a network's and a base timetable's file
-abbrev pub timetable_on : NetworkFile → BaseFile → Timetable
-timetable_on network base = timetable_of network.named.network base.base
 
 -- the new disk was empty, and has the journal of the old one now, whatever a crash
 -- leaves; the old one was only read

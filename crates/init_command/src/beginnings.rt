@@ -3,7 +3,7 @@
 ghost use Rattle.std.specs.Prelude.{◌≡◌};
 ghost use Rattle.command_reports.specs.Scenes.{scene};
 ghost use Rattle.init_command.specs.Begins.{BeginStep, DiskSays};
-ghost use Rattle.init_command.specs.Disks.{ChangesOnlyDisk};
+ghost use Rattle.command_reports.specs.Disks.{ChangesOnlyDisk};
 
 use crate::refusals::init_refusal;
 use command_reports::exit_status::Status;

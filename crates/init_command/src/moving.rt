@@ -3,9 +3,10 @@
 ghost use Rattle.std.specs.Prelude.{◌≡◌};
 ghost use Rattle.command_reports.specs.Scenes.{scene};
 ghost use Rattle.rail_types.specs.Timetables.{IsTimetable};
-ghost use Rattle.init_command.specs.Disks.{ChangesOnlyDisk};
+ghost use Rattle.command_reports.specs.Disks.{ChangesOnlyDisk};
 ghost use Rattle.init_command.specs.Moves.{DisksKeep, DisksSay, FromSays, MoveEnds, MoveStep};
-ghost use Rattle.init_command.specs.Moves.{TellsMove, timetable_on};
+ghost use Rattle.init_command.specs.Moves.{TellsMove};
+ghost use Rattle.command_files.specs.Timetables.{timetable_on};
 
 use crate::refusals::{from_refusal, not_empty};
 use command_files::{BaseFile, NetworkFile};

@@ -24,7 +24,7 @@ use Rattle.command_reports.specs.declared.file_rounds.writing.OutFault.{OutFault
 use Rattle.command_reports.specs.declared.file_rounds.writing.OutFault.TheVariants.{NotOpened, Failed}
 use Rattle.path_recover.specs.Failing.{HasFaultCause, IsUnread}
 use Rattle.init_command.specs.Begins.{BeginSays, BeginStep}
-use Rattle.init_command.specs.Disks.{ChangesOnlyDisk}
+use Rattle.command_reports.specs.Disks.{ChangesOnlyDisk}
 use Rattle.print_commands.specs.Journals.{JournalSays, JournalStep, TellsEntries, TellsOpen}
 use Rattle.path_recover.specs.Beginning.{HasInitCause, IsNotEmpty}
 use Rattle.path_recover.specs.declared.journal_reading.beginning.InitFault.{InitFault}

@@ -47,7 +47,8 @@ use Rattle.path_recover.specs.Files.{IsRefused as OldRefused}
 use Rattle.path_recover.specs.Moving.{IsMoveRefused}
 use Rattle.path_recover.specs.declared.history_reading.moves.MoveFault.{MoveFault}
 use Rattle.path_recover.specs.declared.history_reading.moves.MoveFault.TheVariants as moving
-use Rattle.init_command.specs.Moves.{IsNotMoved, MoveSays, TellsMove, timetable_on}
+use Rattle.init_command.specs.Moves.{IsNotMoved, MoveSays, TellsMove}
+use Rattle.command_files.specs.Timetables.{timetable_on}
 use Rattle.init_command.specs.Works.{BeginOver, MoveOver, ReadsBoth, init_calls, move_calls}
 use Rattle.print_commands.specs.Journals.{JournalStep, TellsEntries}
 use Rattle.path_recover.specs.declared.journal_reading.faults.OpenFault.{OpenFault}

@@ -13,7 +13,7 @@ use Rattle.command_files.specs.declared.networks.NetworkFile.{NetworkFile}
 use Rattle.command_reports.specs.Scenes.{IsReady, Scene}
 use Rattle.path_recover.specs.Failing.{IsUnread}
 use Rattle.path_recover.specs.Files.{IsRefused}
-use Rattle.init_command.specs.Moves.{timetable_on}
+use Rattle.command_files.specs.Timetables.{timetable_on}
 use Rattle.print_commands.specs.Journals.{TellsEntries}
 use Rattle.path_recover.specs.declared.journal_reading.faults.OpenFault.{OpenFault}
 use Rattle.client_lines.specs.declared.lines.TheConstants.{MAX_LINE_BYTES}

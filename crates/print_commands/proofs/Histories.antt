@@ -10,7 +10,7 @@ use Rattle.path_recover.specs.Files.{IsFound, IsRefused, TellsHistory}
 use Rattle.path_recover.proofs.Reopened.{if-more}
 use Rattle.command_files.specs.declared.bases.BaseFile.{BaseFile}
 use Rattle.command_files.specs.declared.networks.NetworkFile.{NetworkFile}
-use Rattle.init_command.specs.Moves.{timetable_on}
+use Rattle.command_files.specs.Timetables.{timetable_on}
 use Rattle.print_commands.specs.Journals.{IsHistoryOn, IsRefusedOn, TellsEntries}
 
 -- what is found in a file is the history that it tells

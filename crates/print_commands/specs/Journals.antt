@@ -18,8 +18,8 @@ use Rattle.command_files.specs.declared.networks.NetworkFile.{NetworkFile}
 use Rattle.command_reports.specs.Refusals.{IsTold, line_with}
 use Rattle.command_reports.specs.declared.refusals.Refusal.{Refusal}
 use Rattle.command_reports.specs.declared.refusals.Refusal.TheVariants.{Memory}
-use Rattle.init_command.specs.Disks.{ChangesOnlyDisk, IsNotOpened}
-use Rattle.init_command.specs.Moves.{timetable_on}
+use Rattle.command_reports.specs.Disks.{ChangesOnlyDisk, IsNotOpened}
+use Rattle.command_files.specs.Timetables.{timetable_on}
 use Rattle.print_commands.specs.declared.journals.NotRead.{NotRead}
 use Rattle.print_commands.specs.declared.journals.NotRead.TheVariants.{NotOpened, Refused}
 

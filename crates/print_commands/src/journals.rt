@@ -2,8 +2,8 @@
 
 ghost use Rattle.std.specs.Prelude.{◌≡◌, IfErr, IfOk};
 ghost use Rattle.command_reports.specs.Scenes.{scene};
-ghost use Rattle.init_command.specs.Disks.{ChangesOnlyDisk};
-ghost use Rattle.init_command.specs.Moves.{timetable_on};
+ghost use Rattle.command_reports.specs.Disks.{ChangesOnlyDisk};
+ghost use Rattle.command_files.specs.Timetables.{timetable_on};
 ghost use Rattle.print_commands.specs.Journals.{DiskSays, IsHistoryOn, IsRefusedOn, JournalStep};
 ghost use Rattle.rail_types.specs.Timetables.{IsTimetable};
 

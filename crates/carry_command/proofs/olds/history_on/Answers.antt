@@ -1,7 +1,7 @@
 use Rattle.std.proofs.Common.{◌≡◌, ◌∙◌, ap}
 use Rattle.rail_types.specs.declared.tracks.Network.{Network}
 use Rattle.rail_types.specs.Timetables.{timetable_of}
-use Rattle.init_command.specs.Moves.{timetable_on}
+use Rattle.command_files.specs.Timetables.{timetable_on}
 use Rattle.print_commands.proofs.Histories.{history_on_disk, refused_on_disk}
 use Rattle.carry_command.proofs.olds.history_on.Goals as goal
 

@@ -1,7 +1,7 @@
 use Rattle.std.proofs.Common.{◌≡◌, ◌∙◌, sym, ap, subst}
 use Rattle.rail_types.specs.declared.tracks.Network.{Network}
 use Rattle.rail_types.specs.Timetables.{Timetable, timetable_of}
-use Rattle.init_command.specs.Moves.{timetable_on}
+use Rattle.command_files.specs.Timetables.{timetable_on}
 use Rattle.carry_command.specs.Carried.{entries_at, IsCarriedOf}
 use Rattle.carry_command.proofs.Whole.{told_prepares}
 use Rattle.carry_command.proofs.preparing.prepare.Goals as goal
