@@ -16,20 +16,20 @@ use Rattle.command_reports.specs.declared.refusals.Refusal.{Refusal}
 use Rattle.served_clients.specs.book.Ledgers.{Ledger}
 use Rattle.served_clients.specs.declared.serve_reports.ends.Ends.{Ends}
 use Rattle.served_clients.proofs.Halts.{Unserved, unserved_stopped}
-use Rattle.served_clients.specs.Kinds.{Kinds}
+use Rattle.served_clients.specs.RunGhosts.{RunGhosts}
 use Rattle.batch_command.specs.Books.{BookSays, HadPair}
-use Rattle.batch_command.specs.Crews.{Crew}
+use Rattle.batch_command.specs.GivenBatches.{Batch}
 use Rattle.batch_command.specs.Lists.{ListSays}
 
 -- no streams were opened
-pub record NotOpened {Src Snk Dsk L : Type 0} (kinds : Kinds Src Snk Dsk L) (known : Names) (crew : Crew L) (found : Ledger Dsk) (after : Dsk) (s0 s1 : Scene Src Snk Dsk) (refusal : Refusal) : Type 0 where
-  pub says : BookSays kinds known crew found after s0 s1 (Err refusal)
-  pub keeps : KeepsTo {A = Ends} (pair_calls crew.client) s0 s1 (Err refusal)
+pub record NotOpened {Src Snk Dsk L : Type 0} (ghosts : RunGhosts Src Snk Dsk L) (known : Names) (batch : Batch L) (found : Ledger Dsk) (after : Dsk) (s0 s1 : Scene Src Snk Dsk) (refusal : Refusal) : Type 0 where
+  pub says : BookSays ghosts known batch found after s0 s1 (Err refusal)
+  pub keeps : KeepsTo {A = Ends} (pair_calls batch.client) s0 s1 (Err refusal)
 
-pub not_opened : {Src Snk Dsk L : Type 0} (kinds : Kinds Src Snk Dsk L) (known : Names) (crew : Crew L) (found : Ledger Dsk) (after : Dsk) (s0 s1 : Scene Src Snk Dsk) (refusal : Refusal)
-    → after ≡ found.disk → IsStopped (pair_calls crew.client) s0 s1 refusal → NotOpened kinds known crew found after s0 s1 refusal
-not_opened kinds known crew found after s0 s1 refusal same stopped =
-    let unserved : Unserved Ends (pair_calls crew.client) found after s0 s1 refusal = unserved_stopped Ends (pair_calls crew.client) found after s0 s1 refusal same stopped in
+pub not_opened : {Src Snk Dsk L : Type 0} (ghosts : RunGhosts Src Snk Dsk L) (known : Names) (batch : Batch L) (found : Ledger Dsk) (after : Dsk) (s0 s1 : Scene Src Snk Dsk) (refusal : Refusal)
+    → after ≡ found.disk → IsStopped (pair_calls batch.client) s0 s1 refusal → NotOpened ghosts known batch found after s0 s1 refusal
+not_opened ghosts known batch found after s0 s1 refusal same stopped =
+    let unserved : Unserved Ends (pair_calls batch.client) found after s0 s1 refusal = unserved_stopped Ends (pair_calls batch.client) found after s0 s1 refusal same stopped in
     record { says = inl unserved.says; keeps = unserved.keeps }
 
 -- the source and the sink of a client differ
@@ -57,7 +57,7 @@ module _ {Src Snk Dsk : Type 0} (client : ClientWord) (before after : Src × Snk
   pair_keeps (Err refusal) = record { keeps = pair_used.keeps; opens = (2, pair_opened) }
 
 -- what is said of a book, by what is said of the list that was read from the source
-pub book_by : {Src Snk Dsk L : Type 0} (kinds : Kinds Src Snk Dsk L) (known : Names) (crew : Crew L) (before after : Src × Snk) (s0 s1 : Scene Src Snk Dsk) (found : Ledger Dsk) (left : Dsk) (result : Result Ends Refusal)
-    → HadPair crew.client s0 s1 before.0 after.0 before.1 after.1 → ListSays kinds known crew found left before.0 after.0 before.1 after.1 result → BookSays kinds known crew found left s0 s1 result
-book_by kinds known crew before after s0 s1 found left (Ok ends) had says = record { src = before.0; src' = after.0; snk = before.1; snk' = after.1; had = had; answered = says }
-book_by kinds known crew before after s0 s1 found left (Err refusal) had says = inr (record { src = before.0; src' = after.0; snk = before.1; snk' = after.1; had = had; refused = says })
+pub book_by : {Src Snk Dsk L : Type 0} (ghosts : RunGhosts Src Snk Dsk L) (known : Names) (batch : Batch L) (before after : Src × Snk) (s0 s1 : Scene Src Snk Dsk) (found : Ledger Dsk) (left : Dsk) (result : Result Ends Refusal)
+    → HadPair batch.client s0 s1 before.0 after.0 before.1 after.1 → ListSays ghosts known batch found left before.0 after.0 before.1 after.1 result → BookSays ghosts known batch found left s0 s1 result
+book_by ghosts known batch before after s0 s1 found left (Ok ends) had says = record { src = before.0; src' = after.0; snk = before.1; snk' = after.1; had = had; answered = says }
+book_by ghosts known batch before after s0 s1 found left (Err refusal) had says = inr (record { src = before.0; src' = after.0; snk = before.1; snk' = after.1; had = had; refused = says })

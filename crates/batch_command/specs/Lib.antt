@@ -3,7 +3,7 @@ pub mod Works
 pub mod Journals
 pub mod Books
 pub mod Lists
-pub mod Crews
+pub mod GivenBatches
 pub mod Asked
 pub mod Ends
 pub mod Flaws

@@ -1,6 +1,6 @@
 -- A list that is read, answered and written, over the book of a journal.
 use Rattle.std.specs.Prelude.{◌≡◌, ◌⊎◌, ℕ, List, Option, None, Some, map, Result, Ok, Err}
-use Rattle.batch_command.specs.Crews.{Crew}
+use Rattle.batch_command.specs.GivenBatches.{Batch}
 use Rattle.batch_command.specs.Ends.{IsEnds}
 use Rattle.batch_command.specs.Flaws.{TellsStop}
 use Rattle.batch_command.specs.Batches.{WereAnswered}
@@ -22,7 +22,7 @@ use Rattle.outside_io.specs.declared.sources.Source.{Ghosts as Sources}
 use Rattle.served_clients.specs.book.Footings.{footing_of}
 use Rattle.served_clients.specs.book.Ledgers.{Ledger}
 use Rattle.served_clients.specs.declared.serve_reports.ends.Ends.{Ends}
-use Rattle.served_clients.specs.Kinds.{Kinds}
+use Rattle.served_clients.specs.RunGhosts.{RunGhosts}
 use Rattle.served_clients.specs.ServedJournals.{IsClosed}
 use Rattle.batch_command.specs.Owners.{owners_of}
 use Rattle.batch_command.specs.Asked.{HasFlaw, IsAsked}
@@ -46,8 +46,8 @@ pub record AreMembers {Btw L : Type 0} (batch : List ℕ) (workers : ℕ)
 -- number stands there under the name of a worker by the first such one, before its others. The
 -- replies were written in the order of the list, and these are the ends. The workers are told
 -- without what happens between searches, on which nothing that is told depends.
-pub record AreAnswered {Src Snk Dsk L : Type 0} (kinds : Kinds Src Snk Dsk L) (known : Names)
-    (crew : Crew L) (lines : List (List ℕ)) (found : Ledger Dsk) (after : Dsk) (snk snk' : Snk)
+pub record AreAnswered {Src Snk Dsk L : Type 0} (ghosts : RunGhosts Src Snk Dsk L) (known : Names)
+    (batch : Batch L) (lines : List (List ℕ)) (found : Ledger Dsk) (after : Dsk) (snk snk' : Snk)
     (ends : Ends) : Type 0 where
   pub left : Ledger Dsk
   pub numbers : List (Option ℕ)
@@ -55,23 +55,23 @@ pub record AreAnswered {Src Snk Dsk L : Type 0} (kinds : Kinds Src Snk Dsk L) (k
   pub worked : List (Worked L)
   pub texts : Option (List (List ℕ))
   pub written : Ended
-  pub asked : IsAsked known crew.client.client crew.workers found.entries lines numbers
-  pub members_are : AreMembers crew.client.client crew.workers crew.rules members
-  pub answered : WereAnswered kinds.rule kinds.disk.faults known lines
-      (owners_of found.entries (worker_names crew.client.client crew.workers) numbers)
+  pub asked : IsAsked known batch.client.client batch.workers found.entries lines numbers
+  pub members_are : AreMembers batch.client.client batch.workers batch.rules members
+  pub answered : WereAnswered ghosts.rule ghosts.disk.faults known lines
+      (owners_of found.entries (worker_names batch.client.client batch.workers) numbers)
       found left members worked texts
-  pub writes : WritesTexts kinds.sink texts snk snk' written
+  pub writes : WritesTexts ghosts.sink texts snk snk' written
   pub footing : footing_of left ≡ footing_of found
-  pub closed : IsClosed kinds.disk left after
-  pub ends_are : IsEnds kinds.rule crew.client.client written worked ends
+  pub closed : IsClosed ghosts.disk left after
+  pub ends_are : IsEnds ghosts.rule batch.client.client written worked ends
 
 -- the list was read as a whole, and its lines were answered and the replies written
-pub record IsAnswered {Src Snk Dsk L : Type 0} (kinds : Kinds Src Snk Dsk L) (known : Names)
-    (crew : Crew L) (found : Ledger Dsk) (after : Dsk) (src src' : Src) (snk snk' : Snk)
+pub record IsAnswered {Src Snk Dsk L : Type 0} (ghosts : RunGhosts Src Snk Dsk L) (known : Names)
+    (batch : Batch L) (found : Ledger Dsk) (after : Dsk) (src src' : Src) (snk snk' : Snk)
     (ends : Ends) : Type 0 where
   pub lines : List (List ℕ)
-  pub read : IsWhole kinds.source src src' lines
-  pub outcome : AreAnswered kinds known crew lines found after snk snk' ends
+  pub read : IsWhole ghosts.source src src' lines
+  pub outcome : AreAnswered ghosts known batch lines found after snk snk' ends
 
 -- the list was not read, and this is told
 pub record IsUnread {Src : Type 0} (source : Sources Src) (batch : List ℕ) (src src' : Src)
@@ -90,20 +90,20 @@ pub record IsFlawed {Src Dsk : Type 0} (source : Sources Src) (known : Names) (b
 -- Nobody answered: the list was not read, or it has a flaw, or memory was
 -- wanted. Nothing was written.
 pub record IsRefused {Src Snk Dsk L : Type 0} (source : Sources Src) (known : Names)
-    (crew : Crew L) (found : Ledger Dsk) (after : Dsk) (src src' : Src) (snk snk' : Snk)
+    (batch : Batch L) (found : Ledger Dsk) (after : Dsk) (src src' : Src) (snk snk' : Snk)
     (refusal : Refusal) : Type 0 where
   pub disk_is : after ≡ found.disk
   pub unwritten : snk' ≡ snk
-  pub why : IsUnread source crew.client.client src src' refusal
-      ⊎ IsFlawed source known crew.client.client crew.workers found src src' refusal
+  pub why : IsUnread source batch.client.client src src' refusal
+      ⊎ IsFlawed source known batch.client.client batch.workers found src src' refusal
 
 -- what is said of a list over a book
-abbrev pub ListSays : {Src Snk Dsk L : Type 0} → Kinds Src Snk Dsk L → Names → Crew L
+abbrev pub ListSays : {Src Snk Dsk L : Type 0} → RunGhosts Src Snk Dsk L → Names → Batch L
     → Ledger Dsk → Dsk → Src → Src → Snk → Snk → Result Ends Refusal → Type 0
-ListSays kinds known crew found after src src' snk snk' (Ok ends) =
-    IsAnswered kinds known crew found after src src' snk snk' ends
-ListSays kinds known crew found after src src' snk snk' (Err refusal) =
-    IsRefused kinds.source known crew found after src src' snk snk' refusal
+ListSays ghosts known batch found after src src' snk snk' (Ok ends) =
+    IsAnswered ghosts known batch found after src src' snk snk' ends
+ListSays ghosts known batch found after src src' snk snk' (Err refusal) =
+    IsRefused ghosts.source known batch found after src src' snk snk' refusal
 
 -- ---- *inside*
 
@@ -116,9 +116,9 @@ pub record AreRefused {Snk Dsk : Type 0} (known : Names) (batch : List ℕ) (wor
   pub flaw : HasFlaw known batch workers found.entries lines refusal
 
 -- what is said of the lines of a list over a book
-abbrev pub LinesSay : {Src Snk Dsk L : Type 0} → Kinds Src Snk Dsk L → Names → Crew L
+abbrev pub LinesSay : {Src Snk Dsk L : Type 0} → RunGhosts Src Snk Dsk L → Names → Batch L
     → List (List ℕ) → Ledger Dsk → Dsk → Snk → Snk → Result Ends Refusal → Type 0
-LinesSay kinds known crew lines found after snk snk' (Ok ends) =
-    AreAnswered kinds known crew lines found after snk snk' ends
-LinesSay kinds known crew lines found after snk snk' (Err refusal) =
-    AreRefused known crew.client.client crew.workers lines found after snk snk' refusal
+LinesSay ghosts known batch lines found after snk snk' (Ok ends) =
+    AreAnswered ghosts known batch lines found after snk snk' ends
+LinesSay ghosts known batch lines found after snk snk' (Err refusal) =
+    AreRefused known batch.client.client batch.workers lines found after snk snk' refusal

@@ -23,11 +23,11 @@ use Rattle.served_clients.specs.Ends.{EndsSay}
 use Rattle.served_clients.specs.declared.serve_reports.ends.Ends.{Ends}
 use Rattle.served_clients.specs.Files.{files_of, known_by}
 use Rattle.served_clients.specs.GivenNames.{GivenNames}
-use Rattle.served_clients.specs.Kinds.{Kinds}
+use Rattle.served_clients.specs.RunGhosts.{RunGhosts}
 use Rattle.served_clients.specs.ServedJournals.{IsFound}
 use Rattle.served_clients.specs.declared.served_journals.files.Files.{Files}
 use Rattle.batch_command.specs.Asked.{IsFlaw}
-use Rattle.batch_command.specs.Crews.{Crew}
+use Rattle.batch_command.specs.GivenBatches.{Batch}
 use Rattle.batch_command.specs.Journals.{Serves}
 use Rattle.batch_command.specs.Works.{batch_calls, ReadsNetwork}
 
@@ -39,13 +39,14 @@ EndsRun sink old new (Err refusal) status = TellsRefusal sink refusal old new st
 
 -- The files were read, the journal was opened, the list was read and answered, and this was
 -- reported: in this order, each name opened once, and all put back.
-pub record RunsBatch {Src Snk Dsk L : Type 0} (kinds : Kinds Src Snk Dsk L) (names : GivenNames)
-    (crew : Crew L) (old new : Scene Src Snk Dsk) (status : Status) : Type 0 where
+pub record RunsBatch {Src Snk Dsk L : Type 0} (ghosts : RunGhosts Src Snk Dsk L)
+    (names : GivenNames)
+    (batch : Batch L) (old new : Scene Src Snk Dsk) (status : Status) : Type 0 where
   pub between : Scene Src Snk Dsk
   pub outcome : Result Ends Refusal
-  pub works : ReadsNetwork kinds names crew old between outcome
-  pub keeps : KeepsTo (batch_calls names crew.client) old between outcome
-  pub ends : EndsRun kinds.sink between new outcome status
+  pub works : ReadsNetwork ghosts names batch old between outcome
+  pub keeps : KeepsTo (batch_calls names batch.client) old between outcome
+  pub ends : EndsRun ghosts.sink between new outcome status
 
 -- the three files were read, each as it stood then
 pub record HasRead {Src Snk Dsk : Type 0} (source : Sources Src) (names : GivenNames)
@@ -64,16 +65,17 @@ pub record HasRead {Src Snk Dsk : Type 0} (source : Sources Src) (names : GivenN
 -- All was done: the files were read, the journal was opened, the list was answered over it,
 -- all replies were written in its order, and the lines of the batch, of each worker and of
 -- each of its rules were reported.
-pub record IsBatchDone {Src Snk Dsk L : Type 0} (kinds : Kinds Src Snk Dsk L) (names : GivenNames)
-    (crew : Crew L) (old new : Scene Src Snk Dsk) : Type 0 where
+pub record IsBatchDone {Src Snk Dsk L : Type 0} (ghosts : RunGhosts Src Snk Dsk L)
+    (names : GivenNames)
+    (batch : Batch L) (old new : Scene Src Snk Dsk) : Type 0 where
   pub third : Scene Src Snk Dsk
   pub fourth : Scene Src Snk Dsk
   pub files : Files
-  pub read : HasRead kinds.source names old third files
+  pub read : HasRead ghosts.source names old third files
   pub ends : Ends
-  pub serves : Serves kinds files names.journal crew third fourth ends
+  pub serves : Serves ghosts files names.journal batch third fourth ends
   pub whole : serves.answers.answered.outcome.written.why ≡ Input
-  pub told : ReportSays kinds.sink (report_text kinds.rule crew.client.client
+  pub told : ReportSays ghosts.sink (report_text ghosts.rule batch.client.client
       serves.answers.answered.outcome.written serves.answers.answered.outcome.worked)
       fourth new (Ok tt)
   pub only : ChangesOnlyReport fourth new

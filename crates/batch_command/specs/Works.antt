@@ -14,32 +14,32 @@ use Rattle.rail_types.specs.declared.trains.Train.{Train}
 use Rattle.served_clients.specs.declared.serve_reports.ends.Ends.{Ends}
 use Rattle.served_clients.specs.Files.{files_of}
 use Rattle.served_clients.specs.GivenNames.{GivenNames}
-use Rattle.served_clients.specs.Kinds.{Kinds}
-use Rattle.batch_command.specs.Crews.{Crew}
+use Rattle.served_clients.specs.RunGhosts.{RunGhosts}
+use Rattle.batch_command.specs.GivenBatches.{Batch}
 use Rattle.batch_command.specs.Journals.{BatchStep}
 
 -- the base timetable is read on the zones of the network, and then the list is answered
-abbrev pub ReadsBase : {Src Snk Dsk L : Type 0} → Kinds Src Snk Dsk L → GivenNames → Crew L
+abbrev pub ReadsBase : {Src Snk Dsk L : Type 0} → RunGhosts Src Snk Dsk L → GivenNames → Batch L
     → NetworkFile → List Train → Scene Src Snk Dsk → Scene Src Snk Dsk → Result Ends Refusal
     → Type 0
-ReadsBase kinds names crew network trains old new result =
-    Follows (BaseStep kinds.source network.named.network.zones names.base)
-    (λ (file : BaseFile). BatchStep kinds (files_of network file trains) names.journal crew)
+ReadsBase ghosts names batch network trains old new result =
+    Follows (BaseStep ghosts.source network.named.network.zones names.base)
+    (λ (file : BaseFile). BatchStep ghosts (files_of network file trains) names.journal batch)
     old new result
 
 -- the trains are read, and then the base timetable
-abbrev pub ReadsTrains : {Src Snk Dsk L : Type 0} → Kinds Src Snk Dsk L → GivenNames → Crew L
+abbrev pub ReadsTrains : {Src Snk Dsk L : Type 0} → RunGhosts Src Snk Dsk L → GivenNames → Batch L
     → NetworkFile → Scene Src Snk Dsk → Scene Src Snk Dsk → Result Ends Refusal → Type 0
-ReadsTrains kinds names crew network old new result =
-    Follows (TrainStep kinds.source names.trains)
-    (λ (read : List Train). ReadsBase kinds names crew network read) old new result
+ReadsTrains ghosts names batch network old new result =
+    Follows (TrainStep ghosts.source names.trains)
+    (λ (read : List Train). ReadsBase ghosts names batch network read) old new result
 
 -- the network is read, and then the trains
-abbrev pub ReadsNetwork : {Src Snk Dsk L : Type 0} → Kinds Src Snk Dsk L → GivenNames → Crew L
+abbrev pub ReadsNetwork : {Src Snk Dsk L : Type 0} → RunGhosts Src Snk Dsk L → GivenNames → Batch L
     → Scene Src Snk Dsk → Scene Src Snk Dsk → Result Ends Refusal → Type 0
-ReadsNetwork kinds names crew old new result =
-    Follows (NetworkStep kinds.source names.network)
-    (λ (file : NetworkFile). ReadsTrains kinds names crew file) old new result
+ReadsNetwork ghosts names batch old new result =
+    Follows (NetworkStep ghosts.source names.network)
+    (λ (file : NetworkFile). ReadsTrains ghosts names batch file) old new result
 
 -- the opening calls of `batch`, in order
 abbrev pub batch_calls : GivenNames → ClientWord → List Opening

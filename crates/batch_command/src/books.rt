@@ -2,7 +2,7 @@
 
 ghost use Rattle.std.specs.Prelude.{◌≡◌, length};
 ghost use Rattle.batch_command.specs.Books.{BookSays};
-ghost use Rattle.batch_command.specs.Crews.{crew_of};
+ghost use Rattle.batch_command.specs.GivenBatches.{batch_of};
 ghost use Rattle.command_line.specs.Workers.{AreWorkers, IsBatchClient};
 ghost use Rattle.served_clients.specs.lines.Within.{AreSound};
 ghost use Rattle.served_clients.specs.StreamClients.{pair_calls};
@@ -10,10 +10,10 @@ ghost use Rattle.command_reports.specs.Works.{KeepsTo};
 ghost use Rattle.command_reports.specs.Scenes.{scene};
 ghost use Rattle.served_clients.specs.book.Ledgers.{settled_of};
 ghost use Rattle.served_clients.specs.Files.{names_of};
-ghost use Rattle.served_clients.specs.Kinds.{kinds_of};
+ghost use Rattle.served_clients.specs.RunGhosts.{run_ghosts};
 
+use crate::list_workers::ListWorkers;
 use crate::lists::serve_list;
-use crate::rosters::Roster;
 use command_files::train::Trains;
 use command_line::client_words::ClientWord;
 use command_reports::Refusal;
@@ -46,8 +46,8 @@ pub(crate) fn serve_book<R: AllocGlobal + Threads + Wait + Sync, O: Outside, L: 
     requires settled { settled_of book ≡ length book.entries }
     requires sound { AreSound (names_of named trains) }
     requires network { named.network ≡ book.timetable.net }
-    ensures says { BookSays (kinds_of O.Src.Source O.Snk.Sink O.Dsk.Disk L.Rule)
-        (names_of named trains) (crew_of client.now workers rules.items) book result.0
+    ensures says { BookSays (run_ghosts O.Src.Source O.Snk.Sink O.Dsk.Disk L.Rule)
+        (names_of named trains) (batch_of client.now workers rules.items) book result.0
         (scene O.Outside outside.old) (scene O.Outside outside.new) result.1 }
     ensures keeps { KeepsTo (pair_calls client.now) (scene O.Outside outside.old)
         (scene O.Outside outside.new) result.1 }
@@ -59,12 +59,12 @@ pub(crate) fn serve_book<R: AllocGlobal + Threads + Wait + Sync, O: Outside, L: 
         Ok(streams) => streams,
         Err(refusal) => return (book.close(), Err(refusal)),
     };
-    let roster = Roster { client, workers };
+    let answering = ListWorkers { client, workers };
     let (disk, outcome) = serve_list(
         rt,
         book,
         known,
-        &roster,
+        &answering,
         rules,
         &mut source,
         &mut sink,

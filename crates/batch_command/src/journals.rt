@@ -1,13 +1,13 @@
 //! The journal of a run.
 
-ghost use Rattle.batch_command.specs.Crews.{crew_of};
+ghost use Rattle.batch_command.specs.GivenBatches.{batch_of};
 ghost use Rattle.batch_command.specs.Journals.{BatchStep, DiskSays};
 ghost use Rattle.command_line.specs.Workers.{AreWorkers, IsBatchClient};
 ghost use Rattle.served_clients.specs.StreamClients.{pair_calls};
 ghost use Rattle.command_reports.specs.Works.{KeepsTo};
 ghost use Rattle.command_reports.specs.Scenes.{scene};
 ghost use Rattle.served_clients.specs.Files.{AreFiles};
-ghost use Rattle.served_clients.specs.Kinds.{kinds_of};
+ghost use Rattle.served_clients.specs.RunGhosts.{run_ghosts};
 
 use crate::books::serve_book;
 use command_line::client_words::ClientWord;
@@ -34,8 +34,9 @@ pub(crate) fn serve_files<R: AllocGlobal + Threads + Wait + Sync, O: Outside, L:
     requires client { IsBatchClient client.now }
     requires workers { AreWorkers workers }
     requires files { AreFiles files }
-    ensures step { BatchStep (kinds_of O.Src.Source O.Snk.Sink O.Dsk.Disk L.Rule) files journal.now
-        (crew_of client.now workers rules.items) (scene O.Outside outside.old)
+    ensures step { BatchStep (run_ghosts O.Src.Source O.Snk.Sink O.Dsk.Disk L.Rule) files
+        journal.now
+        (batch_of client.now workers rules.items) (scene O.Outside outside.old)
         (scene O.Outside outside.new) result }
 {
     let Ok(disk) = outside.disk(journal) else {
@@ -60,8 +61,8 @@ fn serve_disk<R: AllocGlobal + Threads + Wait + Sync, O: Outside, L: Rule + Send
     requires client { IsBatchClient client.now }
     requires workers { AreWorkers workers }
     requires files { AreFiles files }
-    ensures says { DiskSays (kinds_of O.Src.Source O.Snk.Sink O.Dsk.Disk L.Rule) files journal.now
-        (crew_of client.now workers rules.items) disk result.0 (scene O.Outside outside.old)
+    ensures says { DiskSays (run_ghosts O.Src.Source O.Snk.Sink O.Dsk.Disk L.Rule) files journal.now
+        (batch_of client.now workers rules.items) disk result.0 (scene O.Outside outside.old)
         (scene O.Outside outside.new) result.1 }
     ensures keeps { KeepsTo (pair_calls client.now) (scene O.Outside outside.old)
         (scene O.Outside outside.new) result.1 }

@@ -1,14 +1,14 @@
 //! A list that is read, answered over a book, and written.
 
 ghost use Rattle.std.specs.Prelude.{◌≡◌, ◌≤◌, All, IfOk, IfSome, length, option_map};
-ghost use Rattle.batch_command.specs.Crews.{crew_of};
+ghost use Rattle.batch_command.specs.GivenBatches.{batch_of};
 ghost use Rattle.batch_command.specs.Lists.{LinesSay, ListSays, WritesTexts};
 ghost use Rattle.command_line.specs.Workers.{AreWorkers, worker_names as names_of_workers};
 ghost use Rattle.command_line.specs.declared.batch_words.clients.TheConstants.{
   MAX_BATCH_NAME_BYTES,
 };
 ghost use Rattle.served_clients.specs.lines.Within.{AreSound};
-ghost use Rattle.served_clients.specs.Kinds.{kinds_of};
+ghost use Rattle.served_clients.specs.RunGhosts.{run_ghosts};
 ghost use Rattle.served_clients.specs.Lending.{IsUnchanged};
 ghost use Rattle.command_reports.specs.Scenes.{scene};
 ghost use Rattle.served_clients.specs.lines.declared.lines.TheConstants.{MAX_LINE_BYTES};
@@ -22,8 +22,8 @@ use crate::batch_server::{Answered, answer_list};
 use crate::flaws::numbers_asked;
 use crate::list_lines::read_list;
 use crate::list_replies::write_texts;
+use crate::list_workers::ListWorkers;
 use crate::members::members_of;
-use crate::rosters::Roster;
 use crate::worker_numbers::owners_of;
 use command_line::batch_words::{worker_names, worker_names_are_names, worker_names_differ};
 use command_reports::Refusal;
@@ -50,24 +50,24 @@ pub(crate) fn serve_list<R: AllocGlobal + Threads + Wait + Sync, O: Outside, L: 
     rt: &R,
     book: Book<O::Dsk>,
     known: Known,
-    roster: &Roster<'_>,
+    answering: &ListWorkers<'_>,
     rules: Vec<ClientRules<L>>,
     source: &mut O::Src,
     sink: &mut O::Snk,
     outside: &mut O,
 ) -> (O::Dsk, Result<Ends, Refusal>)
-    requires named { IsClientName roster.now.client.now.client }
-    requires name { length roster.now.client.now.client ≤ MAX_BATCH_NAME_BYTES }
-    requires workers { AreWorkers roster.now.workers }
+    requires named { IsClientName answering.now.client.now.client }
+    requires name { length answering.now.client.now.client ≤ MAX_BATCH_NAME_BYTES }
+    requires workers { AreWorkers answering.now.workers }
     requires settled { settled_of book ≡ length book.entries }
     requires sound { AreSound known }
     requires network { known.railway.network ≡ book.timetable.net }
-    ensures says { ListSays (kinds_of O.Src.Source O.Snk.Sink O.Dsk.Disk L.Rule) known
-        (crew_of roster.now.client.now roster.now.workers rules.items) book result.0
+    ensures says { ListSays (run_ghosts O.Src.Source O.Snk.Sink O.Dsk.Disk L.Rule) known
+        (batch_of answering.now.client.now answering.now.workers rules.items) book result.0
         source.old source.new sink.old sink.new result.1 }
     ensures still { IsUnchanged (scene O.Outside outside.old) (scene O.Outside outside.new) }
 {
-    let client = roster.client;
+    let client = answering.client;
     let lines = match read_list(rt.alloc(), source) {
         Ok(lines) => lines,
         Err(fault) => return (
@@ -75,7 +75,7 @@ pub(crate) fn serve_list<R: AllocGlobal + Threads + Wait + Sync, O: Outside, L: 
             Err(list_stops(rt.alloc(), &client.client, fault)),
         ),
     };
-    answer_lines(rt, book, known, roster, rules, &lines, sink, outside)
+    answer_lines(rt, book, known, answering, rules, &lines, sink, outside)
 }
 
 // Answers the lines of a list that was read.
@@ -83,30 +83,30 @@ fn answer_lines<R: AllocGlobal + Threads + Wait + Sync, O: Outside, L: Rule + Se
     rt: &R,
     book: Book<O::Dsk>,
     known: Known,
-    roster: &Roster<'_>,
+    answering: &ListWorkers<'_>,
     rules: Vec<ClientRules<L>>,
     lines: &[Name],
     sink: &mut O::Snk,
     outside: &mut O,
 ) -> (O::Dsk, Result<Ends, Refusal>)
-    requires named { IsClientName roster.now.client.now.client }
-    requires name { length roster.now.client.now.client ≤ MAX_BATCH_NAME_BYTES }
-    requires workers { AreWorkers roster.now.workers }
+    requires named { IsClientName answering.now.client.now.client }
+    requires name { length answering.now.client.now.client ≤ MAX_BATCH_NAME_BYTES }
+    requires workers { AreWorkers answering.now.workers }
     requires settled { settled_of book ≡ length book.entries }
     requires sound { AreSound known }
     requires network { known.railway.network ≡ book.timetable.net }
     requires count { length lines.now ≤ MAX_LINES }
     requires texts { All (λ line. length line ≤ MAX_LINE_BYTES) lines.now }
-    ensures says { LinesSay (kinds_of O.Src.Source O.Snk.Sink O.Dsk.Disk L.Rule) known
-        (crew_of roster.now.client.now roster.now.workers rules.items) lines.now book result.0
-        sink.old sink.new result.1 }
+    ensures says { LinesSay (run_ghosts O.Src.Source O.Snk.Sink O.Dsk.Disk L.Rule) known
+        (batch_of answering.now.client.now answering.now.workers rules.items) lines.now book
+        result.0 sink.old sink.new result.1 }
     ensures still { IsUnchanged (scene O.Outside outside.old) (scene O.Outside outside.new) }
 {
     worker_names_are_names();
     worker_names_differ();
-    let client = roster.client;
+    let client = answering.client;
     let batch = &client.client;
-    let workers = roster.workers;
+    let workers = answering.workers;
     let asked = numbers_asked(rt.alloc(), &known, batch, workers, book.history(), lines);
     let numbers = match asked {
         Ok(numbers) => numbers,

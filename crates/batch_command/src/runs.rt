@@ -1,14 +1,14 @@
 //! The run of `batch`.
 
 ghost use Rattle.std.specs.Prelude.{◌≡◌, ◌≢◌, ℕ, List};
-ghost use Rattle.batch_command.specs.Crews.{crew_of};
+ghost use Rattle.batch_command.specs.GivenBatches.{batch_of};
 ghost use Rattle.batch_command.specs.Runs.{EndsRun, IsBatchDone, IsRefusedList, RunsBatch};
 ghost use Rattle.command_line.specs.Workers.{AreWorkers, IsBatchClient};
 ghost use Rattle.command_reports.specs.Scenes.{scene};
 ghost use Rattle.outside_io.specs.Openings.{Undisturbed};
 ghost use Rattle.outside_io.specs.Places.{Untouched};
 ghost use Rattle.served_clients.specs.GivenNames.{names_in};
-ghost use Rattle.served_clients.specs.Kinds.{kinds_of};
+ghost use Rattle.served_clients.specs.RunGhosts.{run_ghosts};
 
 use crate::works::batch;
 use command_line::client_words::ClientWord;
@@ -46,13 +46,13 @@ pub fn run_batch<R: AllocGlobal + Threads + Wait + Sync, O: Outside, L: Rule + S
     requires client { IsBatchClient client.now }
     requires workers { AreWorkers workers }
     // All that is done, by the status and the report.
-    ensures runs { RunsBatch (kinds_of O.Src.Source O.Snk.Sink O.Dsk.Disk L.Rule)
-        (names_in names.now) (crew_of client.now workers rules.items) (scene O.Outside outside.old)
+    ensures runs { RunsBatch (run_ghosts O.Src.Source O.Snk.Sink O.Dsk.Disk L.Rule)
+        (names_in names.now) (batch_of client.now workers rules.items) (scene O.Outside outside.old)
         (scene O.Outside outside.new) result }
     // At Done each line of the list was answered, and its reply written in the order of the list.
     ensures done { result ≡ Status.Done
-        → IsBatchDone (kinds_of O.Src.Source O.Snk.Sink O.Dsk.Disk L.Rule) (names_in names.now)
-        (crew_of client.now workers rules.items) (scene O.Outside outside.old)
+        → IsBatchDone (run_ghosts O.Src.Source O.Snk.Sink O.Dsk.Disk L.Rule) (names_in names.now)
+        (batch_of client.now workers rules.items) (scene O.Outside outside.old)
         (scene O.Outside outside.new) }
     // At No the list was read, and has a flaw.
     ensures no { result ≡ Status.No → IsRefusedList O.Src.Source O.Dsk.Disk (names_in names.now)

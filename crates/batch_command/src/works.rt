@@ -1,13 +1,13 @@
 //! The work of `batch`: reads the three files, and then answers the list.
 
-ghost use Rattle.batch_command.specs.Crews.{crew_of};
+ghost use Rattle.batch_command.specs.GivenBatches.{batch_of};
 ghost use Rattle.batch_command.specs.Works.{ReadsBase, ReadsNetwork, ReadsTrains};
 ghost use Rattle.command_line.specs.Workers.{AreWorkers, IsBatchClient};
 ghost use Rattle.command_reports.specs.Scenes.{scene};
 ghost use Rattle.rail_types.specs.Limits.{IsTrainWithinLimits};
 ghost use Rattle.served_clients.specs.Files.{IsNetworkRead};
 ghost use Rattle.served_clients.specs.GivenNames.{names_in};
-ghost use Rattle.served_clients.specs.Kinds.{kinds_of};
+ghost use Rattle.served_clients.specs.RunGhosts.{run_ghosts};
 ghost use Rattle.std.specs.Prelude.{All};
 
 use crate::journals::serve_files;
@@ -37,8 +37,8 @@ pub(crate) fn batch<R: AllocGlobal + Threads + Wait + Sync, O: Outside, L: Rule 
 ) -> Result<Ends, Refusal>
     requires client { IsBatchClient client.now }
     requires workers { AreWorkers workers }
-    ensures works { ReadsNetwork (kinds_of O.Src.Source O.Snk.Sink O.Dsk.Disk L.Rule)
-        (names_in names.now) (crew_of client.now workers rules.items) (scene O.Outside outside.old)
+    ensures works { ReadsNetwork (run_ghosts O.Src.Source O.Snk.Sink O.Dsk.Disk L.Rule)
+        (names_in names.now) (batch_of client.now workers rules.items) (scene O.Outside outside.old)
         (scene O.Outside outside.new) result }
 {
     let network = read_network_file(rt.alloc(), names.network, outside)?;
@@ -58,8 +58,8 @@ fn batch_network<R: AllocGlobal + Threads + Wait + Sync, O: Outside, L: Rule + S
     requires client { IsBatchClient client.now }
     requires workers { AreWorkers workers }
     requires network { IsNetworkRead network }
-    ensures works { ReadsTrains (kinds_of O.Src.Source O.Snk.Sink O.Dsk.Disk L.Rule)
-        (names_in names.now) (crew_of client.now workers rules.items) network
+    ensures works { ReadsTrains (run_ghosts O.Src.Source O.Snk.Sink O.Dsk.Disk L.Rule)
+        (names_in names.now) (batch_of client.now workers rules.items) network
         (scene O.Outside outside.old) (scene O.Outside outside.new) result }
 {
     let trains = read_train_file(rt.alloc(), names.trains, outside)?;
@@ -81,8 +81,8 @@ fn batch_trains<R: AllocGlobal + Threads + Wait + Sync, O: Outside, L: Rule + Se
     requires workers { AreWorkers workers }
     requires network { IsNetworkRead network }
     requires trains { All IsTrainWithinLimits trains }
-    ensures works { ReadsBase (kinds_of O.Src.Source O.Snk.Sink O.Dsk.Disk L.Rule)
-        (names_in names.now) (crew_of client.now workers rules.items) network trains
+    ensures works { ReadsBase (run_ghosts O.Src.Source O.Snk.Sink O.Dsk.Disk L.Rule)
+        (names_in names.now) (batch_of client.now workers rules.items) network trains
         (scene O.Outside outside.old) (scene O.Outside outside.new) result }
 {
     bases_make_timetables();

@@ -6,7 +6,7 @@ ghost use Rattle.crossbeam_queue.specs.Passes.{IsPassOf};
 ghost use Rattle.batch_pool.specs.Batches.{all_places, AreMatched, IsServed};
 ghost use Rattle.batch_pool.specs.Hands.{hand, knows};
 ghost use Rattle.batch_pool.specs.Rooms.{IsRoomFor};
-ghost use Rattle.batch_pool.specs.declared.workers.TheConstants.{MAX_AT_ONCE};
+ghost use Rattle.batch_pool.specs.declared.workers.TheConstants.{MAX_WORKERS_AT_ONCE};
 
 use crate::finishes::finish;
 use crate::jobs::{Job, split_all, work_all};
@@ -31,7 +31,7 @@ pub fn run_batch<R: Threads + Wait + Sync, W: Worker>(
     workers: Vec<W>,
 ) -> Result<Vec<Served<W>>, (Vec<W>, NoMemory)>
     requires some { 1 ≤ length workers.items }
-    requires few { length workers.items ≤ MAX_AT_ONCE }
+    requires few { length workers.items ≤ MAX_WORKERS_AT_ONCE }
     requires sound { All W.is_sound workers.items }
     requires left { All (λ worker. length todo.now ≤ W.left worker) workers.items }
     requires texts { All W.is_line lines.now }
@@ -60,7 +60,7 @@ pub fn answer_batch<R: Threads + Wait + Sync, W: Worker>(
     room: Room<W>,
 ) -> Vec<Served<W>>
     requires some { 1 ≤ length workers.items }
-    requires few { length workers.items ≤ MAX_AT_ONCE }
+    requires few { length workers.items ≤ MAX_WORKERS_AT_ONCE }
     requires sound { All W.is_sound workers.items }
     requires left { All (λ worker. length todo.now ≤ W.left worker) workers.items }
     requires texts { All W.is_line lines.now }
@@ -96,7 +96,7 @@ fn answer_all<R: Threads + Wait + Sync, W: Worker>(
     served: Vec<Served<W>>,
 ) -> Vec<Served<W>>
     requires some { 1 ≤ length workers.items }
-    requires few { length workers.items ≤ MAX_AT_ONCE }
+    requires few { length workers.items ≤ MAX_WORKERS_AT_ONCE }
     requires sound { All W.is_sound workers.items }
     requires left { All (λ worker. length todo.now ≤ W.left worker) workers.items }
     requires texts { All W.is_line lines.now }

@@ -6,7 +6,7 @@ ghost use Rattle.crossbeam_queue.specs.Passes.{IsPassOf};
 ghost use Rattle.batch_pool.specs.Batches.{AreMatched, IsServed, places};
 ghost use Rattle.batch_pool.specs.Hands.{hand, knows, weigh};
 ghost use Rattle.batch_pool.specs.Shifts.{IsBack, served_of, weigh_all};
-ghost use Rattle.batch_pool.specs.declared.workers.TheConstants.{MAX_AT_ONCE};
+ghost use Rattle.batch_pool.specs.declared.workers.TheConstants.{MAX_WORKERS_AT_ONCE};
 
 use crate::hands::{Cut, Hand, Line};
 use crate::jobs::Job;
@@ -33,7 +33,7 @@ pub(crate) fn finish<R: Wait, W: Worker>(
     requires pass { IsPassOf line.now pass }
     requires parts { knows pass ≡ hand (1024 - length jobs.items) todo.now [] }
     requires some { 1 ≤ length jobs.items }
-    requires few { length jobs.items ≤ MAX_AT_ONCE }
+    requires few { length jobs.items ≤ MAX_WORKERS_AT_ONCE }
     requires passes { All (λ job. IsPassOf line.now job.pass) jobs.items }
     requires back { All (IsBack W.left W.is_sound todo.now) jobs.items }
     requires served { served.items ≡ [] }

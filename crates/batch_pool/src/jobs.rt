@@ -6,12 +6,12 @@ ghost use Rattle.crossbeam_queue.specs.Passes.{IsPassOf};
 ghost use Rattle.batch_pool.specs.Batches.{AreMatched, IsServed, places};
 ghost use Rattle.batch_pool.specs.Hands.{hand, knows, weigh};
 ghost use Rattle.batch_pool.specs.Shifts.{IsBack, IsReady, lines_of, served_of};
-ghost use Rattle.batch_pool.specs.declared.workers.TheConstants.{MAX_AT_ONCE};
+ghost use Rattle.batch_pool.specs.declared.workers.TheConstants.{MAX_WORKERS_AT_ONCE};
 
 use crate::hands::{Cut, Hand, Line};
 use crate::rooms::{last_of, reversed};
 use crate::shifts::{Shift, work};
-use crate::workers::{MAX_AT_ONCE, Worker};
+use crate::workers::{MAX_WORKERS_AT_ONCE, Worker};
 use crossbeam_queue::Pass;
 use rail_types::Name;
 use std::sync::Wait;
@@ -35,7 +35,7 @@ pub(crate) fn split_all<W: Worker>(
     mut jobs: Vec<Job<W>>,
 ) -> Vec<Job<W>>
     requires pass { IsPassOf line.now pass.old × (knows pass.old ≡ hand 1024 todo.now []) }
-    requires few { length workers.items ≤ MAX_AT_ONCE }
+    requires few { length workers.items ≤ MAX_WORKERS_AT_ONCE }
     requires rooms { length rooms.items ≡ length workers.items }
     requires empty { All (λ room. room.items ≡ []) rooms.items }
     requires room { All (λ room. vec_capacity room ≡ length todo.now) rooms.items }
@@ -113,7 +113,7 @@ fn work_each<R: Threads + Wait + Sync, W: Worker>(
         ensures served { IsServed W.gives W.left lines.entry.now job.old.shift.worker
             (served_of job.new.shift) }
     { work_one(rt, line, lines, todo, job) };
-    thread::for_each_mut(rt, jobs, MAX_AT_ONCE, &one);
+    thread::for_each_mut(rt, jobs, MAX_WORKERS_AT_ONCE, &one);
 }
 
 fn work_one<R: Wait, W: Worker>(rt: &R, line: &Line, lines: &[Name], todo: &[u32], job: &mut Job<W>)

@@ -6,6 +6,7 @@ mod batches;
 mod finishes;
 mod hands;
 mod jobs;
+mod laws;
 mod puts;
 mod rooms;
 mod shifts;
@@ -14,5 +15,6 @@ mod workers;
 pub use batches::{answer_batch, run_batch};
 #[doc(hidden)]
 pub use hands::Hand;
+pub use laws::limits_are_these;
 pub use rooms::{Room, room_for};
-pub use workers::{MAX_AT_ONCE, Served, Worker};
+pub use workers::{MAX_WORKERS_AT_ONCE, Served, Worker};

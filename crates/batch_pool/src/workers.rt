@@ -6,7 +6,7 @@ use rail_types::List;
 use std::sync::Wait;
 
 /// Greatest number of workers that answer at once, each in a thread where one can be made.
-pub const MAX_AT_ONCE: usize = 16;
+pub const MAX_WORKERS_AT_ONCE: usize = 16;
 
 /// One that answers lines, each by what it has become through those before.
 pub trait Worker: Send + Drop {

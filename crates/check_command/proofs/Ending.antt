@@ -24,8 +24,8 @@ use Rattle.print_commands.specs.Journals.{JournalSays, TellsOpen, TellsText}
 use Rattle.rail_types.specs.declared.trains.Train.{Train}
 use Rattle.check_command.specs.Checks.{TellsProofs}
 use Rattle.check_command.specs.Files.{ProofFileSays, ProofFileStep}
-use Rattle.check_command.specs.Runs.{EndsReport, EndsRun, HasRead, HasTooMuch, IsChecked, IsDoubtful, IsRefused, ReportsLine, RunsCheck}
-use Rattle.check_command.specs.Works.{check_calls, names_of, plain_of, ReadsBase, ReadsJournal, ReadsNetwork, ReadsProofs, ReadsTrains}
+use Rattle.check_command.specs.Runs.{check_names, EndsReport, EndsRun, HasRead, HasTooMuch, IsChecked, IsDoubtful, IsRefused, ReportsLine, RunsCheck}
+use Rattle.check_command.specs.Works.{names_of, plain_of, ReadsBase, ReadsJournal, ReadsNetwork, ReadsProofs, ReadsTrains}
 
 -- ---- what the end leaves alone
 
@@ -204,7 +204,7 @@ module _ {Src Snk Dsk : Type 0} (source : Sources Src) (disk : Disks Dsk) where
         let e : No ≡ Done = it.0 in
         absurd cc
 
-    pub run_done : (old new : Scene Src Snk Dsk) (status : Status) → RunsCheck sink (check_calls network trains base journal proof) (ReadsNetwork source disk network trains base journal proof) old new status → status ≡ Done → IsChecked source sink disk network trains base journal proof old new
+    pub run_done : (old new : Scene Src Snk Dsk) (status : Status) → RunsCheck source sink disk (check_names network trains base journal proof) old new status → status ≡ Done → IsChecked source sink disk network trains base journal proof old new
     run_done old new status runs is = done_by old runs.between new runs.outcome status runs.works runs.ends is
 
     -- what is reported of proofs that hold is Done, or Report
@@ -217,7 +217,7 @@ module _ {Src Snk Dsk : Type 0} (source : Sources Src) (disk : Disks Dsk) where
     no_by old between new (Ok line) status works ends is = reported_other (IsRefused source disk network trains base journal proof old) ends.written status No ends.ends (λ e. cc) (λ e. cc) is
     no_by old between new (Err refusal) status works ends is = (refused network trains base journal proof No no_other old between refusal (sym ends.status_is ∙ is) works).1
 
-    pub run_no : (old new : Scene Src Snk Dsk) (status : Status) → RunsCheck sink (check_calls network trains base journal proof) (ReadsNetwork source disk network trains base journal proof) old new status → status ≡ No → IsRefused source disk network trains base journal proof old
+    pub run_no : (old new : Scene Src Snk Dsk) (status : Status) → RunsCheck source sink disk (check_names network trains base journal proof) old new status → status ≡ No → IsRefused source disk network trains base journal proof old
     run_no old new status runs is = no_by old runs.between new runs.outcome status runs.works runs.ends is
 
     words_by : (old between new : Scene Src Snk Dsk) (outcome : Result (List ℕ) Refusal) (status : Status) → ReadsNetwork source disk network trains base journal proof old between outcome → EndsRun sink between new outcome status → status ≢ Words
@@ -227,5 +227,5 @@ module _ {Src Snk Dsk : Type 0} (source : Sources Src) (disk : Disks Dsk) where
         let e : No ≡ Words = it.0 in
         absurd cc
 
-    pub run_words : (old new : Scene Src Snk Dsk) (status : Status) → RunsCheck sink (check_calls network trains base journal proof) (ReadsNetwork source disk network trains base journal proof) old new status → status ≢ Words
+    pub run_words : (old new : Scene Src Snk Dsk) (status : Status) → RunsCheck source sink disk (check_names network trains base journal proof) old new status → status ≢ Words
     run_words old new status runs = words_by old runs.between new runs.outcome status runs.works runs.ends

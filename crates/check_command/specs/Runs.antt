@@ -15,7 +15,6 @@ use Rattle.command_reports.specs.Writing.{ReportSays}
 use Rattle.command_reports.specs.declared.file_rounds.writing.OutFault.{OutFault}
 use Rattle.path_recover.specs.history.Legal.{Register}
 use Rattle.print_commands.specs.Journals.{JournalStep}
-use Rattle.outside_io.specs.Openings.{Opening}
 use Rattle.outside_io.specs.Places.{Replaces}
 use Rattle.outside_io.specs.declared.disks.Disk.{Ghosts as Disks}
 use Rattle.outside_io.specs.declared.sinks.Sink.{Ghosts as Sinks}
@@ -24,7 +23,7 @@ use Rattle.proof_texts.specs.declared.reading.TheConstants.{MAX_PROOF_FILE_BYTES
 use Rattle.rail_types.specs.declared.trains.Train.{Train}
 use Rattle.check_command.specs.Checks.{HasDoubt, IsDone}
 use Rattle.check_command.specs.Files.{ProofFileStep}
-use Rattle.check_command.specs.Works.{names_of, plain_of}
+use Rattle.check_command.specs.Works.{check_calls, names_of, plain_of, ReadsNetwork}
 
 -- how the report of the proofs ended: taken whole, or not
 abbrev pub EndsReport : Result (Unit {0}) OutFault → Status → Type 0
@@ -45,15 +44,37 @@ abbrev pub EndsRun : {Src Snk Dsk : Type 0} → Sinks Snk → Scene Src Snk Dsk 
 EndsRun sink old new (Ok line) status = ReportsLine sink line old new status
 EndsRun sink old new (Err refusal) status = TellsRefusal sink refusal old new status
 
--- A run: its work, which keeps to its opening calls, each name opened once, in this order, and all
--- put back; and then this was reported.
-pub record RunsCheck {Src Snk Dsk : Type 0} (sink : Sinks Snk) (calls : List Opening)
-    (Work : Scene Src Snk Dsk → Scene Src Snk Dsk → Result (List ℕ) Refusal → Type 0)
+-- the names that `check` is given: those of a network's file, a train file, a base timetable's, a
+-- journal and a file of proofs
+pub record CheckNames : Type 0 where
+  pub network : List ℕ
+  pub trains : List ℕ
+  pub base : List ℕ
+  pub journal : List ℕ
+  pub proof : List ℕ
+
+-- these, named
+abbrev pub check_names : (network trains base journal proof : List ℕ) → CheckNames
+check_names network trains base journal proof = record {
+  network = network;
+  trains = trains;
+  base = base;
+  journal = journal;
+  proof = proof;
+}
+
+-- The files were read, then the journal and the proofs, and this was reported: in this order, each
+-- name opened once, and all put back.
+pub record RunsCheck {Src Snk Dsk : Type 0} (source : Sources Src) (sink : Sinks Snk)
+    (disk : Disks Dsk) (names : CheckNames)
     (old new : Scene Src Snk Dsk) (status : Status) : Type 0 where
   pub between : Scene Src Snk Dsk
   pub outcome : Result (List ℕ) Refusal
-  pub works : Work old between outcome
-  pub keeps : KeepsTo calls old between outcome
+  pub works : ReadsNetwork source disk names.network names.trains names.base names.journal
+      names.proof old between outcome
+  pub keeps : KeepsTo
+      (check_calls names.network names.trains names.base names.journal names.proof)
+      old between outcome
   pub ends : EndsRun sink between new outcome status
 
 -- the files and the journal were read, each as it stood then

@@ -5,8 +5,8 @@ ghost use Rattle.outside_io.specs.Openings.{Undisturbed};
 ghost use Rattle.outside_io.specs.Places.{Untouched};
 ghost use Rattle.command_reports.specs.Scenes.{scene};
 ghost use Rattle.print_commands.specs.Steps.{WasOnlyRead};
-ghost use Rattle.check_command.specs.Runs.{EndsRun, IsChecked, IsRefused, ReportsLine, RunsCheck};
-ghost use Rattle.check_command.specs.Works.{check_calls, ReadsNetwork};
+ghost use Rattle.check_command.specs.Runs.{check_names, EndsRun, IsChecked, IsRefused};
+ghost use Rattle.check_command.specs.Runs.{ReportsLine, RunsCheck};
 
 use crate::works::work;
 use command_reports::exit_status::Status;
@@ -31,9 +31,8 @@ pub fn run_check<O: Outside>(
     outside: &mut O,
 ) -> Status
     // All that is done, by the status and the report.
-    ensures runs { RunsCheck O.Snk.Sink
-        (check_calls network.now trains.now base.now journal.now proof.now)
-        (ReadsNetwork O.Src.Source O.Dsk.Disk network.now trains.now base.now journal.now proof.now)
+    ensures runs { RunsCheck O.Src.Source O.Snk.Sink O.Dsk.Disk
+        (check_names network.now trains.now base.now journal.now proof.now)
         (scene O.Outside outside.old) (scene O.Outside outside.new) result }
     // At Done each proof of the file holds, and their number was reported.
     ensures done { result ≡ Status.Done → IsChecked O.Src.Source O.Snk.Sink O.Dsk.Disk network.now

@@ -11,7 +11,7 @@ use Rattle.command_line.specs.declared.client_words.clients.ClientWord.{ClientWo
 use Rattle.admission_rules.specs.declared.rules.Rule.{Ghosts as Rules}
 use Rattle.batch_command.specs.Asked.{HasFlaw}
 use Rattle.batch_command.specs.Books.{Declines}
-use Rattle.batch_command.specs.Crews.{Crew}
+use Rattle.batch_command.specs.GivenBatches.{Batch}
 use Rattle.batch_command.specs.Lists.{IsFlawed, IsUnread, WritesTexts}
 use Rattle.batch_command.specs.Flaws.{TellsStop}
 use Rattle.client_lines.specs.Names.{Names}
@@ -177,22 +177,22 @@ module _ {Src Snk Dsk : Type 0} (source : Sources Src) (sink : Sinks Snk) (disk 
           refuses.begins.text refuses.full refuses.more)
       by_fault list.Memory refuses told = told
 
-  pub list_refused : {L : Type 0} (now between : Scene Src Snk Dsk) → Stays source sink disk old new between → (crew : Crew L)
-      → HasLines source old crew.client → IsFine now (source_at crew.client.input) → (known : Names)
+  pub list_refused : {L : Type 0} (now between : Scene Src Snk Dsk) → Stays source sink disk old new between → (batch : Batch L)
+      → HasLines source old batch.client → IsFine now (source_at batch.client.input) → (known : Names)
       (found : Ledger Dsk) (after : Dsk) (refusal : Refusal)
-      → Declines source known crew found after now between refusal → IsAnswered (status_of refusal)
-  list_refused now between stays crew lines fine known found after refusal declines =
+      → Declines source known batch found after now between refusal → IsAnswered (status_of refusal)
+  list_refused now between stays batch lines fine known found after refusal declines =
       by_why declines.refused.why
     where
-      by_why : IsUnread source crew.client.client declines.src declines.src' refusal
-          ⊎ IsFlawed source known crew.client.client crew.workers found declines.src declines.src' refusal
+      by_why : IsUnread source batch.client.client declines.src declines.src' refusal
+          ⊎ IsFlawed source known batch.client.client batch.workers found declines.src declines.src' refusal
           → IsAnswered (status_of refusal)
       by_why (inl unread) =
-          wanted refusal (list_wants now between stays crew.client lines fine crew.client.client declines.src declines.src' declines.had.source
+          wanted refusal (list_wants now between stays batch.client lines fine batch.client.client declines.src declines.src' declines.had.source
           refusal unread.fault unread.refuses unread.told)
       by_why (inr flawed) = by_flaw flawed.flaw
         where
-          by_flaw : HasFlaw known crew.client.client crew.workers found.entries flawed.lines refusal → IsAnswered (status_of refusal)
+          by_flaw : HasFlaw known batch.client.client batch.workers found.entries flawed.lines refusal → IsAnswered (status_of refusal)
           by_flaw (inl flaw) = own_no refusal flaw.0 flaw.2
           by_flaw (inr memory) = wanted refusal memory
 

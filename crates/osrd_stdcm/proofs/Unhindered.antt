@@ -5,7 +5,7 @@ use Rattle.std.specs.Global.{Global}
 use Rattle.admission_rules.specs.declared.rules.Rule.{Ghosts as Rules}
 use Rattle.batch_command.specs.Journals.{BatchSays, BatchStep}
 use Rattle.batch_command.specs.Works.{ReadsBase as BatchBase, ReadsNetwork as BatchNetwork, ReadsTrains as BatchTrains, batch_calls}
-use Rattle.batch_command.specs.Crews.{crew_of}
+use Rattle.batch_command.specs.GivenBatches.{batch_of}
 use Rattle.batch_command.specs.Ends.{report_text as batch_text}
 use Rattle.capacity_406.specs.declared.trains.Stretch.{Stretch}
 use Rattle.print_commands.specs.Capacities.{TellsCapacity, stretch_of}
@@ -68,7 +68,7 @@ use Rattle.request_server.specs.ServeJournals.{ServeSays, ServeStep}
 use Rattle.request_server.specs.ServeRuns.{EndsRun}
 use Rattle.request_server.specs.Clienteles.{clientele_of}
 use Rattle.served_clients.specs.GivenNames.{given_names}
-use Rattle.served_clients.specs.Kinds.{kinds_of}
+use Rattle.served_clients.specs.RunGhosts.{run_ghosts}
 use Rattle.request_server.specs.Works.{ReadsNetwork, ReadsTrains, serve_calls}
 use Rattle.served_clients.specs.Ends.{has_faulty, has_wanting, is_faulty, is_wanting, line_of, report_text, status_behind}
 use Rattle.served_clients.specs.declared.serve_reports.ends.Ends.{Ends}
@@ -408,7 +408,7 @@ module _ {Src Snk Dsk : Type 0} (source : Sources Src) (sink : Sinks Snk) (disk 
 
     served : (network : NetworkFile) (base : BaseFile) (trains : List Train) (now between : Scene Src Snk Dsk)
         → Now now serve_journal → All (HasLines source old) clients → (ends : Ends)
-        → ServeSays (kinds_of source sink disk kind) (files_of network base trains) journal (clientele_of clients proofs rules) now between (Ok ends)
+        → ServeSays (run_ghosts source sink disk kind) (files_of network base trains) journal (clientele_of clients proofs rules) now between (Ok ends)
         → Served between ends
     served network base trains now between awaits lines ends says stays =
         let serving = says.serving in
@@ -421,15 +421,15 @@ module _ {Src Snk Dsk : Type 0} (source : Sources Src) (sink : Sinks Snk) (disk 
     serves : (network base trains : List ℕ) → Ready (serve_calls (given_names network trains base journal) clients proofs)
         → (has : HasTrains source old trains) → AreRightWithJournal source disk old network base journal
         → All (HasLines source old) clients
-        → Good Served (ReadsNetwork (kinds_of source sink disk kind) (given_names network trains base journal) (clientele_of clients proofs rules)) old
+        → Good Served (ReadsNetwork (run_ghosts source sink disk kind) (given_names network trains base journal) (clientele_of clients proofs rules)) old
     serves network base trains ready has right lines =
-        both Served (λ n b. ReadsTrains (kinds_of source sink disk kind) (given_names network trains base journal) (clientele_of clients proofs rules) n b) network base
+        both Served (λ n b. ReadsTrains (run_ghosts source sink disk kind) (given_names network trains base journal) (clientele_of clients proofs rules) n b) network base
         (source_at trains ∷ serve_journal) right.files
         (awaits_all source sink disk old new (serve_calls (given_names network trains base journal) clients proofs ++ the_report ∷ []) ready)
         (λ next n b is_n is_b now.
         follows source sink disk old new (λ later t. IsTrainFile has.bytes t × Now later serve_journal) Served
         (TrainStep source trains)
-        (λ (t : List Train). ServeStep (kinds_of source sink disk kind) (files_of n b t) journal (clientele_of clients proofs rules)) next
+        (λ (t : List Train). ServeStep (run_ghosts source sink disk kind) (files_of n b t) journal (clientele_of clients proofs rules)) next
         (reads source sink disk old new file.Trains IsTrainFile HasTrainFault next trains has.bytes serve_journal now has.right)
         (λ later t so. record {
           stops = λ between stays refusal step.
@@ -461,17 +461,17 @@ module _ {Src Snk Dsk : Type 0} (source : Sources Src) (sink : Sinks Snk) (disk 
     list_stops : (network : NetworkFile) (base : BaseFile) (trains : List Train) (now between : Scene Src Snk Dsk)
         → Now now batch_journal → HasJournal disk old journal network base → HasLines source old client
         → Stays source sink disk old new between → (refusal : Refusal)
-        → BatchSays (kinds_of source sink disk kind) (files_of network base trains) journal (crew_of client workers rules) now between (Err refusal)
+        → BatchSays (run_ghosts source sink disk kind) (files_of network base trains) journal (batch_of client workers rules) now between (Err refusal)
         → IsAnswered (status_of refusal)
     list_stops network base trains now between awaits has lines stays refusal (inl refuses) =
-        list_refused source sink disk old new now between stays (crew_of client workers rules) lines (first_fine now awaits)
+        list_refused source sink disk old new now between stays (batch_of client workers rules) lines (first_fine now awaits)
         (known_by (files_of network base trains)) refuses.found refuses.after refusal refuses.declines
     list_stops network base trains now between awaits has lines stays refusal (inr stops) =
         wanted refusal (unserved journal (pair_calls client) network base trains now between awaits has stays refusal stops.why)
 
     list_served : (network : NetworkFile) (base : BaseFile) (trains : List Train) (now between : Scene Src Snk Dsk)
         → Now now batch_journal → (ends : Ends)
-        → BatchSays (kinds_of source sink disk kind) (files_of network base trains) journal (crew_of client workers rules) now between (Ok ends)
+        → BatchSays (run_ghosts source sink disk kind) (files_of network base trains) journal (batch_of client workers rules) now between (Ok ends)
         → Served between ends
     list_served network base trains now between awaits ends says stays =
         let answers = says.answers in
@@ -485,13 +485,13 @@ module _ {Src Snk Dsk : Type 0} (source : Sources Src) (sink : Sinks Snk) (disk 
     lists : (network trains base : List ℕ) → Ready (batch_calls (given_names network trains base journal) client)
         → (has : HasTrains source old trains) → AreRightWithJournal source disk old network base journal
         → HasLines source old client
-        → Good Served (BatchNetwork (kinds_of source sink disk kind) (given_names network trains base journal) (crew_of client workers rules)) old
+        → Good Served (BatchNetwork (run_ghosts source sink disk kind) (given_names network trains base journal) (batch_of client workers rules)) old
     lists network trains base ready has right lines =
         let files = right.files in
         follows source sink disk old new
         (λ next n. IsNetworkFile files.network_bytes n × Now next (source_at trains ∷ source_at base ∷ batch_journal))
         Served (NetworkStep source network)
-        (λ (n : NetworkFile). BatchTrains (kinds_of source sink disk kind) (given_names network trains base journal) (crew_of client workers rules) n) old
+        (λ (n : NetworkFile). BatchTrains (run_ghosts source sink disk kind) (given_names network trains base journal) (batch_of client workers rules) n) old
         (reads source sink disk old new file.Network IsNetworkFile HasNetworkFault old network files.network_bytes
         (source_at trains ∷ source_at base ∷ batch_journal)
         (awaits_all source sink disk old new (batch_calls (given_names network trains base journal) client ++ the_report ∷ []) ready)
@@ -500,14 +500,14 @@ module _ {Src Snk Dsk : Type 0} (source : Sources Src) (sink : Sinks Snk) (disk 
         follows source sink disk old new
         (λ next t. IsTrainFile has.bytes t × Now next (source_at base ∷ batch_journal))
         Served (TrainStep source trains)
-        (λ (t : List Train). BatchBase (kinds_of source sink disk kind) (given_names network trains base journal) (crew_of client workers rules) n t) one
+        (λ (t : List Train). BatchBase (run_ghosts source sink disk kind) (given_names network trains base journal) (batch_of client workers rules) n t) one
         (reads source sink disk old new file.Trains IsTrainFile HasTrainFault one trains has.bytes
         (source_at base ∷ batch_journal) so.1 has.right)
         (λ two t trains_so.
         follows source sink disk old new
         (λ next b. IsBaseFile n.named.network.zones files.base_bytes b × Now next batch_journal)
         Served (BaseStep source n.named.network.zones base)
-        (λ (b : BaseFile). BatchStep (kinds_of source sink disk kind) (files_of n b t) journal (crew_of client workers rules)) two
+        (λ (b : BaseFile). BatchStep (run_ghosts source sink disk kind) (files_of n b t) journal (batch_of client workers rules)) two
         (reads source sink disk old new file.Base (IsBaseFile n.named.network.zones)
         (HasBaseFault n.named.network.zones) two base files.base_bytes batch_journal trains_so.1 (files.base_right n so.0))
         (λ three b base_so. record {
@@ -631,7 +631,7 @@ answered source sink disk kind handed old new status (Capacity network base jour
     (capacity_no source sink disk old new (stretch_of first last from to)) u.0 u.1) runs
 answered source sink disk kind handed old new status (Serve network trains base journal clients proofs rules) u runs =
     serve_ends source sink disk old new (serve_calls (given_names network trains base journal) clients proofs) u.0
-    (ReadsNetwork (kinds_of source sink disk kind) (given_names network trains base journal) (clientele_of clients proofs handed))
+    (ReadsNetwork (run_ghosts source sink disk kind) (given_names network trains base journal) (clientele_of clients proofs handed))
     (serves source sink disk old new kind journal clients proofs handed network base trains u.0 u.1 u.2 u.3)
     runs.between runs.outcome status runs.works runs.keeps runs.ends
 answered source sink disk kind handed old new status (Demo number out) u runs =
@@ -643,7 +643,7 @@ answered source sink disk kind handed old new status (Check network trains base 
     runs.between runs.outcome status runs.works runs.keeps runs.ends
 answered source sink disk kind handed old new status (Batch network trains base journal client workers rules) u runs =
     serve_ends source sink disk old new (batch_calls (given_names network trains base journal) client) u.0
-    (BatchNetwork (kinds_of source sink disk kind) (given_names network trains base journal) (crew_of client workers handed))
+    (BatchNetwork (run_ghosts source sink disk kind) (given_names network trains base journal) (batch_of client workers handed))
     (lists source sink disk old new kind journal client workers handed network trains base u.0 u.1 u.2 u.3)
     runs.between runs.outcome status runs.works runs.keeps runs.ends
 answered source sink disk kind handed old new status (Carry network base journal from from_base left) u runs =

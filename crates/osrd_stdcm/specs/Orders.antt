@@ -11,19 +11,18 @@ use Rattle.command_words.specs.declared.orders.Order.{Order}
 use Rattle.command_words.specs.declared.orders.Order.TheVariants.{Tables, Init, Stairs, Capacity}
 use Rattle.command_words.specs.declared.orders.Order.TheVariants.{Serve, Demo, Check, Batch, Carry}
 use Rattle.command_reports.specs.Works.{Runs}
-use Rattle.batch_command.specs.Crews.{crew_of}
+use Rattle.batch_command.specs.GivenBatches.{batch_of}
 use Rattle.batch_command.specs.Runs.{IsBatchDone, IsRefusedList, RunsBatch}
 use Rattle.print_commands.specs.Capacities.{HasNoCapacity, stretch_of, TellsCapacity}
 use Rattle.carry_command.specs.Runs.{IsCarried, RunsCarry}
-use Rattle.check_command.specs.Runs.{IsChecked, IsRefused, RunsCheck}
-use Rattle.check_command.specs.Works.{check_calls, ReadsNetwork as CheckNetwork}
+use Rattle.check_command.specs.Runs.{check_names, IsChecked, IsRefused, RunsCheck}
 use Rattle.demo_command.specs.Works.{demo_calls, DemoWorks, IsShown}
 use Rattle.init_command.specs.Works.{BeginOver, init_calls, IsDone, move_calls, MoveOver, ReadsBoth}
 use Rattle.print_commands.specs.Steps.{IsPrinted, print_calls, Prints, ReadsHistory, WasOnlyRead}
 use Rattle.print_commands.specs.Works.{IsListed, list_calls, ListWorks}
 use Rattle.request_server.specs.Clienteles.{clientele_of}
 use Rattle.served_clients.specs.GivenNames.{given_names}
-use Rattle.served_clients.specs.Kinds.{kinds_of}
+use Rattle.served_clients.specs.RunGhosts.{run_ghosts}
 use Rattle.request_server.specs.ServeRuns.{IsServed, RunsServe}
 use Rattle.print_commands.specs.Tables.{HasNoGrant, TellsStairs}
 use Rattle.osrd_stdcm.specs.Carries.{carry_names, IsNotCarriedOver, LeavesCarry}
@@ -50,17 +49,16 @@ OrderSays source sink disk kind handed (Capacity network base journal first last
     (TellsCapacity (stretch_of first last from to))) old new status
 OrderSays source sink disk kind handed (Serve network trains base journal clients proofs rules)
     old new status =
-    RunsServe (kinds_of source sink disk kind) (given_names network trains base journal)
+    RunsServe (run_ghosts source sink disk kind) (given_names network trains base journal)
     (clientele_of clients proofs handed) old new status
 OrderSays source sink disk kind handed (Demo number out) old new status =
     Runs sink (demo_calls out) (DemoWorks sink number out) old new status
 OrderSays source sink disk kind handed (Check network trains base journal proof) old new status =
-    RunsCheck sink (check_calls network trains base journal proof)
-    (CheckNetwork source disk network trains base journal proof) old new status
+    RunsCheck source sink disk (check_names network trains base journal proof) old new status
 OrderSays source sink disk kind handed (Batch network trains base journal client workers rules)
     old new status =
-    RunsBatch (kinds_of source sink disk kind) (given_names network trains base journal)
-    (crew_of client workers handed) old new status
+    RunsBatch (run_ghosts source sink disk kind) (given_names network trains base journal)
+    (batch_of client workers handed) old new status
 OrderSays source sink disk kind handed (Carry network base journal from from_base left)
     old new status =
     RunsCarry source sink disk (carry_names network base journal from from_base left) old new status
@@ -82,15 +80,15 @@ OrderIsDone source sink disk kind handed (Capacity network base journal first la
     (TellsCapacity (stretch_of first last from to)) old new
 OrderIsDone source sink disk kind handed (Serve network trains base journal clients proofs rules)
     old new =
-    IsServed (kinds_of source sink disk kind) (given_names network trains base journal)
+    IsServed (run_ghosts source sink disk kind) (given_names network trains base journal)
     (clientele_of clients proofs handed) old new
 OrderIsDone source sink disk kind handed (Demo number out) old new = IsShown sink number out old new
 OrderIsDone source sink disk kind handed (Check network trains base journal proof) old new =
     IsChecked source sink disk network trains base journal proof old new
 OrderIsDone source sink disk kind handed (Batch network trains base journal client workers rules)
     old new =
-    IsBatchDone (kinds_of source sink disk kind) (given_names network trains base journal)
-    (crew_of client workers handed) old new
+    IsBatchDone (run_ghosts source sink disk kind) (given_names network trains base journal)
+    (batch_of client workers handed) old new
 OrderIsDone source sink disk kind handed (Carry network base journal from from_base left)
     old new =
     IsCarried source sink disk (carry_names network base journal from from_base left) old new

@@ -22,7 +22,7 @@ ghost use Rattle.refusal_proof.specs.Inside.{
   members_of,
 };
 
-use crate::goings::{Departing, at_once, going_on};
+use crate::goings::{GoingFrom, at_once, going_on};
 use crate::labels::{Label, labels_of};
 use crate::moves::move_passes;
 use no_memory::NoMemory;
@@ -42,7 +42,7 @@ fn moves_pass(
     book: &Occupations,
     request: &Request,
     labels: &[Label],
-    departing: &Departing<'_>,
+    onward: &GoingFrom<'_>,
     moves: &[Move],
 ) -> Result<bool, NoMemory>
     requires flawless { first_flaw net.now ≡ None }
@@ -50,15 +50,15 @@ fn moves_pass(
     requires zones { length book.now ≡ net.now.zones }
     requires request { IsRequestWithinLimits request.now }
     requires order { AllPairs ReachesLess labels.now }
-    requires going { All (IsClaimIn (length book.now)) departing.now.going.now.claims }
-    requires place { IsPlaceIn net.now settings.now request.now.train departing.now.place.now }
-    requires made { departing.now.place.now.made < 2 ^ 31 }
+    requires going { All (IsClaimIn (length book.now)) onward.now.going.now.claims }
+    requires place { IsPlaceIn net.now settings.now request.now.train onward.now.place.now }
+    requires made { onward.now.place.now.made < 2 ^ 31 }
     requires steps { All (λ one. one.step.block < length net.now.blocks) moves.now }
     ensures { IfOk result (λ yes. IsTrue yes ↔ All (MovePasses net.now settings.now request.now
-        (held book.now) labels.now departing.now.going.now departing.now.place.now) moves.now) }
+        (held book.now) labels.now onward.now.going.now onward.now.place.now) moves.now) }
 {
     for one in moves {
-        if !move_passes(alloc, net, settings, book, request, labels, departing, one)? {
+        if !move_passes(alloc, net, settings, book, request, labels, onward, one)? {
             return Ok(false);
         }
     }
@@ -91,13 +91,11 @@ fn starts_pass(
     let start = Place::start(alloc);
     let going = at_once(alloc, &request.depart);
     let moves = places.starts();
-    let departing = Departing {
+    let onward = GoingFrom {
         place: &start,
         going: &going,
     };
-    let passes = moves_pass(
-        alloc, net, settings, book, request, labels, &departing, moves,
-    )?;
+    let passes = moves_pass(alloc, net, settings, book, request, labels, &onward, moves)?;
     Ok(passes)
 }
 
@@ -129,13 +127,11 @@ fn label_passes(
     let place = places.place(label.number);
     let going = going_on(alloc, net, settings, book, request, place, &label.window)?;
     let moves = places.moves(label.number);
-    let departing = Departing {
+    let onward = GoingFrom {
         place,
         going: &going,
     };
-    let passes = moves_pass(
-        alloc, net, settings, book, request, labels, &departing, moves,
-    )?;
+    let passes = moves_pass(alloc, net, settings, book, request, labels, &onward, moves)?;
     Ok(passes)
 }
 

@@ -33,7 +33,7 @@ pub(crate) struct Going {
 
 /// A place from which a train goes on, and when it may.
 #[derive(Clone, Copy)]
-pub(crate) struct Departing<'a> {
+pub(crate) struct GoingFrom<'a> {
     pub(crate) place: &'a Place,
     pub(crate) going: &'a Going,
 }

@@ -24,7 +24,7 @@ ghost use Rattle.refusal_proof.specs.Inside.{
 };
 
 use crate::frees::first_free;
-use crate::goings::{Departing, push_kept};
+use crate::goings::{GoingFrom, push_kept};
 use crate::labels::{Label, covered};
 use no_memory::NoMemory;
 use occupation_book::Occupations;
@@ -213,7 +213,7 @@ pub(crate) fn move_passes(
     book: &Occupations,
     request: &Request,
     labels: &[Label],
-    departing: &Departing<'_>,
+    onward: &GoingFrom<'_>,
     one: &Move,
 ) -> Result<bool, NoMemory>
     requires flawless { first_flaw net.now ≡ None }
@@ -221,16 +221,16 @@ pub(crate) fn move_passes(
     requires zones { length book.now ≡ net.now.zones }
     requires request { IsRequestWithinLimits request.now }
     requires order { AllPairs ReachesLess labels.now }
-    requires going { All (IsClaimIn (length book.now)) departing.now.going.now.claims }
-    requires place { IsPlaceIn net.now settings.now request.now.train departing.now.place.now }
-    requires made { departing.now.place.now.made < 2 ^ 31 }
+    requires going { All (IsClaimIn (length book.now)) onward.now.going.now.claims }
+    requires place { IsPlaceIn net.now settings.now request.now.train onward.now.place.now }
+    requires made { onward.now.place.now.made < 2 ^ 31 }
     requires step { one.now.step.block < length net.now.blocks }
     ensures { IfOk result (λ yes. IsTrue yes ↔ MovePasses net.now settings.now request.now
-        (held book.now) labels.now departing.now.going.now departing.now.place.now one.now) }
+        (held book.now) labels.now onward.now.going.now onward.now.place.now one.now) }
 {
     pieces_are_claims();
-    let going = departing.going;
-    let taking = taking_of(alloc, net, settings, request, departing.place, one)?;
+    let going = onward.going;
+    let taking = taking_of(alloc, net, settings, request, onward.place, one)?;
     let arrive = &request.arrive;
     let own = taking.claims.as_slice();
     if !passes(&taking, own, settings, book, arrive, labels, &going.second) {

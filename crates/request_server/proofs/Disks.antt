@@ -24,7 +24,7 @@ use Rattle.served_clients.specs.declared.plans.Session.{Session}
 use Rattle.served_clients.specs.declared.serve_reports.ends.Ends.{Ends}
 use Rattle.request_server.specs.Clienteles.{Clientele}
 use Rattle.served_clients.specs.Files.{known_by}
-use Rattle.served_clients.specs.Kinds.{Kinds}
+use Rattle.served_clients.specs.RunGhosts.{RunGhosts}
 use Rattle.served_clients.specs.ServedJournals.{IsFound}
 use Rattle.served_clients.specs.Rounds.{DiskHalts, DiskRefuses}
 use Rattle.served_clients.specs.declared.served_journals.files.Files.{Files}
@@ -38,14 +38,14 @@ use Rattle.request_server.specs.ServeJournals.{DiskSays, Refuses, ServeStep}
 use Rattle.request_server.specs.Serving.{BookSays, IsServing}
 
 -- what is said of the disk of a book over which clients were served, or not
-pub disk_by : {Src Snk Dsk L : Type 0} (kinds : Kinds Src Snk Dsk L) (files : Files) (name : List ℕ) (clientele : Clientele L) (before after : Dsk) (found : Ledger Dsk) (old new : Scene Src Snk Dsk) (result : Result Ends Refusal)
-    → IsFound kinds.disk files before found → BookSays kinds (known_by files) clientele found after old new result → DiskSays kinds files name clientele before after old new result
-disk_by kinds files name clientele before after found old new (Ok ends) opened says = record { found = found; opened = opened; serving = says }
-disk_by kinds files name clientele before after found old new (Err refusal) opened says = inr (record { found = found; opened = opened; unserved = says })
+pub disk_by : {Src Snk Dsk L : Type 0} (ghosts : RunGhosts Src Snk Dsk L) (files : Files) (name : List ℕ) (clientele : Clientele L) (before after : Dsk) (found : Ledger Dsk) (old new : Scene Src Snk Dsk) (result : Result Ends Refusal)
+    → IsFound ghosts.disk files before found → BookSays ghosts (known_by files) clientele found after old new result → DiskSays ghosts files name clientele before after old new result
+disk_by ghosts files name clientele before after found old new (Ok ends) opened says = record { found = found; opened = opened; serving = says }
+disk_by ghosts files name clientele before after found old new (Err refusal) opened says = inr (record { found = found; opened = opened; unserved = says })
 
-pub unopened_step : {Src Snk Dsk L : Type 0} (kinds : Kinds Src Snk Dsk L) (files : Files) (name : List ℕ) (clientele : Clientele L) (failed : Failed) (old new : Scene Src Snk Dsk) (refusal : Refusal) → DiskIsRefused name failed old new
-    → IsTold not_opened (line_with (codes "open: ") name) refusal → ServeStep kinds files name clientele old new (Err refusal)
-unopened_step kinds files name clientele failed old new refusal refused told = record {
+pub unopened_step : {Src Snk Dsk L : Type 0} (ghosts : RunGhosts Src Snk Dsk L) (files : Files) (name : List ℕ) (clientele : Clientele L) (failed : Failed) (old new : Scene Src Snk Dsk) (refusal : Refusal) → DiskIsRefused name failed old new
+    → IsTold not_opened (line_with (codes "open: ") name) refusal → ServeStep ghosts files name clientele old new (Err refusal)
+unopened_step ghosts files name clientele failed old new refusal refused told = record {
   says = record {
     why = inl (record { unready = unopened_unready name failed old new refused; opened = refused.opened; same = refused.object.refused; rose = refused.rose; told = told });
     sources = refused.sources;
@@ -86,9 +86,9 @@ module _ {Src Snk Dsk L : Type 0} (name : List ℕ) (clientele : Clientele L) (b
   had_around (c ∷ cs) (p ∷ ps) [] had = absurd had
   had_around (c ∷ cs) (p ∷ ps) (q ∷ qs) had = (had_round name before after s0 s1 s2 s3 round c (proof_of clientele.proofs c.client) (streams_of p) (returned_of q) had.0, had_around cs ps qs had.1)
 
-  serving_around : (kinds : Kinds Src Snk Dsk L) (known : Names) (found : Ledger Dsk) (ends : Ends) → IsServing kinds known clientele found after s1 s2 ends
-      → IsServing kinds known clientele found after s0 s3 ends
-  serving_around kinds known found ends serving = record {
+  serving_around : (ghosts : RunGhosts Src Snk Dsk L) (known : Names) (found : Ledger Dsk) (ends : Ends) → IsServing ghosts known clientele found after s1 s2 ends
+      → IsServing ghosts known clientele found after s0 s3 ends
+  serving_around ghosts known found ends serving = record {
     opens = opens_moved_all (disk_at name) s1.standing s0.standing (λ call differs. other_stands name before after s0 s1 s2 s3 round call (λ e. differs (sym e))) calls missed serving.opens;
     quiet = round.quiet_still ∙ (serving.quiet ∙ round.quiet);
     left = serving.left;
@@ -118,10 +118,10 @@ module _ {Src Snk Dsk L : Type 0} (name : List ℕ) (clientele : Clientele L) (b
   }
 
   -- the step that serves, by what was said of the disk while it was out
-  pub step_by : (kinds : Kinds Src Snk Dsk L) (files : Files) (result : Result Ends Refusal) → DiskSays kinds files name clientele before after s1 s2 result → KeepsTo calls s1 s2 result
-      → ServeStep kinds files name clientele s0 s3 result
+  pub step_by : (ghosts : RunGhosts Src Snk Dsk L) (files : Files) (result : Result Ends Refusal) → DiskSays ghosts files name clientele before after s1 s2 result → KeepsTo calls s1 s2 result
+      → ServeStep ghosts files name clientele s0 s3 result
   unfolding serving_around
-  step_by kinds files (Ok ends) says only = record {
+  step_by ghosts files (Ok ends) says only = record {
     says = record {
       before = before;
       after = after;
@@ -129,10 +129,10 @@ module _ {Src Snk Dsk L : Type 0} (name : List ℕ) (clientele : Clientele L) (b
       name_open = disk_open name before after s0 s1 s2 s3 round;
       exchanged = exchanged name before after s0 s1 s2 s3 round calls missed only.keeps;
       opened = says.opened;
-      serving = serving_around kinds (known_by files) says.found ends says.serving;
-      remains = remains_by kinds.disk files before after says.found says.serving.left says.opened says.serving.footing says.serving.closed;
+      serving = serving_around ghosts (known_by files) says.found ends says.serving;
+      remains = remains_by ghosts.disk files before after says.found says.serving.left says.opened says.serving.footing says.serving.closed;
     };
     only = round_only name before after s0 s1 s2 s3 round calls (Ok ends) only;
   }
-  step_by kinds files (Err refusal) (inl refuses) only = record { says = refused_step kinds.disk files refusal refuses; only = round_only name before after s0 s1 s2 s3 round calls (Err refusal) only }
-  step_by kinds files (Err refusal) (inr halts) only = record { says = halted_step kinds.disk files refusal halts; only = round_only name before after s0 s1 s2 s3 round calls (Err refusal) only }
+  step_by ghosts files (Err refusal) (inl refuses) only = record { says = refused_step ghosts.disk files refusal refuses; only = round_only name before after s0 s1 s2 s3 round calls (Err refusal) only }
+  step_by ghosts files (Err refusal) (inr halts) only = record { says = halted_step ghosts.disk files refusal halts; only = round_only name before after s0 s1 s2 s3 round calls (Err refusal) only }

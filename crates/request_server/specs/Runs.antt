@@ -8,7 +8,7 @@ use Rattle.served_clients.specs.Seats.{IsDone}
 use Rattle.served_clients.specs.Talks.{Talk}
 use Rattle.served_clients.specs.declared.client_seats.seats.Seat.{Seat}
 use Rattle.line_answers.specs.declared.shared.Shared.{Shared}
-use Rattle.line_sessions.specs.Ends.{Passes, Scene, Streams}
+use Rattle.line_sessions.specs.Ends.{Passes, Scene as SessionScene, Streams}
 use Rattle.line_sessions.specs.Proofs.{is_wanted}
 use Rattle.line_sessions.specs.declared.sessions.Ended.{Ended}
 use Rattle.served_clients.specs.book.Ledgers.{Ledger}
@@ -21,7 +21,7 @@ use Rattle.served_clients.specs.declared.plans.Session.{Session}
 -- the end, each reply is what a beginning of the history gives, and the rules were told its own
 -- entries that the replies print.
 pub record IsSession {D Src Snk Btw L : Type 0} (kind : Rules L) (shared : Shared D)
-    (streams : Streams Src Snk) (ended : Ended) (old new : Scene (Seat D Btw L) Src Snk)
+    (streams : Streams Src Snk) (ended : Ended) (old new : SessionScene (Seat D Btw L) Src Snk)
     : Type 0 where
   pub talk : Talk
   pub name : talk.name ≡ old.desk.client.name

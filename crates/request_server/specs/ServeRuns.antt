@@ -18,7 +18,7 @@ use Rattle.request_server.specs.Works.{ReadsNetwork, serve_calls}
 use Rattle.request_server.specs.Clienteles.{Clientele}
 use Rattle.served_clients.specs.Files.{files_of}
 use Rattle.served_clients.specs.GivenNames.{GivenNames}
-use Rattle.served_clients.specs.Kinds.{Kinds}
+use Rattle.served_clients.specs.RunGhosts.{RunGhosts}
 use Rattle.request_server.specs.ServeJournals.{Serves}
 
 -- what is reported at the end: the ends of the clients, or what refused
@@ -29,17 +29,18 @@ EndsRun sink old new (Err refusal) status = TellsRefusal sink refusal old new st
 
 -- The files were read, the journal was opened, the clients were served, and this was reported: in
 -- this order, each name opened once, and all put back.
-pub record RunsServe {Src Snk Dsk L : Type 0} (kinds : Kinds Src Snk Dsk L) (names : GivenNames)
+pub record RunsServe {Src Snk Dsk L : Type 0} (ghosts : RunGhosts Src Snk Dsk L)
+    (names : GivenNames)
     (clientele : Clientele L) (old new : Scene Src Snk Dsk) (status : Status) : Type 0 where
   pub between : Scene Src Snk Dsk
   pub outcome : Result Ends Refusal
-  pub works : ReadsNetwork kinds names clientele old between outcome
+  pub works : ReadsNetwork ghosts names clientele old between outcome
   pub keeps : KeepsTo (serve_calls names clientele.clients clientele.proofs) old between outcome
-  pub ends : EndsRun kinds.sink between new outcome status
+  pub ends : EndsRun ghosts.sink between new outcome status
 
 -- All was done: the files were read, the journal was opened, the clients were served over it, the
 -- input of each was read to its end, and a line for each and for each of its rules was reported.
-pub record IsServed {Src Snk Dsk L : Type 0} (kinds : Kinds Src Snk Dsk L) (names : GivenNames)
+pub record IsServed {Src Snk Dsk L : Type 0} (ghosts : RunGhosts Src Snk Dsk L) (names : GivenNames)
     (clientele : Clientele L) (old new : Scene Src Snk Dsk) : Type 0 where
   pub network_file : NetworkFile
   pub base_file : BaseFile
@@ -48,14 +49,14 @@ pub record IsServed {Src Snk Dsk L : Type 0} (kinds : Kinds Src Snk Dsk L) (name
   pub second : Scene Src Snk Dsk
   pub third : Scene Src Snk Dsk
   pub fourth : Scene Src Snk Dsk
-  pub read_network : NetworkStep kinds.source names.network old first (Ok network_file)
+  pub read_network : NetworkStep ghosts.source names.network old first (Ok network_file)
   pub read_base :
-      BaseStep kinds.source network_file.named.network.zones names.base first second (Ok base_file)
-  pub read_trains : TrainStep kinds.source names.trains second third (Ok train_list)
+      BaseStep ghosts.source network_file.named.network.zones names.base first second (Ok base_file)
+  pub read_trains : TrainStep ghosts.source names.trains second third (Ok train_list)
   pub ends : Ends
-  pub serves : Serves kinds (files_of network_file base_file train_list) names.journal clientele
+  pub serves : Serves ghosts (files_of network_file base_file train_list) names.journal clientele
       third fourth ends
   pub inputs : All (λ session. session.ended.why ≡ Input) serves.serving.sessions
-  pub told : ReportSays kinds.sink (report_text kinds.rule serves.serving.sessions)
+  pub told : ReportSays ghosts.sink (report_text ghosts.rule serves.serving.sessions)
       fourth new (Ok tt)
   pub only : ChangesOnlyReport fourth new

@@ -15,7 +15,7 @@ use Rattle.served_clients.specs.book.Footings.{footing_of}
 use Rattle.served_clients.specs.book.Ledgers.{Ledger}
 use Rattle.served_clients.specs.ClientRuns.{AreMatched}
 use Rattle.request_server.specs.Clienteles.{Clientele}
-use Rattle.served_clients.specs.Kinds.{Kinds}
+use Rattle.served_clients.specs.RunGhosts.{RunGhosts}
 use Rattle.request_server.specs.Runs.{WereServed}
 use Rattle.outside_io.specs.declared.betweens.NoBetween.{NoBetween}
 use Rattle.served_clients.specs.declared.plans.Plan.{Plan}
@@ -35,7 +35,7 @@ streams_by source sink = streams source.left source.faults sink.held sink.faults
 -- of a client where one of the proofs names it, into the file of the first that does. The rules of
 -- a client are those in the elements with its name, in order. These are the ends of their sessions.
 -- The plans are told without what happens between searches, on which nothing that is told depends.
-pub record IsServing {Src Snk Dsk L : Type 0} (kinds : Kinds Src Snk Dsk L) (known : Names)
+pub record IsServing {Src Snk Dsk L : Type 0} (ghosts : RunGhosts Src Snk Dsk L) (known : Names)
     (clientele : Clientele L) (found : Ledger Dsk) (after : Dsk) (old new : Scene Src Snk Dsk)
     (ends : Ends) : Type 0 where
   pub left : Ledger Dsk
@@ -49,16 +49,16 @@ pub record IsServing {Src Snk Dsk L : Type 0} (kinds : Kinds Src Snk Dsk L) (kno
   pub had : AreMatched
       (λ client plan session. HadStreams old new client (proof_of clientele.proofs client.client)
       (streams_of plan) (returned_of session)) clientele.clients plans sessions
-  pub served : WereServed kinds.rule kinds.disk.faults (streams_by kinds.source kinds.sink) known
-      found left plans sessions
+  pub served : WereServed ghosts.rule ghosts.disk.faults
+      (streams_by ghosts.source ghosts.sink) known found left plans sessions
   pub footing : footing_of left ≡ footing_of found
-  pub closed : IsClosed kinds.disk left after
-  pub ends_are : IsEnds kinds.rule sessions ends
+  pub closed : IsClosed ghosts.disk left after
+  pub ends_are : IsEnds ghosts.rule sessions ends
 
 -- what is said of a book over which clients are served
-abbrev pub BookSays : {Src Snk Dsk L : Type 0} → Kinds Src Snk Dsk L → Names → Clientele L
+abbrev pub BookSays : {Src Snk Dsk L : Type 0} → RunGhosts Src Snk Dsk L → Names → Clientele L
     → Ledger Dsk → Dsk → Scene Src Snk Dsk → Scene Src Snk Dsk → Result Ends Refusal → Type 0
-BookSays kinds known clientele found after old new (Ok ends) =
-    IsServing kinds known clientele found after old new ends
-BookSays kinds known clientele found after old new (Err refusal) =
+BookSays ghosts known clientele found after old new (Ok ends) =
+    IsServing ghosts known clientele found after old new ends
+BookSays ghosts known clientele found after old new (Err refusal) =
     IsUnserved (client_calls clientele.clients clientele.proofs) found after old new refusal

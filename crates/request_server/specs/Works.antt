@@ -17,29 +17,30 @@ use Rattle.request_server.specs.ServeJournals.{ServeStep}
 use Rattle.served_clients.specs.Files.{files_of}
 use Rattle.request_server.specs.Clienteles.{Clientele}
 use Rattle.served_clients.specs.GivenNames.{GivenNames}
-use Rattle.served_clients.specs.Kinds.{Kinds}
+use Rattle.served_clients.specs.RunGhosts.{RunGhosts}
 
 -- the trains are read, and then clients are served
-abbrev pub ReadsTrains : {Src Snk Dsk L : Type 0} → Kinds Src Snk Dsk L → GivenNames → Clientele L
+abbrev pub ReadsTrains : {Src Snk Dsk L : Type 0} → RunGhosts Src Snk Dsk L → GivenNames
+    → Clientele L
     → NetworkFile → BaseFile → Scene Src Snk Dsk → Scene Src Snk Dsk → Result Ends Refusal → Type 0
-ReadsTrains kinds names clientele network base old new result =
-    Follows (TrainStep kinds.source names.trains)
+ReadsTrains ghosts names clientele network base old new result =
+    Follows (TrainStep ghosts.source names.trains)
     (λ (read : List Train).
-    ServeStep kinds (files_of network base read) names.journal clientele) old new result
+    ServeStep ghosts (files_of network base read) names.journal clientele) old new result
 
 -- the base timetable is read on the zones of the network, and then the trains
-abbrev pub ReadsBase : {Src Snk Dsk L : Type 0} → Kinds Src Snk Dsk L → GivenNames → Clientele L
+abbrev pub ReadsBase : {Src Snk Dsk L : Type 0} → RunGhosts Src Snk Dsk L → GivenNames → Clientele L
     → NetworkFile → Scene Src Snk Dsk → Scene Src Snk Dsk → Result Ends Refusal → Type 0
-ReadsBase kinds names clientele network old new result =
-    Follows (BaseStep kinds.source network.named.network.zones names.base)
-    (λ (file : BaseFile). ReadsTrains kinds names clientele network file) old new result
+ReadsBase ghosts names clientele network old new result =
+    Follows (BaseStep ghosts.source network.named.network.zones names.base)
+    (λ (file : BaseFile). ReadsTrains ghosts names clientele network file) old new result
 
 -- the network is read, and then the base timetable
-abbrev pub ReadsNetwork : {Src Snk Dsk L : Type 0} → Kinds Src Snk Dsk L → GivenNames
+abbrev pub ReadsNetwork : {Src Snk Dsk L : Type 0} → RunGhosts Src Snk Dsk L → GivenNames
     → Clientele L → Scene Src Snk Dsk → Scene Src Snk Dsk → Result Ends Refusal → Type 0
-ReadsNetwork kinds names clientele old new result =
-    Follows (NetworkStep kinds.source names.network)
-    (λ (file : NetworkFile). ReadsBase kinds names clientele file) old new result
+ReadsNetwork ghosts names clientele old new result =
+    Follows (NetworkStep ghosts.source names.network)
+    (λ (file : NetworkFile). ReadsBase ghosts names clientele file) old new result
 
 -- the opening calls of `serve`, in order
 abbrev pub serve_calls : GivenNames → List ClientWord → List ProofWord → List Opening

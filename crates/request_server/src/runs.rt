@@ -8,7 +8,7 @@ ghost use Rattle.served_clients.specs.gate.Views.{StartsWith};
 ghost use Rattle.client_lines.specs.Within.{AreSound};
 ghost use Rattle.command_line.specs.declared.client_words.clients.TheConstants.{MAX_CLIENTS};
 ghost use Rattle.served_clients.specs.Gates.{IsHost, IsNewcomer};
-ghost use Rattle.served_clients.specs.declared.client_seats.gates.TheConstants.{TURNS};
+ghost use Rattle.served_clients.specs.declared.client_seats.gates.TheConstants.{TURNS_OF_A_CLIENT};
 ghost use Rattle.served_clients.specs.Joins.{AreJoined};
 ghost use Rattle.served_clients.specs.ClientRuns.{AreMatched};
 ghost use Rattle.served_clients.specs.Seats.{found_at, IsBack};
@@ -123,7 +123,7 @@ fn seat_all<'a, D: Disk, S: Source + Drop, T: Sink + Drop, B: Between + Drop, L:
 ) -> Vec<Job<'a, D, S, T, B, L>>
     requires shared { IsShared shared.now }
     requires host { IsHost shared.now pass.old }
-    requires share { (view pass.old).share ≡ length plans.items * TURNS + 1 }
+    requires share { (view pass.old).share ≡ length plans.items * TURNS_OF_A_CLIENT + 1 }
     requires names { map (λ n. n.client.name) newcomers.items ≡ map (λ p. p.name) plans.items }
     requires newcomers { All (λ n. IsNewcomer (timetable_at shared.now.gate)
         (found_at shared.now.gate) n.client.name n) newcomers.items }
@@ -256,7 +256,7 @@ fn join_all<'a, D: Disk, S: Source + Drop, T: Sink + Drop, B: Between + Drop, L:
     requires room { vec_len jobs ≤ vec_capacity sessions }
     ensures ready { IsReady shared.now.gate pass.new }
     ensures share { (view pass.new).share
-        ≡ (view pass.old).share + length jobs.entry.items * TURNS }
+        ≡ (view pass.old).share + length jobs.entry.items * TURNS_OF_A_CLIENT }
     ensures joined { (clients : _) (talks : List talk_type) → AreMatched
         (IsDoneJob L.Rule shared.now (streams S.left S.faults T.held T.faults))
         clients (reverse jobs.entry.items) talks

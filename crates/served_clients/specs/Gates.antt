@@ -12,7 +12,7 @@ use Rattle.line_answers.specs.book.Ledgers.{Ledger}
 use Rattle.rail_types.specs.declared.entries.Entry.{Entry}
 use Rattle.rail_types.specs.Limits.{IsClientName}
 use Rattle.rail_types.specs.Timetables.{Timetable}
-use Rattle.served_clients.specs.declared.client_seats.gates.TheConstants.{TURNS}
+use Rattle.served_clients.specs.declared.client_seats.gates.TheConstants.{TURNS_OF_A_CLIENT}
 use Rattle.served_clients.specs.declared.client_seats.newcomers.Newcomer.{Newcomer}
 use Rattle.served_clients.specs.Seats.{found_at}
 use Rattle.served_clients.specs.Tellings.{own_tellings}
@@ -30,10 +30,10 @@ pub record IsOpened {D : Type 0} (book : Ledger D) (known : Names) (clients : �
     (shared : Shared D) (pass : Pass (Ledger D) Entry Footing) : Type 0 where
   pub is_shared : IsShared shared
   pub book_is : opened shared.gate ≡ book
-  pub given : turns_given shared.gate ≡ clients * TURNS + 1
+  pub given : turns_given shared.gate ≡ clients * TURNS_OF_A_CLIENT + 1
   pub known_is : shared.known ≡ known
   pub host : IsHost shared pass
-  pub share : (view pass).share ≡ clients * TURNS + 1
+  pub share : (view pass).share ≡ clients * TURNS_OF_A_CLIENT + 1
 
 -- a client of this name that knows the entries of a book, and what its rules
 -- are told of its own ones there

@@ -12,7 +12,7 @@ pub mod Rules
 pub mod Files
 pub mod ServedJournals
 pub mod Rounds
-pub mod Kinds
+pub mod RunGhosts
 pub mod GivenNames
 pub use Rattle.admission_rules.specs as admission
 pub use Rattle.line_answers.specs.turns as turns

@@ -19,7 +19,7 @@ use Rattle.line_answers.specs.book.Ledgers.{Ledger}
 use Rattle.rail_types.specs.Limits.{IsClientName}
 use Rattle.rail_types.specs.declared.entries.Entry.{Entry}
 use Rattle.client_lines.specs.declared.reply_texts.replies.Reply.{Reply}
-use Rattle.served_clients.specs.declared.client_seats.gates.TheConstants.{TURNS}
+use Rattle.served_clients.specs.declared.client_seats.gates.TheConstants.{TURNS_OF_A_CLIENT}
 use Rattle.served_clients.specs.declared.client_seats.seats.Seat.{Seat}
 use Rattle.served_clients.specs.ClientRuns.{callers_of}
 use Rattle.served_clients.specs.Talks.{AreBelowEnd, AreProved, AreSettledWithin, Callers, faults}
@@ -65,13 +65,13 @@ pub record IsTaken {D Btw L : Type 0} (shared : Shared D) (seat : Seat D Btw L) 
   pub seated : IsSeated seat
   pub seen : (view seat.pass).seen ≡ found_at shared.gate
   pub turns : (view seat.pass).turns ≡ []
-  pub share : (view seat.pass).share ≡ TURNS
-  pub budget : turns_left seat.pass ≡ TURNS
+  pub share : (view seat.pass).share ≡ TURNS_OF_A_CLIENT
+  pub budget : turns_left seat.pass ≡ TURNS_OF_A_CLIENT
 
 -- the client's pass may be taken in again
 pub record IsBack {D Btw L : Type 0} (shared : Shared D) (seat : Seat D Btw L) : Type 0 where
   pub ready : IsReady shared.gate seat.pass
-  pub share : (view seat.pass).share ≡ TURNS
+  pub share : (view seat.pass).share ≡ TURNS_OF_A_CLIENT
 
 -- what a client's pass keeps, once this passed at its seat
 pub record IsDone {D Btw L : Type 0} (kind : Rules L) (shared : Shared D) (seat : Seat D Btw L)

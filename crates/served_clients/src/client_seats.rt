@@ -2,11 +2,13 @@
 //! clients are told is one history.
 
 mod gates;
+mod laws;
 mod newcomers;
 mod seats;
 mod tellings;
 
-pub use gates::{TURNS, close_gate, leave_seat, open_gate, take_seat};
+pub use gates::{TURNS_OF_A_CLIENT, close_gate, leave_seat, open_gate, take_seat};
+pub use laws::limits_are_these;
 pub use newcomers::Newcomer;
 pub use seats::Seat;
 #[doc(hidden)]

@@ -13,7 +13,7 @@ ghost use Rattle.served_clients.specs.lines.declared.lines.TheConstants.{MAX_LIN
 ghost use Rattle.command_line.specs.declared.batch_words.clients.TheConstants.{MAX_WORKERS};
 ghost use Rattle.served_clients.specs.turns.Turns.{IsReady};
 ghost use Rattle.served_clients.specs.sessions.declared.sessions.TheConstants.{MAX_LINES};
-ghost use Rattle.served_clients.specs.declared.client_seats.gates.TheConstants.{TURNS};
+ghost use Rattle.served_clients.specs.declared.client_seats.gates.TheConstants.{TURNS_OF_A_CLIENT};
 
 use crate::batch_server::clerks::Clerk;
 use crate::batch_server::kept::keep;
@@ -64,7 +64,7 @@ pub(crate) fn answer_all<
     requires room { IsRoomFor (length clerks.items) owners.now room }
     ensures ready { IsReady shared.now.gate pass.new }
     ensures share { (view pass.new).share
-        ≡ (view pass.old).share + length clerks.entry.items * TURNS }
+        ≡ (view pass.old).share + length clerks.entry.items * TURNS_OF_A_CLIENT }
     ensures answered { (members : list_of (member_type B L))
         → AreMatched (IsClerkOf L.Rule shared.now) members clerks.entry.items
         → HaveAnswered L.Rule shared.now lines.now owners.now members result.0.items

@@ -10,7 +10,7 @@ ghost use Rattle.served_clients.specs.Gates.{IsHost, IsNewcomer};
 ghost use Rattle.served_clients.specs.Joins.{AreJoined};
 ghost use Rattle.served_clients.specs.Seats.{found_at, IsBack, IsDone};
 ghost use Rattle.served_clients.specs.Talks.{Talk as talk_type};
-ghost use Rattle.served_clients.specs.declared.client_seats.gates.TheConstants.{TURNS};
+ghost use Rattle.served_clients.specs.declared.client_seats.gates.TheConstants.{TURNS_OF_A_CLIENT};
 ghost use Rattle.served_clients.specs.turns.Turns.{IsReady, timetable_at};
 ghost use Rattle.served_clients.specs.answers.Sharing.{IsShared};
 ghost use Rattle.rail_types.specs.Limits.{IsClientName};
@@ -61,7 +61,7 @@ pub(crate) fn seat_all<'a, D: Disk, B: Between + Drop, L: Rule>(
 ) -> Vec<Clerk<'a, D, B, L>>
     requires shared { IsShared shared.now }
     requires host { IsHost shared.now pass.old }
-    requires share { (view pass.old).share ≡ length members.items * TURNS + 1 }
+    requires share { (view pass.old).share ≡ length members.items * TURNS_OF_A_CLIENT + 1 }
     requires newcomers { AreMatched (λ member newcomer.
         IsNewcomer (timetable_at shared.now.gate) (found_at shared.now.gate) member.name newcomer)
         members.items newcomers.items }
@@ -91,11 +91,11 @@ fn seat<'a, D: Disk, B: Between + Drop, L: Rule>(
 ) -> Clerk<'a, D, B, L>
     requires shared { IsShared shared.now }
     requires host { IsHost shared.now pass.old }
-    requires share { TURNS < (view pass.old).share }
+    requires share { TURNS_OF_A_CLIENT < (view pass.old).share }
     requires newcomer { IsNewcomer (timetable_at shared.now.gate) (found_at shared.now.gate)
         member.name newcomer }
     ensures host { IsHost shared.now pass.new }
-    ensures share { (view pass.new).share + TURNS ≡ (view pass.old).share }
+    ensures share { (view pass.new).share + TURNS_OF_A_CLIENT ≡ (view pass.old).share }
     ensures clerk { IsClerkOf L.Rule shared.now member result }
 {
     let Member {
@@ -132,7 +132,7 @@ pub(crate) fn leave_served<'a, D: Disk + Send, B: Between + Send + Drop, L: Rule
     requires space { length served.items ≤ vec_capacity parts }
     ensures ready { IsReady shared.now.gate pass.new }
     ensures share { (view pass.new).share
-        ≡ (view pass.old).share + length served.entry.items * TURNS }
+        ≡ (view pass.old).share + length served.entry.items * TURNS_OF_A_CLIENT }
     ensures worked { result.0.items ≡ map (λ one. worked_of one.worker) served.entry.items }
     ensures left { HaveLeft L.Rule shared.now (map (λ one. one.worker) served.entry.items)
         (view pass.new) }
@@ -156,7 +156,7 @@ fn leave<'a, D: Disk, B: Between + Drop, L: Rule>(
     requires ready { IsReady shared.now.gate pass.old }
     requires back { IsBack shared.now clerk.seat }
     ensures ready { IsReady shared.now.gate pass.new }
-    ensures share { (view pass.new).share ≡ (view pass.old).share + TURNS }
+    ensures share { (view pass.new).share ≡ (view pass.old).share + TURNS_OF_A_CLIENT }
     ensures turns { (view clerk.entry.seat.pass).turns ≡ []
         → (view pass.new).turns ≡ (view pass.old).turns }
     ensures worked { result ≡ worked_of clerk.entry }

@@ -9,7 +9,7 @@ ghost use Rattle.command_reports.specs.Scenes.{scene};
 ghost use Rattle.served_clients.specs.book.Ledgers.{settled_of};
 ghost use Rattle.request_server.specs.Serving.{BookSays};
 ghost use Rattle.served_clients.specs.Files.{names_of};
-ghost use Rattle.served_clients.specs.Kinds.{kinds_of};
+ghost use Rattle.served_clients.specs.RunGhosts.{run_ghosts};
 
 use crate::client_plans::{open_clients, put_back_plans, put_back_sessions};
 use crate::serve_clients;
@@ -46,7 +46,7 @@ pub(crate) fn serve_book<R: AllocGlobal + Threads + Wait + Sync, O: Outside, L: 
     requires settled { settled_of book ≡ length book.entries }
     requires sound { AreSound (names_of named trains) }
     requires network { named.network ≡ book.timetable.net }
-    ensures says { BookSays (kinds_of O.Src.Source O.Snk.Sink O.Dsk.Disk L.Rule)
+    ensures says { BookSays (run_ghosts O.Src.Source O.Snk.Sink O.Dsk.Disk L.Rule)
         (names_of named trains) (clientele_of clients.now proofs.now rules.items) book result.0
         (scene O.Outside outside.old) (scene O.Outside outside.new) result.1 }
     ensures keeps { KeepsTo (client_calls clients.now proofs.now) (scene O.Outside outside.old)

@@ -6,7 +6,7 @@ ghost use Rattle.command_reports.specs.Works.{KeepsTo};
 ghost use Rattle.command_reports.specs.Scenes.{scene};
 ghost use Rattle.request_server.specs.ServeJournals.{DiskSays, ServeStep};
 ghost use Rattle.served_clients.specs.Files.{AreFiles};
-ghost use Rattle.served_clients.specs.Kinds.{kinds_of};
+ghost use Rattle.served_clients.specs.RunGhosts.{run_ghosts};
 
 use crate::serve_command::books::serve_book;
 use admission_rules::Rule;
@@ -33,7 +33,8 @@ pub(crate) fn serve_files<R: AllocGlobal + Threads + Wait + Sync, O: Outside, L:
 ) -> Result<Ends, Refusal>
     requires clients { AreClients clients.now proofs.now }
     requires files { AreFiles files }
-    ensures step { ServeStep (kinds_of O.Src.Source O.Snk.Sink O.Dsk.Disk L.Rule) files journal.now
+    ensures step { ServeStep (run_ghosts O.Src.Source O.Snk.Sink O.Dsk.Disk L.Rule) files
+        journal.now
         (clientele_of clients.now proofs.now rules.items) (scene O.Outside outside.old)
         (scene O.Outside outside.new) result }
 {
@@ -58,7 +59,7 @@ fn serve_disk<R: AllocGlobal + Threads + Wait + Sync, O: Outside, L: Rule + Send
 ) -> (O::Dsk, Result<Ends, Refusal>)
     requires clients { AreClients clients.now proofs.now }
     requires files { AreFiles files }
-    ensures says { DiskSays (kinds_of O.Src.Source O.Snk.Sink O.Dsk.Disk L.Rule) files journal.now
+    ensures says { DiskSays (run_ghosts O.Src.Source O.Snk.Sink O.Dsk.Disk L.Rule) files journal.now
         (clientele_of clients.now proofs.now rules.items) disk result.0
         (scene O.Outside outside.old) (scene O.Outside outside.new) result.1 }
     ensures keeps { KeepsTo (client_calls clients.now proofs.now) (scene O.Outside outside.old)

@@ -8,7 +8,7 @@ ghost use Rattle.outside_io.specs.Openings.{Undisturbed};
 ghost use Rattle.outside_io.specs.Places.{Untouched};
 ghost use Rattle.request_server.specs.ServeRuns.{EndsRun, IsServed, RunsServe};
 ghost use Rattle.served_clients.specs.GivenNames.{names_in};
-ghost use Rattle.served_clients.specs.Kinds.{kinds_of};
+ghost use Rattle.served_clients.specs.RunGhosts.{run_ghosts};
 
 use crate::serve_command::works::serve;
 use admission_rules::Rule;
@@ -42,13 +42,13 @@ pub fn run_serve<R: AllocGlobal + Threads + Wait + Sync, O: Outside, L: Rule + S
 ) -> Status
     requires clients { AreClients clients.now proofs.now }
     // All that is done, by the status and the report.
-    ensures runs { RunsServe (kinds_of O.Src.Source O.Snk.Sink O.Dsk.Disk L.Rule)
+    ensures runs { RunsServe (run_ghosts O.Src.Source O.Snk.Sink O.Dsk.Disk L.Rule)
         (names_in names.now) (clientele_of clients.now proofs.now rules.items)
         (scene O.Outside outside.old) (scene O.Outside outside.new) result }
     // At Done each line of each client was answered, with its proofs where they are wanted, and a
     // line for each client and for each of its rules was reported.
     ensures done { result ≡ Status.Done
-        → IsServed (kinds_of O.Src.Source O.Snk.Sink O.Dsk.Disk L.Rule) (names_in names.now)
+        → IsServed (run_ghosts O.Src.Source O.Snk.Sink O.Dsk.Disk L.Rule) (names_in names.now)
         (clientele_of clients.now proofs.now rules.items) (scene O.Outside outside.old)
         (scene O.Outside outside.new) }
     // At a refusal no sink but the report gained anything.

@@ -6,7 +6,7 @@ ghost use Rattle.command_reports.specs.Scenes.{scene};
 ghost use Rattle.request_server.specs.Works.{ReadsBase, ReadsNetwork, ReadsTrains};
 ghost use Rattle.served_clients.specs.Files.{IsBaseRead, IsNetworkRead};
 ghost use Rattle.served_clients.specs.GivenNames.{names_in};
-ghost use Rattle.served_clients.specs.Kinds.{kinds_of};
+ghost use Rattle.served_clients.specs.RunGhosts.{run_ghosts};
 
 use crate::serve_command::journals::serve_files;
 use admission_rules::Rule;
@@ -34,7 +34,7 @@ pub(crate) fn serve<R: AllocGlobal + Threads + Wait + Sync, O: Outside, L: Rule 
     outside: &mut O,
 ) -> Result<Ends, Refusal>
     requires clients { AreClients clients.now proofs.now }
-    ensures works { ReadsNetwork (kinds_of O.Src.Source O.Snk.Sink O.Dsk.Disk L.Rule)
+    ensures works { ReadsNetwork (run_ghosts O.Src.Source O.Snk.Sink O.Dsk.Disk L.Rule)
         (names_in names.now) (clientele_of clients.now proofs.now rules.items)
         (scene O.Outside outside.old) (scene O.Outside outside.new) result }
 {
@@ -54,7 +54,7 @@ fn serve_network<R: AllocGlobal + Threads + Wait + Sync, O: Outside, L: Rule + S
 ) -> Result<Ends, Refusal>
     requires clients { AreClients clients.now proofs.now }
     requires network { IsNetworkRead network }
-    ensures works { ReadsBase (kinds_of O.Src.Source O.Snk.Sink O.Dsk.Disk L.Rule)
+    ensures works { ReadsBase (run_ghosts O.Src.Source O.Snk.Sink O.Dsk.Disk L.Rule)
         (names_in names.now) (clientele_of clients.now proofs.now rules.items) network
         (scene O.Outside outside.old) (scene O.Outside outside.new) result }
 {
@@ -75,7 +75,7 @@ fn serve_base<R: AllocGlobal + Threads + Wait + Sync, O: Outside, L: Rule + Send
 ) -> Result<Ends, Refusal>
     requires clients { AreClients clients.now proofs.now }
     requires base { IsBaseRead network base }
-    ensures works { ReadsTrains (kinds_of O.Src.Source O.Snk.Sink O.Dsk.Disk L.Rule)
+    ensures works { ReadsTrains (run_ghosts O.Src.Source O.Snk.Sink O.Dsk.Disk L.Rule)
         (names_in names.now) (clientele_of clients.now proofs.now rules.items) network base
         (scene O.Outside outside.old) (scene O.Outside outside.new) result }
 {

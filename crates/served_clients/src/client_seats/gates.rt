@@ -8,7 +8,7 @@ ghost use Rattle.client_lines.specs.Within.{AreSound};
 ghost use Rattle.command_line.specs.declared.client_words.clients.TheConstants.{MAX_CLIENTS};
 ghost use Rattle.admission_rules.specs.Ruled.{stand};
 ghost use Rattle.served_clients.specs.Gates.{IsHost, IsNewcomer, IsOpened};
-ghost use Rattle.served_clients.specs.declared.client_seats.gates.TheConstants.{TURNS};
+ghost use Rattle.served_clients.specs.declared.client_seats.gates.TheConstants.{TURNS_OF_A_CLIENT};
 ghost use Rattle.served_clients.specs.Joins.{AreJoined};
 ghost use Rattle.served_clients.specs.ClientRuns.{IsRun, told_own};
 ghost use Rattle.served_clients.specs.Seats.{found_at, IsBack, IsDone, IsTaken};
@@ -34,8 +34,9 @@ use outside_io::{Between, Disk};
 use rail_types::networks_without_flaws;
 use std::alloc::Global;
 
-/// Turns that a client may take: each of its lines takes at most four, and it has at most 100,000.
-pub const TURNS: u64 = 400_000;
+/// Turns that a client may take: each of its lines takes at most four, and it has at most
+/// `MAX_LINES`.
+pub const TURNS_OF_A_CLIENT: u64 = 400_000;
 
 /// Gives a book to a gate with seats for so many clients, at most `MAX_CLIENTS`, and hands out the
 /// pass from which they get theirs. For want of memory the book is handed back.
@@ -56,7 +57,7 @@ pub fn open_gate<D: Disk>(
     };
     let settings = *book.history().settings();
     let count = clients as u64;
-    match Gate::new(alloc, book, count * TURNS + 1) {
+    match Gate::new(alloc, book, count * TURNS_OF_A_CLIENT + 1) {
         Ok((gate, pass)) => {
             let shared = Shared {
                 gate,
@@ -93,11 +94,11 @@ pub fn take_seat<'a, D: Disk, B: Between + Drop, L: Rule>(
 ) -> Seat<'a, D, B, L>
     requires shared { IsShared shared.now }
     requires host { IsHost shared.now pass.old }
-    requires share { TURNS < (view pass.old).share }
+    requires share { TURNS_OF_A_CLIENT < (view pass.old).share }
     requires newcomer { IsNewcomer (timetable_at shared.now.gate) (found_at shared.now.gate)
         newcomer.client.name newcomer }
     ensures host { IsHost shared.now pass.new }
-    ensures share { (view pass.new).share + TURNS ≡ (view pass.old).share }
+    ensures share { (view pass.new).share + TURNS_OF_A_CLIENT ≡ (view pass.old).share }
     ensures taken { IsTaken shared.now result }
     ensures name { result.client.name ≡ newcomer.client.name }
     ensures between { result.between ≡ between }
@@ -106,7 +107,7 @@ pub fn take_seat<'a, D: Disk, B: Between + Drop, L: Rule>(
         newcomer.client.name (stand L.Rule rules.items) }
 {
     let Newcomer { client, tellings } = newcomer;
-    let pass = shared.gate.split(pass, TURNS);
+    let pass = shared.gate.split(pass, TURNS_OF_A_CLIENT);
     Seat {
         shared,
         pass,
@@ -126,7 +127,7 @@ pub fn leave_seat<'a, D: Disk, B: Between + Drop, L: Rule>(
     requires ready { IsReady shared.now.gate pass.old }
     requires back { IsBack shared.now seat }
     ensures ready { IsReady shared.now.gate pass.new }
-    ensures share { (view pass.new).share ≡ (view pass.old).share + TURNS }
+    ensures share { (view pass.new).share ≡ (view pass.old).share + TURNS_OF_A_CLIENT }
     ensures turns { (view seat.entry.pass).turns ≡ []
         → (view pass.new).turns ≡ (view pass.old).turns }
     ensures rules { result ≡ seat.entry.rules }

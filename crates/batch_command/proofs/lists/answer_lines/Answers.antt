@@ -24,7 +24,7 @@ returns-in-Err g c = record {
   says = record {
     disk_is = c.close.ensures.disk;
     unwritten = refl;
-    flaw = subst (λ (entries : List Entry). HasFlaw c.args.known c.args.roster.now.client.now.client c.args.roster.now.workers entries c.args.lines.now c.in-Err.refusal) c.history.ensures.entries c.in-Err.ensures.flaw;
+    flaw = subst (λ (entries : List Entry). HasFlaw c.args.known c.args.answering.now.client.now.client c.args.answering.now.workers entries c.args.lines.now c.in-Err.refusal) c.history.ensures.entries c.in-Err.ensures.flaw;
   };
   still = unchanged (scene g.O.Outside c.args.outside.now);
 }
@@ -33,27 +33,27 @@ pub answer_list-requires-clause-some : goal.answer_list-requires-clause-some
 answer_list-requires-clause-some g c κs within =
     let Btw = g.row.O-Btw.Denot in let L = g.row.L.Denot in
     let members : List (Member Btw L) = c.in-Ok-members_of.members.items in
-    let many = members_many c.args.roster.now.client.now.client c.args.roster.now.workers c.args.rules.items members c.in-Ok-members_of.ensures.members in
+    let many = members_many c.args.answering.now.client.now.client c.args.answering.now.workers c.args.rules.items members c.in-Ok-members_of.ensures.members in
     let some = c.requires.workers.some in omega arith
 
 pub answer_list-requires-clause-few : goal.answer_list-requires-clause-few
 answer_list-requires-clause-few g c κs within =
     let Btw = g.row.O-Btw.Denot in let L = g.row.L.Denot in
     let members : List (Member Btw L) = c.in-Ok-members_of.members.items in
-    let many = members_many c.args.roster.now.client.now.client c.args.roster.now.workers c.args.rules.items members c.in-Ok-members_of.ensures.members in
+    let many = members_many c.args.answering.now.client.now.client c.args.answering.now.workers c.args.rules.items members c.in-Ok-members_of.ensures.members in
     let few = c.requires.workers.few in omega arith
 
 pub answer_list-requires-clause-named : goal.answer_list-requires-clause-named
 answer_list-requires-clause-named g c κs within =
-    members_named c.args.roster.now.client.now.client c.args.roster.now.workers c.args.rules.items c.in-Ok-members_of.members.items c.in-Ok-members_of.ensures.members c.worker_names_are_names.ensures c.requires.named c.requires.name c.requires.workers.few
+    members_named c.args.answering.now.client.now.client c.args.answering.now.workers c.args.rules.items c.in-Ok-members_of.members.items c.in-Ok-members_of.ensures.members c.worker_names_are_names.ensures c.requires.named c.requires.name c.requires.workers.few
 
 pub answer_list-requires-clause-names : goal.answer_list-requires-clause-names
 answer_list-requires-clause-names g c κs within =
-    members_differ c.args.roster.now.client.now.client c.args.roster.now.workers c.args.rules.items c.in-Ok-members_of.members.items c.in-Ok-members_of.ensures.members c.worker_names_differ.ensures c.requires.workers.few
+    members_differ c.args.answering.now.client.now.client c.args.answering.now.workers c.args.rules.items c.in-Ok-members_of.members.items c.in-Ok-members_of.ensures.members c.worker_names_differ.ensures c.requires.workers.few
 
 pub answer_list-requires-clause-owners : goal.answer_list-requires-clause-owners
 answer_list-requires-clause-owners g c κs within =
-    let names = worker_names c.args.roster.now.client.now.client c.args.roster.now.workers in
+    let names = worker_names c.args.answering.now.client.now.client c.args.answering.now.workers in
     let entries : List Entry = c.history-2.result.now.entries in
     ap length (c.deref-2.ensures.value ∙ c.in-Ok-owners_by.ensures) ∙ (length-map c.deref.result.now (owner_of entries names) ∙ (ap length c.deref.ensures.value ∙ numbers_many c.args.known c.args.lines.now c.in-Ok.numbers.items c.in-Ok.ensures.asked.numbered))
 
@@ -61,8 +61,8 @@ pub answer_list-requires-clause-theirs : goal.answer_list-requires-clause-theirs
 answer_list-requires-clause-theirs g c κs within =
     let Btw = g.row.O-Btw.Denot in let L = g.row.L.Denot in
     let members : List (Member Btw L) = c.in-Ok-members_of.members.items in
-    let many = members_many c.args.roster.now.client.now.client c.args.roster.now.workers c.args.rules.items members c.in-Ok-members_of.ensures.members in
-    theirs_by c.history-2.result.now.entries c.args.roster.now.client.now.client c.args.roster.now.workers c.deref.result.now c.deref-2.result.now (length members) (c.deref-2.ensures.value ∙ c.in-Ok-owners_by.ensures) many
+    let many = members_many c.args.answering.now.client.now.client c.args.answering.now.workers c.args.rules.items members c.in-Ok-members_of.ensures.members in
+    theirs_by c.history-2.result.now.entries c.args.answering.now.client.now.client c.args.answering.now.workers c.deref.result.now c.deref-2.result.now (length members) (c.deref-2.ensures.value ∙ c.in-Ok-owners_by.ensures) many
 
 pub write_if_told-written-requires : goal.write_if_told-written-requires
 write_if_told-written-requires g c =
@@ -73,7 +73,7 @@ write_if_told-written-requires g c =
 pub returns-in-Ok-answer_list : goal.returns-in-Ok-answer_list
 returns-in-Ok-answer_list g c =
     let D = g.row.O-Dsk.Denot in let Btw = g.row.O-Btw.Denot in let L = g.row.L.Denot in
-    let batch : List ℕ = c.args.roster.now.client.now.client in let workers : ℕ = c.args.roster.now.workers in
+    let batch : List ℕ = c.args.answering.now.client.now.client in let workers : ℕ = c.args.answering.now.workers in
     let lines : List (List ℕ) = c.args.lines.now in
     let numbers : List (Option ℕ) = c.in-Ok.numbers.items in
     let found : Ledger D = c.args.book in

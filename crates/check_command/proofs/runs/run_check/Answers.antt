@@ -1,7 +1,6 @@
 use Rattle.std.proofs.Common.{◌∙◌}
 use Rattle.command_reports.specs.Scenes.{scene}
-use Rattle.check_command.specs.Runs.{RunsCheck}
-use Rattle.check_command.specs.Works.{check_calls, ReadsNetwork}
+use Rattle.check_command.specs.Runs.{check_names, RunsCheck}
 use Rattle.check_command.proofs.Ending.{ends_leave, run_done, run_no, run_words}
 use Rattle.check_command.proofs.Stepping.{check_keeps, check_read, read_then_still}
 use Rattle.check_command.proofs.runs.run_check.Goals as goal
@@ -22,7 +21,7 @@ returns g c =
     let status = c.end.result in
     let keeps = check_keeps source disk network trains base journal proof old between c.work-outcome.result c.work-outcome.ensures.works in
     let left = ends_leave sink between new c.work-outcome.result status c.end.ensures.ends in
-    let runs : RunsCheck sink (check_calls network trains base journal proof) (ReadsNetwork source disk network trains base journal proof) old new status = record {
+    let runs : RunsCheck source sink disk (check_names network trains base journal proof) old new status = record {
       between = between;
       outcome = c.work-outcome.result;
       works = c.work-outcome.ensures.works;

@@ -13,5 +13,5 @@ loop-one-preserved c =
     let moves = c.args.moves.now in
     let k = c.loop-one.one-index in
     let e : Move = record { step = record { block = 0; exit = Still }; next = End } in
-    AllWithin-more (MovePasses c.args.net.now c.args.settings.now c.args.request.now (held c.args.book.now) c.args.labels.now c.args.departing.now.going.now c.args.departing.now.place.now) moves 0 k c.loop-one.invariant
-    (λ d. subst (MovePasses c.args.net.now c.args.settings.now c.args.request.now (held c.args.book.now) c.args.labels.now c.args.departing.now.going.now c.args.departing.now.place.now) (get_or_default moves k e d c.loop-one-test.true) (c.in_ok-move_passes.ensures.0 c.if-not-branch.false))
+    AllWithin-more (MovePasses c.args.net.now c.args.settings.now c.args.request.now (held c.args.book.now) c.args.labels.now c.args.onward.now.going.now c.args.onward.now.place.now) moves 0 k c.loop-one.invariant
+    (λ d. subst (MovePasses c.args.net.now c.args.settings.now c.args.request.now (held c.args.book.now) c.args.labels.now c.args.onward.now.going.now c.args.onward.now.place.now) (get_or_default moves k e d c.loop-one-test.true) (c.in_ok-move_passes.ensures.0 c.if-not-branch.false))

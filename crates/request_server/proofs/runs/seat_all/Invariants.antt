@@ -4,12 +4,13 @@ use Rattle.served_clients.specs.Gates.{IsHost, IsNewcomer}
 use Rattle.served_clients.specs.Seats.{found_at}
 use Rattle.served_clients.specs.turns.Turns.{timetable_at}
 use Rattle.request_server.specs.Jobs.{begun, begun_of, IsReadyJob}
+use Rattle.served_clients.specs.declared.client_seats.gates.TheConstants.{TURNS_OF_A_CLIENT}
 use Rattle.request_server.proofs.runs.seat_all.Given as goal
 
 abbrev pub invariant-loop-plan : goal.invariant-loop-plan
 invariant-loop-plan g l = record {
   host : IsHost l.shared l.pass;
-  share : (view l.pass).share ≡ length l.plans.items * 400000 + 1;
+  share : (view l.pass).share ≡ length l.plans.items * TURNS_OF_A_CLIENT + 1;
   names : map (λ n. n.client.name) l.newcomers.items ≡ map (λ p. p.name) l.plans.items;
   newcomers : All (λ n. IsNewcomer (timetable_at l.shared.gate) (found_at l.shared.gate) n.client.name n) l.newcomers.items;
   jobs : All (IsReadyJob l.shared) l.jobs.items;

@@ -1,6 +1,6 @@
 use Rattle.command_reports.specs.Scenes.{Scene, scene}
 use Rattle.request_server.specs.Clienteles.{clientele_of}
-use Rattle.served_clients.specs.Kinds.{kinds_of}
+use Rattle.served_clients.specs.RunGhosts.{run_ghosts}
 use Rattle.served_clients.proofs.JournalRounds.{DiskIsRefused, IsRound}
 use Rattle.request_server.proofs.Disks.{step_by, unopened_step}
 use Rattle.request_server.proofs.serve_command.journals.serve_files.Goals as goal
@@ -20,7 +20,7 @@ returns-in_default g c =
       report = c.in_default.ensures.report;
     } in
     record {
-      step = unopened_step (kinds_of g.O.Src.Source g.O.Snk.Sink g.O.Dsk.Disk g.L.Rule) c.args.files c.args.journal.now (clientele_of c.args.clients.now c.args.proofs.now c.args.rules.items) c.in_default.field-0 s0 s1 c.not_opened.result refused c.not_opened.ensures;
+      step = unopened_step (run_ghosts g.O.Src.Source g.O.Snk.Sink g.O.Dsk.Disk g.L.Rule) c.args.files c.args.journal.now (clientele_of c.args.clients.now c.args.proofs.now c.args.rules.items) c.in_default.field-0 s0 s1 c.not_opened.result refused c.not_opened.ensures;
     }
 
 pub returns : goal.returns
@@ -48,5 +48,5 @@ returns g c =
       report_still = c.put_back_disk.ensures.report;
     } in
     record {
-      step = step_by c.args.journal.now (clientele_of c.args.clients.now c.args.proofs.now c.args.rules.items) before after s0 s1 s2 s3 round (kinds_of g.O.Src.Source g.O.Snk.Sink g.O.Dsk.Disk g.L.Rule) c.args.files c.serve_disk-disk.result.1 c.serve_disk-disk.ensures.says c.serve_disk-disk.ensures.keeps;
+      step = step_by c.args.journal.now (clientele_of c.args.clients.now c.args.proofs.now c.args.rules.items) before after s0 s1 s2 s3 round (run_ghosts g.O.Src.Source g.O.Snk.Sink g.O.Dsk.Disk g.L.Rule) c.args.files c.serve_disk-disk.result.1 c.serve_disk-disk.ensures.says c.serve_disk-disk.ensures.keeps;
     }
