@@ -175,6 +175,12 @@ def main() -> int:
             cases.equal(f"{option} as many as there are", (0, LISTED), house(option, str(count)))
             over = f"over the limit: {name}: {count}, and at most {count - 1} may be\n"
             cases.equal(f"{option} one less", (1, LISTED + over), house(option, str(count - 1)))
+        but = ("--but", "bench", "--most-dependencies")
+        cases.equal("a crate aside, as many libraries as the next one has", (0, LISTED),
+                    house(*but, "13"))
+        over = "over the limit: libraries of a crate: 13, and at most 12 may be\n"
+        cases.equal("a crate aside, one less", (1, LISTED + over), house(*but, "12"))
+        cases.equal("both crates aside", (0, LISTED), house(*but, "12", "--but", "program"))
         all_over = [word for option, _, _ in LIMITS for word in (option, "0")]
         status, told = house(*all_over)
         cases.equal("the status over each limit", 1, status)
