@@ -16,7 +16,8 @@ use Rattle.carry_command.specs.Names.{Names}
 use Rattle.carry_command.specs.Runs.{HasPrepared, WasCarriedTo}
 use Rattle.carry_command.specs.Works.{CarriesOver, LeftStep, ReadsNetwork, WritesAll, WritesJournal}
 use Rattle.carry_command.proofs.Ending.{IsRefusedFirst}
-use Rattle.carry_command.proofs.Places.{looks_leave, replaces_more, replaces_then}
+use Rattle.carry_command.proofs.Places.{looks_leave, replaces_then}
+use Rattle.print_commands.proofs.Printed.{replaces_more}
 use Rattle.carry_command.proofs.Reaching.{Arrives, Reaches, reaches}
 use Rattle.carry_command.proofs.Stepping.{misses_disk, over_keeps}
 

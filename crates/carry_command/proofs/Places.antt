@@ -4,12 +4,7 @@ use Rattle.outside_io.specs.Places.{Place, hidden, kept, lent, empty, Replaces}
 use Rattle.outside_io.specs.declared.disks.Disk.{Ghosts as Disks}
 use Rattle.path_recover.specs.Beginning.{IsAsItWas}
 use Rattle.carry_command.specs.Disks.{LeavesWhole}
-
-pub replaces_more : {D : Type 0} (P Q : D → D → Type 0) → ((before after : D) → P before after → Q before after) → (old new : Place D) → Replaces P old new → Replaces Q old new
-replaces_more P Q more hidden new replaced = replaced
-replaces_more P Q more (kept before) new replaced = (replaced.0, replaced.1, more before replaced.0 replaced.2)
-replaces_more P Q more lent new replaced = absurd replaced
-replaces_more P Q more empty new replaced = absurd replaced
+use Rattle.print_commands.proofs.Printed.{replaces_more}
 
 pub replaces_then : {D : Type 0} (P Q R : D → D → Type 0) → ((a b c : D) → P a b → Q b c → R a c) → (old between new : Place D) → Replaces P old between → Replaces Q between new → Replaces R old new
 replaces_then {D = D} P Q R more hidden between new first second = subst (λ (place : Place D). Replaces Q place new) first second

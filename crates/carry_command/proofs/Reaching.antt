@@ -26,7 +26,7 @@ use Rattle.carry_command.specs.Names.{Names}
 use Rattle.carry_command.specs.Olds.{GoesOver, LentSays}
 use Rattle.carry_command.specs.Runs.{HasRead}
 use Rattle.carry_command.specs.Works.{CarriesOver, FindsEmpty, ReadsBase, ReadsBefore, ReadsNetwork, ReadsOld}
-use Rattle.carry_command.proofs.Places.{replaces_more}
+use Rattle.print_commands.proofs.Printed.{replaces_more}
 use Rattle.carry_command.proofs.Refused.{before_other, disk_other, from_other, IsOther}
 
 module _ {Src Snk Dsk : Type 0} (source : Sources Src) (sink : Sinks Snk) (disk : Disks Dsk) (names : Names) where

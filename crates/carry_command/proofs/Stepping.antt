@@ -28,6 +28,8 @@ use Rattle.carry_command.specs.Works.{carry_calls, CarriesOver, Finds, FindsEmpt
 use Rattle.carry_command.specs.Works.{LeftStep, ReadsBase, ReadsBefore, ReadsNetwork, ReadsOld}
 use Rattle.carry_command.specs.Works.{writing_calls, WritesAll, WritesJournal}
 use Rattle.carry_command.specs.declared.preparing.Prepared.{Prepared}
+use Rattle.command_reports.proofs.Steps.{opens_both as calls_both}
+use Rattle.command_files.proofs.Kept.{one_sink}
 
 -- ---- which names the calls are not of
 
@@ -62,15 +64,6 @@ before_keeps source zones name old new (Err refusal) step = record {
   opens = (1, step.step.only.opened);
 }
 
-one_sink : {Src Snk Dsk : Type 0} (name : List ℕ) (old new : Scene Src Snk Dsk) → ChangesOnlySink name old new → Keeps (sink_at name ∷ []) old new
-one_sink name old new only = record {
-  standing = only.standing;
-  sources = λ other misses. only.sources other;
-  sinks = λ other misses. only.others other (λ same. misses.0 (ap sink_at (sym same)));
-  disks = λ other misses. only.disks other;
-  report = only.report;
-}
-
 left_keeps : {Src Snk Dsk : Type 0} (sink : Sinks Snk) (left : Option (List ℕ)) (lines : List ℕ) (old new : Scene Src Snk Dsk) (result : Result (Unit {0}) Refusal) → LeftStep sink left lines old new result → KeepsTo (left_calls left) old new result
 left_keeps sink None lines old new result step = still old new result step.0
 left_keeps sink (Some name) lines old new (Ok done) step = record { keeps = one_sink name old new step.only; opens = step.only.opened }
@@ -81,13 +74,6 @@ journal_keeps disk names prepared old new (Ok told) works = one_disk names.journ
 journal_keeps disk names prepared old new (Err refusal) works = one_disk names.journal old new (Err refusal) works.only
 
 -- ---- a disk that is out while more is done
-
--- some calls, and then others
-calls_both : (first next : List Opening) (old between new : Option (List Opening)) → CallsOf first old between → CallsOf next between new → CallsOf (first ++ next) old new
-calls_both first next old between None opens more = tt
-calls_both first next old between (Some now) opens more =
-    let here : CallsOf first old (Some more.0) = subst (CallsOf first old) more.1 opens in
-    (here.0, here.1, more.2 ∙ (ap (λ (front : List Opening). front ++ next) here.2 ∙ append_assoc here.0 first next))
 
 lent_keeps : {Src Snk Dsk : Type 0} (name : List ℕ) (calls : List Opening) (before after : Dsk) (old out done new : Scene Src Snk Dsk) → IsLent name before old out → Keeps calls out done → IsReturned name after done new → Keeps (disk_at name ∷ calls) old new
 lent_keeps name calls before after old out done new lent keeps back = record {

@@ -28,27 +28,14 @@ use Rattle.check_command.specs.Checks.{TellsProofs}
 use Rattle.check_command.specs.Files.{ProofFileStep}
 use Rattle.check_command.specs.Works.{check_calls, names_of, plain_of, ReadsBase, ReadsJournal}
 use Rattle.check_command.specs.Works.{ReadsNetwork, ReadsProofs, ReadsTrains}
+use Rattle.command_files.proofs.Kept.{one_source}
+use Rattle.print_commands.proofs.Printed.{tells_keep}
 
 -- ---- opening calls
-
-one_source : {Src Snk Dsk : Type 0} (name : List ℕ) (old new : Scene Src Snk Dsk) → ChangesOnlySource name old new → Keeps (source_at name ∷ []) old new
-one_source name old new only = record {
-  standing = only.standing;
-  sources = λ other misses. only.others other (λ same. misses.0 (ap source_at (sym same)));
-  sinks = λ other misses. only.sinks other;
-  disks = λ other misses. only.disks other;
-  report = only.report;
-}
 
 proof_keeps : {Src Snk Dsk : Type 0} (source : Sources Src) (name : List ℕ) (old new : Scene Src Snk Dsk) (result : Result (Vec ℕ Global) Refusal) → ProofFileStep source name old new result → KeepsTo (source_at name ∷ []) old new result
 proof_keeps source name old new (Ok bytes) step = record { keeps = one_source name old new step.only; opens = step.only.opened }
 proof_keeps source name old new (Err refusal) step = record { keeps = one_source name old new step.only; opens = (1, step.only.opened) }
-
-tells_keep : {Src Snk Dsk : Type 0} (Says : Result (List ℕ) Refusal → Type 0) (old new : Scene Src Snk Dsk) (result : Result (List ℕ) Refusal) → Tells Says old new result → KeepsTo [] old new result
-tells_keep {Src = Src} {Snk = Snk} {Dsk = Dsk} Says old new (Ok bytes) tells =
-    subst (λ (s : Scene Src Snk Dsk). KeepsTo {A = List ℕ} [] old s (Ok bytes)) (sym tells.0) (record { keeps = alone old; opens = silent old.opened })
-tells_keep {Src = Src} {Snk = Snk} {Dsk = Dsk} Says old new (Err refusal) tells =
-    subst (λ (s : Scene Src Snk Dsk). KeepsTo {A = List ℕ} [] old s (Err refusal)) (sym tells.0) (record { keeps = alone old; opens = (zero, silent old.opened) })
 
 -- ---- places of disks
 

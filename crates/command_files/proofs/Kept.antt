@@ -13,7 +13,7 @@ use Rattle.command_files.specs.Outs.{OutStep}
 use Rattle.command_files.specs.Steps.{FileStep}
 use Rattle.command_files.specs.declared.files.FileKind.{FileKind}
 
-one_source : {Src Snk Dsk : Type 0} (name : List ℕ) (old new : Scene Src Snk Dsk) → ChangesOnlySource name old new → Keeps (source_at name ∷ []) old new
+pub one_source : {Src Snk Dsk : Type 0} (name : List ℕ) (old new : Scene Src Snk Dsk) → ChangesOnlySource name old new → Keeps (source_at name ∷ []) old new
 one_source name old new only = record {
   standing = only.standing;
   sources = λ other misses. only.others other (λ same. misses.0 (ap source_at (sym same)));
@@ -22,7 +22,7 @@ one_source name old new only = record {
   report = only.report;
 }
 
-one_sink : {Src Snk Dsk : Type 0} (name : List ℕ) (old new : Scene Src Snk Dsk) → ChangesOnlySink name old new → Keeps (sink_at name ∷ []) old new
+pub one_sink : {Src Snk Dsk : Type 0} (name : List ℕ) (old new : Scene Src Snk Dsk) → ChangesOnlySink name old new → Keeps (sink_at name ∷ []) old new
 one_sink name old new only = record {
   standing = only.standing;
   sources = λ other misses. only.sources other;

@@ -8,7 +8,7 @@ use Rattle.command_reports.specs.Scenes.{Scene}
 use Rattle.command_reports.specs.Works.{Follows, Keeps, KeepsTo, Makes, Misses, OpensInTurn}
 use Rattle.command_reports.specs.declared.refusals.Refusal.{Refusal}
 
-misses_both : (call : Opening) (first next : List Opening) → Misses call (first ++ next) → Misses call first × Misses call next
+pub misses_both : (call : Opening) (first next : List Opening) → Misses call (first ++ next) → Misses call first × Misses call next
 misses_both call [] next misses = (tt, misses)
 misses_both call (made ∷ first) next misses =
     let rest = misses_both call first next misses.1 in
@@ -39,14 +39,14 @@ keeps_both first next old between new before after = record {
 }
 
 -- some calls, and then others
-opens_both : (first next : List Opening) (old between new : Option (List Opening)) → CallsOf first old between → CallsOf next between new → CallsOf (first ++ next) old new
+pub opens_both : (first next : List Opening) (old between new : Option (List Opening)) → CallsOf first old between → CallsOf next between new → CallsOf (first ++ next) old new
 opens_both first next old between None opens more = tt
 opens_both first next old between (Some now) opens more =
     let here : CallsOf first old (Some more.0) = subst (CallsOf first old) more.1 opens in
     (here.0, here.1, more.2 ∙ (ap (λ (front : List Opening). front ++ next) here.2 ∙ append_assoc here.0 first next))
 
 -- the first so many calls of a list are those of a longer one
-take_front : (count : ℕ) (first next : List Opening) → (more : ℕ) × (take more (first ++ next) ≡ take count first)
+pub take_front : (count : ℕ) (first next : List Opening) → (more : ℕ) × (take more (first ++ next) ≡ take count first)
 take_front zero first next = (zero, refl)
 take_front (suc count) [] next = (zero, refl)
 take_front (suc count) (call ∷ first) next =

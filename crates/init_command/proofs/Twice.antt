@@ -21,6 +21,7 @@ use Rattle.init_command.specs.Moves.{DisksKeep, DisksSay, FromSays, IsMovedTo, I
 use Rattle.init_command.specs.declared.moving.NotMoved.{NotMoved}
 use Rattle.init_command.specs.declared.moving.NotMoved.TheVariants.{NotOpened, FromNotOpened, Refused}
 use Rattle.init_command.proofs.Rounds.{both_replaced, open_told, second_open, second_unready, stands_back}
+use Rattle.command_reports.proofs.Steps.{opens_both as calls_both}
 
 -- a disk was opened before a step, and put back behind it
 pub record IsRound {Src Snk Dsk : Type 0} (name : List ℕ) (it back : Dsk) (first second third fourth : Scene Src Snk Dsk) : Type 0 where
@@ -64,13 +65,6 @@ says_by disk network base journal from x x' s0 s1 s3 s4 (Err (Refused fault)) ro
   both_open journal from x x' s0 s1 s3 s4 round says.0,
   both_replaced (IsNotMoved disk network base fault) journal from x x' s0.disks s1.disks s3.disks s4.disks round.out only.others says.1 round.returned,
 )
-
--- some calls, and then others
-calls_both : (first next : List Opening) (old between new : Option (List Opening)) → CallsOf first old between → CallsOf next between new → CallsOf (first ++ next) old new
-calls_both first next old between None opens more = tt
-calls_both first next old between (Some now) opens more =
-    let here : CallsOf first old (Some more.0) = subst (CallsOf first old) more.1 opens in
-    (here.0, here.1, more.2 ∙ (ap (λ (front : List Opening). front ++ next) here.2 ∙ append_assoc here.0 first next))
 
 both_called : {Src Snk Dsk : Type 0} (journal from : List ℕ) (x x' : Dsk) (s0 s1 s3 s4 : Scene Src Snk Dsk) → IsRound journal x x' s0 s1 s3 s4 → ChangesOnlyDisk from s1 s3 → CallsOf (disk_at journal ∷ disk_at from ∷ []) s0.opened s4.opened
 both_called journal from x x' s0 s1 s3 s4 round only =

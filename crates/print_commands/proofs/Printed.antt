@@ -49,7 +49,7 @@ history_keeps source disk network base journal old new result works =
     follows_keep (source_at network ∷ []) (source_at base ∷ disk_at journal ∷ []) (NetworkStep source network) (λ (file : NetworkFile). ReadsOn source disk base journal file)
     (file_keeps kind.Network source network IsNetworkFile HasNetworkFault) (λ (file : NetworkFile). on_keeps source disk base journal file) old new result works
 
-tells_keep : {Src Snk Dsk : Type 0} (Says : Result (List ℕ) Refusal → Type 0) (old new : Scene Src Snk Dsk) (result : Result (List ℕ) Refusal) → Tells Says old new result → KeepsTo [] old new result
+pub tells_keep : {Src Snk Dsk : Type 0} (Says : Result (List ℕ) Refusal → Type 0) (old new : Scene Src Snk Dsk) (result : Result (List ℕ) Refusal) → Tells Says old new result → KeepsTo [] old new result
 tells_keep {Src = Src} {Snk = Snk} {Dsk = Dsk} Says old new (Ok bytes) tells =
     subst (λ (s : Scene Src Snk Dsk). KeepsTo {A = List ℕ} [] old s (Ok bytes)) (sym tells.0) (record { keeps = alone old; opens = silent old.opened })
 tells_keep {Src = Src} {Snk = Snk} {Dsk = Dsk} Says old new (Err refusal) tells =
@@ -87,7 +87,7 @@ print_clean source sink disk network base journal out Says old new refusal works
 
 -- ---- the disk of the journal
 
-replaces_more : {D : Type 0} (P Q : D → D → Type 0) → ((before after : D) → P before after → Q before after) → (old new : Place D) → Replaces P old new → Replaces Q old new
+pub replaces_more : {D : Type 0} (P Q : D → D → Type 0) → ((before after : D) → P before after → Q before after) → (old new : Place D) → Replaces P old new → Replaces Q old new
 replaces_more P Q more hidden new replaced = replaced
 replaces_more P Q more (kept before) new replaced = (replaced.0, replaced.1, more before replaced.0 replaced.2)
 replaces_more P Q more lent new replaced = absurd replaced

@@ -11,7 +11,7 @@ use Rattle.command_reports.specs.Scenes.{IsReady, Scene}
 use Rattle.served_clients.specs.StreamClients.{HadProof, HadStreams, IsExchanged}
 use Rattle.served_clients.specs.declared.client_streams.streams.ClientStreams.{ClientStreams}
 use Rattle.served_clients.specs.Refusing.{IsOpen}
-use Rattle.served_clients.proofs.StreamLists.{calls_both}
+use Rattle.command_reports.proofs.Steps.{opens_both as calls_both}
 use Rattle.served_clients.proofs.Uses.{exchanged_at}
 use Rattle.served_clients.proofs.StreamRounds.{not_ready, open_told, stands_round}
 use Rattle.command_line.specs.declared.client_words.clients.ClientWord.{ClientWord}

@@ -3,6 +3,8 @@ use Rattle.std.proofs.Common.{◌≡◌, ◌∙◌, ◌++◌, ℕ, zero, suc, Li
 use Rattle.std.proofs.lemmas.List.{append_assoc, get_or_append_left, length-append}
 use Rattle.std.proofs.lemmas.List.Elements.{All-cons, All-head, All-nil, All-tail}
 use Rattle.outside_io.specs.Openings.{Opening, Opens as CallsOf}
+use Rattle.command_reports.proofs.Steps.{opens_both as calls_both}
+use Rattle.command_reports.proofs.Steps.{take_front}
 
 module _ {X : Type 0} (P : X → Type 0) where
   pub all_left : (xs ys : List X) → All P (xs ++ ys) → All P xs
@@ -38,21 +40,6 @@ module _ {X : Type 0} (R : X → X → Type 0) where
   pairs_last (x ∷ xs) y ys h =
       All-cons (λ z. R z y) x xs (All-head (R x) y ys (all_right (R x) xs (y ∷ ys) (pairs_head x (xs ++ y ∷ ys) h)))
       (pairs_last xs y ys (pairs_tail x (xs ++ y ∷ ys) h))
-
--- some calls, and then others
-pub calls_both : (first next : List Opening) (old between new : Option (List Opening)) → CallsOf first old between → CallsOf next between new → CallsOf (first ++ next) old new
-calls_both first next old between None opens more = tt
-calls_both first next old between (Some now) opens more =
-    let here : CallsOf first old (Some more.0) = subst (CallsOf first old) more.1 opens in
-    (here.0, here.1, more.2 ∙ (ap (λ (front : List Opening). front ++ next) here.2 ∙ append_assoc here.0 first next))
-
--- the first so many calls of a list are those of a longer one
-pub take_front : (count : ℕ) (first next : List Opening) → (more : ℕ) × (take more (first ++ next) ≡ take count first)
-take_front zero first next = (zero, refl)
-take_front (suc count) [] next = (zero, refl)
-take_front (suc count) (call ∷ first) next =
-    let rest = take_front count first next in
-    (suc rest.0, ap (λ (calls : List Opening). call ∷ calls) rest.1)
 
 -- a front of a list of calls is so many of its first
 pub front_taken : (first next : List Opening) → (count : ℕ) × (take count (first ++ next) ≡ first)

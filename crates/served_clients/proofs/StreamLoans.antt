@@ -7,7 +7,7 @@ use Rattle.command_reports.specs.Scenes.{Scene}
 use Rattle.command_reports.proofs.Steps.{silent}
 use Rattle.served_clients.specs.Lending.{AreIn, AreOut, call_of, IsAsBefore, IsIn, IsOut, IsUnchanged, Loan, sink_of, source_of}
 use Rattle.served_clients.specs.Refusing.{IsOpen}
-use Rattle.served_clients.proofs.StreamLists.{calls_both}
+use Rattle.command_reports.proofs.Steps.{opens_both as calls_both}
 use Rattle.served_clients.proofs.StreamRounds.{open_told, stands_round}
 
 -- some are out, and then others

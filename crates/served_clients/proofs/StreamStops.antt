@@ -13,9 +13,10 @@ use Rattle.command_reports.specs.declared.refusals.Refusal.TheVariants.{Memory}
 use Rattle.command_reports.specs.Works.{Misses}
 use Rattle.served_clients.specs.Lending.{AreIn, AreOut, call_of, IsAsBefore, IsIn, IsOut, Loan}
 use Rattle.served_clients.specs.Refusing.{AreMade, IsOpen, IsStopped, name_at, WhyStopped}
-use Rattle.served_clients.proofs.StreamLists.{calls_both, take_front}
+use Rattle.command_reports.proofs.Steps.{opens_both as calls_both, take_front}
 use Rattle.served_clients.proofs.StreamLoans.{as_before, in_call, in_quiet_one, out_call, out_open, out_others, out_quiet_one, round_same}
-use Rattle.served_clients.proofs.Uses.{Apart, misses_both}
+use Rattle.command_reports.proofs.Steps.{misses_both}
+use Rattle.served_clients.proofs.Uses.{Apart}
 
 -- ---- calls that stand as they stood
 

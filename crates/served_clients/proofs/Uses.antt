@@ -11,6 +11,7 @@ use Rattle.served_clients.proofs.StreamLists.{pairs_head, pairs_tail}
 use Rattle.served_clients.proofs.StreamRounds.{stands_round}
 use Rattle.std.proofs.lemmas.List.Elements.{All-head, All-tail}
 use Rattle.std.proofs.Common.{All}
+use Rattle.command_reports.proofs.Steps.{misses_both}
 
 -- no call stands twice in the list
 abbrev pub Apart : List Opening → Type 0
@@ -27,12 +28,6 @@ apart_of [] all = tt
 apart_of (call ∷ calls) all =
     let R : Opening → Opening → Type 0 = λ one other. one ≢ other in
     (misses_all call calls (pairs_head R call calls all), apart_of calls (pairs_tail R call calls all))
-
-pub misses_both : (call : Opening) (first next : List Opening) → Misses call (first ++ next) → Misses call first × Misses call next
-misses_both call [] next misses = (tt, misses)
-misses_both call (made ∷ first) next misses =
-    let rest = misses_both call first next misses.1 in
-    ((misses.0, rest.0), rest.1)
 
 pub apart_first : (first next : List Opening) → Apart (first ++ next) → Apart first
 apart_first [] next apart = tt
