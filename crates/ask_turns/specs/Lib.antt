@@ -3,6 +3,7 @@ pub mod Certified
 pub mod Finds
 pub mod Laws
 pub mod Searched
+pub mod Sharing
 pub mod Shown
 pub mod Tries
 pub mod Clients

@@ -5,11 +5,15 @@
 mod asks;
 pub mod certificates;
 pub mod client_turns;
+mod guests;
 mod laws;
 mod searches;
+mod shared;
 mod tries;
 
 pub use asks::{Ask, Outcome};
+pub use guests::Guest;
 pub use path_commit::history;
 pub use path_labels::tails;
+pub use shared::Shared;
 pub use tries::try_searches;

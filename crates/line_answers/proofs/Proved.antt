@@ -43,7 +43,7 @@ use Rattle.line_answers.specs.Proved.{FitsIf, FoundBeforeLast, IsProofFor, IsPro
 use Rattle.line_answers.specs.Proved.{IsProvedBetween, ProvedOr, ShowsLine, kept_text}
 use Rattle.line_answers.specs.Rules.{IsReadAs, denial}
 use Rattle.line_answers.specs.Tells.{TellsAgain, fault_reply, halt_reply}
-use Rattle.line_answers.specs.declared.shared.Shared.{Shared}
+use Rattle.ask_turns.specs.declared.shared.Shared.{Shared}
 use Rattle.line_answers.proofs.Calls.{starts_refl}
 use Rattle.line_answers.proofs.Many.{missed_on, starts_trans}
 use Rattle.line_answers.proofs.Told.{its_line, no_name}

@@ -17,7 +17,7 @@ use Rattle.ask_turns.specs.declared.asks.Outcome.TheVariants.{Entered, NoPath, A
 use Rattle.ask_turns.specs.Finds.{IsNewNumber}
 use Rattle.ask_turns.specs.Tries.{IsRefusedByNumber}
 use Rattle.line_answers.specs.Callers.{AnswersAllowed}
-use Rattle.line_answers.specs.declared.shared.Shared.{Shared}
+use Rattle.ask_turns.specs.declared.shared.Shared.{Shared}
 use Rattle.line_answers.specs.Tells.{TellsAgain}
 
 -- the text has room for the reply to a line whose entry was begun

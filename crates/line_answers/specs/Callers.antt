@@ -8,7 +8,7 @@ use Rattle.ask_turns.specs.Turns.{Sight, timetable_at}
 use Rattle.line_answers.specs.Answers.{Caller}
 use Rattle.line_answers.specs.Calls.{AnswersBetween}
 use Rattle.line_answers.specs.Rules.{IsReadAs, denial}
-use Rattle.line_answers.specs.declared.shared.Shared.{Shared}
+use Rattle.ask_turns.specs.declared.shared.Shared.{Shared}
 
 -- whether there are rules
 abbrev pub are_some : List Ruled → Bool

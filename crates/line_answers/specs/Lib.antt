@@ -5,7 +5,6 @@ pub mod Rules
 pub mod Callers
 pub mod Tells
 pub mod Asked
-pub mod Sharing
 pub mod Proved
 pub mod Granting
 pub use Rattle.ask_turns.specs as turns

@@ -25,7 +25,7 @@ use Rattle.ask_turns.specs.Searched.{FitsAt, live_in}
 use Rattle.line_answers.specs.Answers.{IsReached}
 use Rattle.line_answers.specs.Asked.{asking}
 use Rattle.line_answers.specs.Rules.{IsReadAs}
-use Rattle.line_answers.specs.declared.shared.Shared.{Shared}
+use Rattle.ask_turns.specs.declared.shared.Shared.{Shared}
 
 -- The proof can be read from its text. It tells how many entries these are, and its members pass
 -- the check beside the claims that are live in them.

@@ -9,24 +9,22 @@ ghost use Rattle.rail_types.specs.declared.entries.Wanted.TheVariants.{Asked};
 ghost use Rattle.rail_types.specs.declared.paths.Path.{Path as path_type};
 ghost use Rattle.client_lines.specs.Rooms.{room_for};
 ghost use Rattle.ask_turns.specs.Clients.{IsCopyOf, Knows};
+ghost use Rattle.ask_turns.specs.Sharing.{IsShared};
 ghost use Rattle.ask_turns.specs.Turns.{IsReady, timetable_at};
 ghost use Rattle.line_answers.specs.Asked.{AnswersBehind, HasRoomIn, asking};
 ghost use Rattle.line_answers.specs.Callers.{AnswersAllowed};
 ghost use Rattle.line_answers.specs.Proved.{ShowsBehind, ShowsLine};
-ghost use Rattle.line_answers.specs.Sharing.{IsShared};
 ghost use Rattle.line_answers.specs.Tells.{AddsNothing};
 
+use crate::lines::Sent;
 use crate::replies::{ask_told, halted, number_told};
-use crate::shared::Shared;
-use ask_turns::client_turns::{Client, find_again};
+use ask_turns::client_turns::find_again;
 use ask_turns::tails::{PlacesFault, places, sound_networks_are_asked};
-use ask_turns::{Ask, try_searches};
-use book_gate::Pass;
+use ask_turns::{Ask, Guest, Shared, try_searches};
 use byte_fields::Buffer;
 use client_lines::reply_texts::Reply;
 use no_memory::NoMemory;
 use outside_io::{Between, Disk};
-use path_commit::Book;
 use proof_texts::asks_can_be_told;
 use rail_types::{Deed, List, Network, Path, Request, Wanted};
 use std::alloc::Global;
@@ -37,54 +35,51 @@ pub(crate) fn ask<R: Wait, D: Disk, B: Between>(
     rt: &R,
     alloc: Global,
     shared: &Shared<D>,
-    pass: &mut Pass<Book<D>>,
-    client: &mut Client,
-    line_number: u32,
-    after: Option<u64>,
-    number: u64,
+    guest: &mut Guest<D, B>,
+    sent: Sent,
     request: Request,
     text: &mut Buffer,
-    proves: bool,
     proof: &mut Buffer,
-    between: &mut B,
 ) -> Reply
-    requires ready { IsReady shared.now.gate pass.old }
-    requires budget { 4 ≤ turns_left pass.old }
-    requires knows { Knows (timetable_at shared.now.gate) client.old (view pass.old).seen }
-    requires name { IsClientName client.old.name }
+    requires ready { IsReady shared.now.gate guest.old.pass }
+    requires budget { 4 ≤ turns_left guest.old.pass }
+    requires knows { Knows (timetable_at shared.now.gate) guest.old.client
+        (view guest.old.pass).seen }
+    requires name { IsClientName guest.old.client.name }
     requires shared { IsShared shared.now }
-    requires within { IsAskWithin (timetable_at shared.now.gate).net (path_of number request) }
+    requires within { IsAskWithin (timetable_at shared.now.gate).net
+        (path_of sent.number request) }
     requires spare { room_for 0 ≤ text.old.spare }
-    ensures ready { IsReady shared.now.gate pass.new }
-    ensures budget { turns_left pass.old ≤ turns_left pass.new + 4 }
-    ensures name { client.new.name ≡ client.old.name }
-    ensures knows { Knows (timetable_at shared.now.gate) client.new (view pass.new).seen }
-    ensures answers { AnswersAllowed shared.now client.old.name line_number
-        (asking after number request) result (view pass.old) (view pass.new) }
-    ensures shown { ShowsLine shared.now proves (asking after number request) result proof.new.held
-        (view pass.old) (view pass.new) }
+    ensures ready { IsReady shared.now.gate guest.new.pass }
+    ensures budget { turns_left guest.old.pass ≤ turns_left guest.new.pass + 4 }
+    ensures name { guest.new.client.name ≡ guest.old.client.name }
+    ensures proves { guest.new.proves ≡ guest.old.proves }
+    ensures knows { Knows (timetable_at shared.now.gate) guest.new.client
+        (view guest.new.pass).seen }
+    ensures answers { AnswersAllowed shared.now guest.old.client.name sent.line
+        (asking sent.after sent.number request) result
+        (view guest.old.pass) (view guest.new.pass) }
+    ensures shown { ShowsLine shared.now guest.old.proves
+        (asking sent.after sent.number request) result proof.new.held
+        (view guest.old.pass) (view guest.new.pass) }
     ensures held { text.new.held ≡ text.old.held }
     ensures room { HasRoomIn text.new result ⊎ AddsNothing result }
 {
     let Ok(deed) = deed_of(alloc, &request) else {
         return Reply::NoMemory;
     };
-    match find_again(rt, alloc, &shared.gate, pass, client, after, number, &deed) {
-        Ok(None) => seek_path(
-            rt,
-            alloc,
-            shared,
-            pass,
-            client,
-            line_number,
-            number,
-            request,
-            text,
-            proves,
-            proof,
-            between,
-        ),
-        Ok(Some(told)) => number_told(number, told, client.front()),
+    match find_again(
+        rt,
+        alloc,
+        &shared.gate,
+        &mut guest.pass,
+        &mut guest.client,
+        sent.after,
+        sent.number,
+        &deed,
+    ) {
+        Ok(None) => seek_path(rt, alloc, shared, guest, sent, request, text, proof),
+        Ok(Some(told)) => number_told(sent.number, told, guest.client.front()),
         Err(halt) => halted(halt),
     }
 }
@@ -108,31 +103,31 @@ fn seek_path<R: Wait, D: Disk, B: Between>(
     rt: &R,
     alloc: Global,
     shared: &Shared<D>,
-    pass: &mut Pass<Book<D>>,
-    client: &mut Client,
-    line_number: u32,
-    number: u64,
+    guest: &mut Guest<D, B>,
+    sent: Sent,
     request: Request,
     text: &mut Buffer,
-    proves: bool,
     proof: &mut Buffer,
-    between: &mut B,
 ) -> Reply
-    requires ready { IsReady shared.now.gate pass.old }
-    requires budget { 3 ≤ turns_left pass.old }
-    requires copy { IsCopyOf (timetable_at shared.now.gate) client.old (view pass.old).seen }
-    requires name { IsClientName client.old.name }
+    requires ready { IsReady shared.now.gate guest.old.pass }
+    requires budget { 3 ≤ turns_left guest.old.pass }
+    requires copy { IsCopyOf (timetable_at shared.now.gate) guest.old.client
+        (view guest.old.pass).seen }
+    requires name { IsClientName guest.old.client.name }
     requires shared { IsShared shared.now }
-    requires within { IsAskWithin (timetable_at shared.now.gate).net (path_of number request) }
+    requires within { IsAskWithin (timetable_at shared.now.gate).net
+        (path_of sent.number request) }
     requires spare { room_for 0 ≤ text.old.spare }
-    ensures ready { IsReady shared.now.gate pass.new }
-    ensures budget { turns_left pass.old ≤ turns_left pass.new + 3 }
-    ensures name { client.new.name ≡ client.old.name }
-    ensures knows { Knows (timetable_at shared.now.gate) client.new (view pass.new).seen }
-    ensures answers { AnswersBehind shared.now client.old.name line_number
-        number request result (view pass.old) (view pass.new) }
-    ensures shown { ShowsBehind shared.now proves number request result proof.new.held
-        (view pass.old) (view pass.new) }
+    ensures ready { IsReady shared.now.gate guest.new.pass }
+    ensures budget { turns_left guest.old.pass ≤ turns_left guest.new.pass + 3 }
+    ensures name { guest.new.client.name ≡ guest.old.client.name }
+    ensures proves { guest.new.proves ≡ guest.old.proves }
+    ensures knows { Knows (timetable_at shared.now.gate) guest.new.client
+        (view guest.new.pass).seen }
+    ensures answers { AnswersBehind shared.now guest.old.client.name sent.line sent.number request
+        result (view guest.old.pass) (view guest.new.pass) }
+    ensures shown { ShowsBehind shared.now guest.old.proves sent.number request result
+        proof.new.held (view guest.old.pass) (view guest.new.pass) }
     ensures held { text.new.held ≡ text.old.held }
     ensures room { HasRoomIn text.new result ⊎ AddsNothing result }
 {
@@ -143,33 +138,20 @@ fn seek_path<R: Wait, D: Disk, B: Between>(
         Ok(places) => places,
         Err(PlacesFault::Wide { count: _count }) => {
             return Reply::Wide {
-                number,
-                front: client.front(),
+                number: sent.number,
+                front: guest.client.front(),
             };
         }
         Err(PlacesFault::Memory) => return Reply::NoMemory,
     };
     let ask = Ask {
-        number,
-        line: line_number,
+        number: sent.number,
+        line: sent.line,
         request,
         places,
     };
-    match try_searches(
-        rt,
-        alloc,
-        &shared.gate,
-        &shared.known,
-        &shared.settings,
-        pass,
-        client,
-        &ask,
-        text,
-        proves,
-        proof,
-        between,
-    ) {
-        Ok(outcome) => ask_told(number, outcome, client.front()),
+    match try_searches(rt, alloc, shared, guest, &ask, text, proof) {
+        Ok(outcome) => ask_told(sent.number, outcome, guest.client.front()),
         Err(halt) => halted(halt),
     }
 }

@@ -5,15 +5,15 @@
 mod answers;
 mod asks;
 mod entries;
+mod lines;
 mod replies;
 mod rules;
-mod shared;
 mod words;
 
 pub use answers::answer_one;
 pub use ask_turns as turns;
-pub use ask_turns::{history, tails};
+pub use ask_turns::{Shared, history, tails};
 pub use book_gate as gate;
 pub use byte_fields as bytes;
+pub use lines::Received;
 pub use path_commit as book;
-pub use shared::Shared;

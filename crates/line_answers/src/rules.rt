@@ -8,6 +8,7 @@ ghost use Rattle.admission_rules.specs.Ruled.{stand};
 ghost use Rattle.rail_types.specs.Limits.{IsClientName};
 ghost use Rattle.client_lines.specs.Rooms.{IsBehindEntry, room_for};
 ghost use Rattle.ask_turns.specs.Clients.{Knows};
+ghost use Rattle.ask_turns.specs.Sharing.{IsShared};
 ghost use Rattle.ask_turns.specs.Turns.{IsReady, timetable_at};
 ghost use Rattle.line_answers.specs.Answers.{MayBeDenied};
 ghost use Rattle.line_answers.specs.Asked.{HasRoomIn};
@@ -16,13 +17,12 @@ ghost use Rattle.line_answers.specs.Points.{added};
 ghost use Rattle.line_answers.specs.Proved.{ShowsLine};
 ghost use Rattle.line_answers.specs.Rules.{IsNoFree, IsSentWith, TellsLine, is_some_added};
 ghost use Rattle.line_answers.specs.Rules.{told_free, told_grant, wished};
-ghost use Rattle.line_answers.specs.Sharing.{IsShared};
 ghost use Rattle.line_answers.specs.Tells.{AddsNothing};
 
 use crate::answers::answer_line;
 use crate::asks::deed_of;
+use crate::lines::{Numbered, Sent};
 use crate::replies::{halted, number_told};
-use crate::shared::Shared;
 use crate::words::free;
 use admission_rules::client_rules::{
     asked_wish, first_denial, given_wish, tell_freed, tell_granted, wish_of,
@@ -30,6 +30,7 @@ use admission_rules::client_rules::{
 use admission_rules::rule_names::RuleName;
 use admission_rules::{Rule, Wish};
 use ask_turns::client_turns::{Client, find_again, show};
+use ask_turns::{Guest, Shared};
 use book_gate::Pass;
 use byte_fields::Buffer;
 use client_lines::reply_texts::Reply;
@@ -45,80 +46,66 @@ pub(crate) fn answer_ruled<R: Wait, L: Rule, D: Disk, B: Between>(
     rt: &R,
     alloc: Global,
     shared: &Shared<D>,
-    pass: &mut Pass<Book<D>>,
-    client: &mut Client,
+    guest: &mut Guest<D, B>,
     rules: &mut [L],
-    line_number: u32,
-    line: Line,
+    numbered: Numbered,
     text: &mut Buffer,
-    proves: bool,
     proof: &mut Buffer,
-    between: &mut B,
 ) -> Reply
-    requires ready { IsReady shared.now.gate pass.old }
-    requires budget { 4 ≤ turns_left pass.old }
-    requires knows { Knows (timetable_at shared.now.gate) client.old (view pass.old).seen }
-    requires name { IsClientName client.old.name }
+    requires ready { IsReady shared.now.gate guest.old.pass }
+    requires budget { 4 ≤ turns_left guest.old.pass }
+    requires knows { Knows (timetable_at shared.now.gate) guest.old.client
+        (view guest.old.pass).seen }
+    requires name { IsClientName guest.old.client.name }
     requires shared { IsShared shared.now }
-    requires within { IsAskWithin (timetable_at shared.now.gate).net line.ask }
+    requires within { IsAskWithin (timetable_at shared.now.gate).net numbered.line.ask }
     requires spare { room_for 0 ≤ text.old.spare }
-    ensures ready { IsReady shared.now.gate pass.new }
-    ensures budget { turns_left pass.old ≤ turns_left pass.new + 4 }
-    ensures name { client.new.name ≡ client.old.name }
-    ensures knows { Knows (timetable_at shared.now.gate) client.new (view pass.new).seen }
+    ensures ready { IsReady shared.now.gate guest.new.pass }
+    ensures budget { turns_left guest.old.pass ≤ turns_left guest.new.pass + 4 }
+    ensures name { guest.new.client.name ≡ guest.old.client.name }
+    ensures proves { guest.new.proves ≡ guest.old.proves }
+    ensures knows { Knows (timetable_at shared.now.gate) guest.new.client
+        (view guest.new.pass).seen }
     ensures answers { AnswersLine
-        (caller_of shared.now (stand L.Rule rules.old) client.old.name line_number)
-        line result (view pass.old) (view pass.new) }
-    ensures shown { ShowsLine shared.now proves line result proof.new.held
-        (view pass.old) (view pass.new) }
-    ensures told { TellsLine shared.now.known line (view pass.new).seen result
+        (caller_of shared.now (stand L.Rule rules.old) guest.old.client.name numbered.number)
+        numbered.line result (view guest.old.pass) (view guest.new.pass) }
+    ensures shown { ShowsLine shared.now guest.old.proves numbered.line result proof.new.held
+        (view guest.old.pass) (view guest.new.pass) }
+    ensures told { TellsLine shared.now.known numbered.line (view guest.new.pass).seen result
         (stand L.Rule rules.old) (stand L.Rule rules.new) }
     ensures held { text.new.held ≡ text.old.held }
     ensures room { HasRoomIn text.new result ⊎ AddsNothing result }
 {
     if rules.is_empty() {
-        return answer_line(
-            rt,
-            alloc,
-            shared,
-            pass,
-            client,
-            line_number,
-            line,
-            text,
-            proves,
-            proof,
-            between,
-        );
+        return answer_line(rt, alloc, shared, guest, numbered, text, proof);
     }
-    let Line { after, ask } = line;
+    let line = numbered.number;
+    let Line { after, ask } = numbered.line;
     match ask {
-        Ask::Free(number, freed) => free_ruled(
-            rt,
-            alloc,
-            shared,
-            pass,
-            client,
-            rules,
-            line_number,
-            after,
-            number,
-            freed,
-        ),
-        ask => answer_wished(
-            rt,
-            alloc,
-            shared,
-            pass,
-            client,
-            rules,
-            line_number,
-            Line { after, ask },
-            text,
-            proves,
-            proof,
-            between,
-        ),
+        Ask::Free(number, freed) => {
+            let sent = Sent {
+                line,
+                after,
+                number,
+            };
+            free_ruled(
+                rt,
+                alloc,
+                shared,
+                &mut guest.pass,
+                &mut guest.client,
+                rules,
+                sent,
+                freed,
+            )
+        }
+        ask => {
+            let numbered = Numbered {
+                number: line,
+                line: Line { after, ask },
+            };
+            answer_wished(rt, alloc, shared, guest, rules, numbered, text, proof)
+        }
     }
 }
 
@@ -127,55 +114,50 @@ fn answer_wished<R: Wait, L: Rule, D: Disk, B: Between>(
     rt: &R,
     alloc: Global,
     shared: &Shared<D>,
-    pass: &mut Pass<Book<D>>,
-    client: &mut Client,
+    guest: &mut Guest<D, B>,
     rules: &mut [L],
-    line_number: u32,
-    line: Line,
+    numbered: Numbered,
     text: &mut Buffer,
-    proves: bool,
     proof: &mut Buffer,
-    between: &mut B,
 ) -> Reply
-    requires ready { IsReady shared.now.gate pass.old }
-    requires budget { 4 ≤ turns_left pass.old }
-    requires knows { Knows (timetable_at shared.now.gate) client.old (view pass.old).seen }
-    requires name { IsClientName client.old.name }
+    requires ready { IsReady shared.now.gate guest.old.pass }
+    requires budget { 4 ≤ turns_left guest.old.pass }
+    requires knows { Knows (timetable_at shared.now.gate) guest.old.client
+        (view guest.old.pass).seen }
+    requires name { IsClientName guest.old.client.name }
     requires shared { IsShared shared.now }
-    requires within { IsAskWithin (timetable_at shared.now.gate).net line.ask }
+    requires within { IsAskWithin (timetable_at shared.now.gate).net numbered.line.ask }
     requires spare { room_for 0 ≤ text.old.spare }
-    requires no_free { IsNoFree line.ask }
-    ensures ready { IsReady shared.now.gate pass.new }
-    ensures budget { turns_left pass.old ≤ turns_left pass.new + 4 }
-    ensures name { client.new.name ≡ client.old.name }
-    ensures knows { Knows (timetable_at shared.now.gate) client.new (view pass.new).seen }
+    requires no_free { IsNoFree numbered.line.ask }
+    ensures ready { IsReady shared.now.gate guest.new.pass }
+    ensures budget { turns_left guest.old.pass ≤ turns_left guest.new.pass + 4 }
+    ensures name { guest.new.client.name ≡ guest.old.client.name }
+    ensures proves { guest.new.proves ≡ guest.old.proves }
+    ensures knows { Knows (timetable_at shared.now.gate) guest.new.client
+        (view guest.new.pass).seen }
     ensures answers { AnswersLine
-        (caller_of shared.now (stand L.Rule rules.old) client.old.name line_number)
-        line result (view pass.old) (view pass.new) }
-    ensures shown { ShowsLine shared.now proves line result proof.new.held
-        (view pass.old) (view pass.new) }
-    ensures told { TellsLine shared.now.known line (view pass.new).seen result
+        (caller_of shared.now (stand L.Rule rules.old) guest.old.client.name numbered.number)
+        numbered.line result (view guest.old.pass) (view guest.new.pass) }
+    ensures shown { ShowsLine shared.now guest.old.proves numbered.line result proof.new.held
+        (view guest.old.pass) (view guest.new.pass) }
+    ensures told { TellsLine shared.now.known numbered.line (view guest.new.pass).seen result
         (stand L.Rule rules.old) (stand L.Rule rules.new) }
     ensures held { text.new.held ≡ text.old.held }
     ensures room { HasRoomIn text.new result ⊎ AddsNothing result }
 {
-    let wish = wish_of_line(&line.ask);
+    let wish = wish_of_line(&numbered.line.ask);
     if let Some(rule) = first_denial(rules, &wish) {
-        return deny(rt, alloc, shared, pass, client, line_number, line, rule);
+        return deny(
+            rt,
+            alloc,
+            shared,
+            &mut guest.pass,
+            &mut guest.client,
+            numbered,
+            rule,
+        );
     }
-    let reply = answer_line(
-        rt,
-        alloc,
-        shared,
-        pass,
-        client,
-        line_number,
-        line,
-        text,
-        proves,
-        proof,
-        between,
-    );
+    let reply = answer_line(rt, alloc, shared, guest, numbered, text, proof);
     tell_of_grant(rules, &wish, &reply);
     reply
 }
@@ -235,57 +217,45 @@ fn deny<R: Wait, D: Disk>(
     shared: &Shared<D>,
     pass: &mut Pass<Book<D>>,
     client: &mut Client,
-    line_number: u32,
-    line: Line,
+    numbered: Numbered,
     rule: RuleName,
 ) -> Reply
     requires ready { IsReady shared.now.gate pass.old }
     requires budget { 1 ≤ turns_left pass.old }
     requires knows { Knows (timetable_at shared.now.gate) client.old (view pass.old).seen }
     requires name { IsClientName client.old.name }
-    requires may { MayBeDenied line.ask }
+    requires may { MayBeDenied numbered.line.ask }
     ensures ready { IsReady shared.now.gate pass.new }
     ensures budget { turns_left pass.old ≤ turns_left pass.new + 1 }
     ensures name { client.new.name ≡ client.old.name }
     ensures knows { Knows (timetable_at shared.now.gate) client.new (view pass.new).seen }
-    ensures answers { AnswersDenied shared.now client.old.name line_number line rule result
-        (view pass.old) (view pass.new) }
+    ensures answers { AnswersDenied shared.now client.old.name numbered.number numbered.line rule
+        result (view pass.old) (view pass.new) }
     ensures none { added result ≡ [] }
     ensures short { IsBehindEntry 0 result ⊎ AddsNothing result }
 {
-    let Line { after, ask } = line;
+    let line = numbered.number;
+    let Line { after, ask } = numbered.line;
     match ask {
         Ask::Pin(number, path) => {
             let deed = Deed::Grant(Wanted::Pinned, path);
-            deny_deed(
-                rt,
-                alloc,
-                shared,
-                pass,
-                client,
-                line_number,
+            let sent = Sent {
+                line,
                 after,
                 number,
-                &deed,
-                rule,
-            )
+            };
+            deny_deed(rt, alloc, shared, pass, client, sent, &deed, rule)
         }
         Ask::Path(number, request) => {
             let Ok(deed) = deed_of(alloc, &request) else {
                 return Reply::NoMemory;
             };
-            deny_deed(
-                rt,
-                alloc,
-                shared,
-                pass,
-                client,
-                line_number,
+            let sent = Sent {
+                line,
                 after,
                 number,
-                &deed,
-                rule,
-            )
+            };
+            deny_deed(rt, alloc, shared, pass, client, sent, &deed, rule)
         }
         _ => unreachable!(),
     }
@@ -298,9 +268,7 @@ fn deny_deed<R: Wait, D: Disk>(
     shared: &Shared<D>,
     pass: &mut Pass<Book<D>>,
     client: &mut Client,
-    line_number: u32,
-    after: Option<u64>,
-    number: u64,
+    sent: Sent,
     deed: &Deed,
     rule: RuleName,
 ) -> Reply
@@ -312,12 +280,13 @@ fn deny_deed<R: Wait, D: Disk>(
     ensures budget { turns_left pass.old ≤ turns_left pass.new + 1 }
     ensures name { client.new.name ≡ client.old.name }
     ensures knows { Knows (timetable_at shared.now.gate) client.new (view pass.new).seen }
-    ensures answers { (line : line_type) → IsSentWith line after number deed.now
-        → AnswersDenied shared.now client.old.name line_number line rule result
+    ensures answers { (line : line_type) → IsSentWith line sent.after sent.number deed.now
+        → AnswersDenied shared.now client.old.name sent.line line rule result
         (view pass.old) (view pass.new) }
     ensures none { added result ≡ [] }
     ensures short { IsBehindEntry 0 result ⊎ AddsNothing result }
 {
+    let Sent { after, number, .. } = sent;
     match find_again(rt, alloc, &shared.gate, pass, client, after, number, deed) {
         Ok(None) => Reply::Denied {
             number,
@@ -338,29 +307,29 @@ fn free_ruled<R: Wait, L: Rule, D: Disk>(
     pass: &mut Pass<Book<D>>,
     client: &mut Client,
     rules: &mut [L],
-    line_number: u32,
-    after: Option<u64>,
-    number: u64,
+    sent: Sent,
     freed: u64,
 ) -> Reply
     requires ready { IsReady shared.now.gate pass.old }
     requires budget { 3 ≤ turns_left pass.old }
     requires knows { Knows (timetable_at shared.now.gate) client.old (view pass.old).seen }
     requires name { IsClientName client.old.name }
-    requires within { IsAskWithin (timetable_at shared.now.gate).net (free_of number freed) }
+    requires within { IsAskWithin (timetable_at shared.now.gate).net (free_of sent.number freed) }
     requires some { 0 < length rules.old }
     ensures ready { IsReady shared.now.gate pass.new }
     ensures budget { turns_left pass.old ≤ turns_left pass.new + 3 }
     ensures name { client.new.name ≡ client.old.name }
     ensures knows { Knows (timetable_at shared.now.gate) client.new (view pass.new).seen }
     ensures answers { AnswersLine
-        (caller_of shared.now (stand L.Rule rules.old) client.old.name line_number)
-        (record { after = after; ask = free_of number freed }) result
+        (caller_of shared.now (stand L.Rule rules.old) client.old.name sent.line)
+        (record { after = sent.after; ask = free_of sent.number freed }) result
         (view pass.old) (view pass.new) }
-    ensures told { TellsLine shared.now.known (record { after = after; ask = free_of number freed })
+    ensures told { TellsLine shared.now.known
+        (record { after = sent.after; ask = free_of sent.number freed })
         (view pass.new).seen result (stand L.Rule rules.old) (stand L.Rule rules.new) }
     ensures short { IsBehindEntry 0 result ⊎ AddsNothing result }
 {
+    let Sent { after, number, .. } = sent;
     let deed = Deed::Free(freed);
     match find_again(rt, alloc, &shared.gate, pass, client, after, number, &deed) {
         Ok(None) => {
@@ -371,18 +340,7 @@ fn free_ruled<R: Wait, L: Rule, D: Disk>(
                     front,
                 };
             }
-            free_found(
-                rt,
-                alloc,
-                shared,
-                pass,
-                client,
-                rules,
-                line_number,
-                after,
-                number,
-                freed,
-            )
+            free_found(rt, alloc, shared, pass, client, rules, sent, freed)
         }
         Ok(Some(told)) => number_told(number, told, client.front()),
         Err(halt) => halted(halt),
@@ -397,16 +355,14 @@ fn free_found<R: Wait, L: Rule, D: Disk>(
     pass: &mut Pass<Book<D>>,
     client: &mut Client,
     rules: &mut [L],
-    line_number: u32,
-    after: Option<u64>,
-    number: u64,
+    sent: Sent,
     freed: u64,
 ) -> Reply
     requires ready { IsReady shared.now.gate pass.old }
     requires budget { 2 ≤ turns_left pass.old }
     requires knows { Knows (timetable_at shared.now.gate) client.old (view pass.old).seen }
     requires name { IsClientName client.old.name }
-    requires within { IsAskWithin (timetable_at shared.now.gate).net (free_of number freed) }
+    requires within { IsAskWithin (timetable_at shared.now.gate).net (free_of sent.number freed) }
     requires stands { freed < length (view pass.old).seen }
     requires some { 0 < length rules.old }
     ensures ready { IsReady shared.now.gate pass.new }
@@ -414,27 +370,18 @@ fn free_found<R: Wait, L: Rule, D: Disk>(
     ensures name { client.new.name ≡ client.old.name }
     ensures knows { Knows (timetable_at shared.now.gate) client.new (view pass.new).seen }
     ensures answers { AnswersLine
-        (caller_of shared.now (stand L.Rule rules.old) client.old.name line_number)
-        (record { after = after; ask = free_of number freed }) result
+        (caller_of shared.now (stand L.Rule rules.old) client.old.name sent.line)
+        (record { after = sent.after; ask = free_of sent.number freed }) result
         (view pass.old) (view pass.new) }
-    ensures told { TellsLine shared.now.known (record { after = after; ask = free_of number freed })
+    ensures told { TellsLine shared.now.known
+        (record { after = sent.after; ask = free_of sent.number freed })
         (view pass.new).seen result (stand L.Rule rules.old) (stand L.Rule rules.new) }
     ensures short { IsBehindEntry 0 result ⊎ AddsNothing result }
 {
-    match show(rt, alloc, &shared.gate, pass, client, after, freed) {
+    match show(rt, alloc, &shared.gate, pass, client, sent.after, freed) {
         Ok(Some(standing)) => {
             let wish = wish_of(&standing.entry.deed);
-            let reply = free(
-                rt,
-                alloc,
-                shared,
-                pass,
-                client,
-                line_number,
-                after,
-                number,
-                freed,
-            );
+            let reply = free(rt, alloc, shared, pass, client, sent, freed);
             tell_of_free(rules, &wish, &reply);
             reply
         }

@@ -14,8 +14,9 @@ ghost use Rattle.line_answers.specs.Callers.{AnswersAllowed};
 ghost use Rattle.line_answers.specs.Tells.{AddsNothing};
 
 use crate::entries::entry_of;
+use crate::lines::Sent;
 use crate::replies::{free_refused, halted, hold_refused, pin_refused};
-use crate::shared::Shared;
+use ask_turns::Shared;
 use ask_turns::client_turns::{Client, Entered, enter_entry, look, show};
 use book_gate::Pass;
 use client_lines::reply_texts::Reply;
@@ -32,9 +33,7 @@ pub(crate) fn hold<R: Wait, D: Disk>(
     shared: &Shared<D>,
     pass: &mut Pass<Book<D>>,
     client: &mut Client,
-    line_number: u32,
-    after: Option<u64>,
-    number: u64,
+    sent: Sent,
     claims: List<Claim>,
     reason: Name,
 ) -> Reply
@@ -43,23 +42,22 @@ pub(crate) fn hold<R: Wait, D: Disk>(
     requires knows { Knows (timetable_at shared.now.gate) client.old (view pass.old).seen }
     requires name { IsClientName client.old.name }
     requires within { IsAskWithin (timetable_at shared.now.gate).net
-        (hold_of number claims reason) }
+        (hold_of sent.number claims reason) }
     ensures ready { IsReady shared.now.gate pass.new }
     ensures budget { turns_left pass.old ≤ turns_left pass.new + 1 }
     ensures name { client.new.name ≡ client.old.name }
     ensures knows { Knows (timetable_at shared.now.gate) client.new (view pass.new).seen }
-    ensures answers { AnswersAllowed shared.now client.old.name line_number
-        (record { after = after; ask = hold_of number claims reason }) result
+    ensures answers { AnswersAllowed shared.now client.old.name sent.line
+        (record { after = sent.after; ask = hold_of sent.number claims reason }) result
         (view pass.old) (view pass.new) }
     ensures short { IsBehindEntry 0 result ⊎ AddsNothing result }
 {
-    let Ok(entry) = entry_of(
-        alloc,
-        client,
-        line_number,
+    let Sent {
+        line,
+        after,
         number,
-        Deed::Hold(claims, reason),
-    ) else {
+    } = sent;
+    let Ok(entry) = entry_of(alloc, client, line, number, Deed::Hold(claims, reason)) else {
         return Reply::NoMemory;
     };
     match enter_entry(rt, alloc, &shared.gate, pass, client, after, entry) {
@@ -89,29 +87,32 @@ pub(crate) fn pin<R: Wait, D: Disk>(
     shared: &Shared<D>,
     pass: &mut Pass<Book<D>>,
     client: &mut Client,
-    line_number: u32,
-    after: Option<u64>,
-    number: u64,
+    sent: Sent,
     path: Path,
 ) -> Reply
     requires ready { IsReady shared.now.gate pass.old }
     requires budget { 1 ≤ turns_left pass.old }
     requires knows { Knows (timetable_at shared.now.gate) client.old (view pass.old).seen }
     requires name { IsClientName client.old.name }
-    requires within { IsAskWithin (timetable_at shared.now.gate).net (pin_of number path) }
+    requires within { IsAskWithin (timetable_at shared.now.gate).net (pin_of sent.number path) }
     ensures ready { IsReady shared.now.gate pass.new }
     ensures budget { turns_left pass.old ≤ turns_left pass.new + 1 }
     ensures name { client.new.name ≡ client.old.name }
     ensures knows { Knows (timetable_at shared.now.gate) client.new (view pass.new).seen }
-    ensures answers { AnswersAllowed shared.now client.old.name line_number
-        (record { after = after; ask = pin_of number path }) result
+    ensures answers { AnswersAllowed shared.now client.old.name sent.line
+        (record { after = sent.after; ask = pin_of sent.number path }) result
         (view pass.old) (view pass.new) }
     ensures short { IsBehindEntry 0 result ⊎ AddsNothing result }
 {
+    let Sent {
+        line,
+        after,
+        number,
+    } = sent;
     let Ok(entry) = entry_of(
         alloc,
         client,
-        line_number,
+        line,
         number,
         Deed::Grant(Wanted::Pinned, path),
     ) else {
@@ -144,26 +145,29 @@ pub(crate) fn free<R: Wait, D: Disk>(
     shared: &Shared<D>,
     pass: &mut Pass<Book<D>>,
     client: &mut Client,
-    line_number: u32,
-    after: Option<u64>,
-    number: u64,
+    sent: Sent,
     freed: u64,
 ) -> Reply
     requires ready { IsReady shared.now.gate pass.old }
     requires budget { 1 ≤ turns_left pass.old }
     requires knows { Knows (timetable_at shared.now.gate) client.old (view pass.old).seen }
     requires name { IsClientName client.old.name }
-    requires within { IsAskWithin (timetable_at shared.now.gate).net (free_of number freed) }
+    requires within { IsAskWithin (timetable_at shared.now.gate).net (free_of sent.number freed) }
     ensures ready { IsReady shared.now.gate pass.new }
     ensures budget { turns_left pass.old ≤ turns_left pass.new + 1 }
     ensures name { client.new.name ≡ client.old.name }
     ensures knows { Knows (timetable_at shared.now.gate) client.new (view pass.new).seen }
-    ensures answers { AnswersAllowed shared.now client.old.name line_number
-        (record { after = after; ask = free_of number freed }) result
+    ensures answers { AnswersAllowed shared.now client.old.name sent.line
+        (record { after = sent.after; ask = free_of sent.number freed }) result
         (view pass.old) (view pass.new) }
     ensures short { IsBehindEntry 0 result ⊎ AddsNothing result }
 {
-    let Ok(entry) = entry_of(alloc, client, line_number, number, Deed::Free(freed)) else {
+    let Sent {
+        line,
+        after,
+        number,
+    } = sent;
+    let Ok(entry) = entry_of(alloc, client, line, number, Deed::Free(freed)) else {
         return Reply::NoMemory;
     };
     match enter_entry(rt, alloc, &shared.gate, pass, client, after, entry) {

@@ -7,12 +7,13 @@ use Rattle.ask_turns.proofs.tries.try_searches.Given as goal
 
 abbrev pub invariant-loop-search : goal.invariant-loop-search
 invariant-loop-search g l = record {
-  ready : IsReady l.gate l.pass;
-  left : turns_left l.pass + l.search ≡ turns_left l.fn.pass;
-  name : l.client.name ≡ l.fn.client.name;
-  copy : IsCopyOf (timetable_at l.gate) l.client (view l.pass).seen;
-  missed : HaveMissed (timetable_at l.gate) l.fn.client.name l.ask l.search l.missed l.front
-      (view l.fn.pass) (view l.pass);
+  ready : IsReady l.shared.gate l.guest.pass;
+  left : turns_left l.guest.pass + l.search ≡ turns_left l.fn.guest.pass;
+  name : l.guest.client.name ≡ l.fn.guest.client.name;
+  proves : l.guest.proves ≡ l.fn.guest.proves;
+  copy : IsCopyOf (timetable_at l.shared.gate) l.guest.client (view l.guest.pass).seen;
+  missed : HaveMissed (timetable_at l.shared.gate) l.fn.guest.client.name l.ask l.search l.missed l.front
+      (view l.fn.guest.pass) (view l.guest.pass);
   held : l.text.held ≡ l.fn.text.held;
   spare : l.fn.text.spare ≤ l.text.spare;
 }

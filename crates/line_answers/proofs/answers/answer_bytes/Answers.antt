@@ -19,51 +19,51 @@ use Rattle.line_answers.proofs.answers.answer_bytes.Goals as goal
 
 pub returns-in-Ok-clause-answers : goal.returns-in-Ok-clause-answers
 returns-in-Ok-clause-answers g c =
-    c.answer_ruled.ensures.answers c.args.line.now
-    (read_as c.args.shared.now.known c.args.line.now c.in-Ok.line c.in-Ok.ensures.spelled c.in-Ok.ensures.read c.in-Ok.ensures.refused)
+    c.answer_ruled.ensures.answers c.args.line.now.bytes.now
+    (read_as c.args.shared.now.known c.args.line.now.bytes.now c.in-Ok.said c.in-Ok.ensures.spelled c.in-Ok.ensures.read c.in-Ok.ensures.refused)
 
 pub returns-in-Ok-clause-told : goal.returns-in-Ok-clause-told
 returns-in-Ok-clause-told g c =
-    c.answer_ruled.ensures.told c.args.line.now
-    (read_as c.args.shared.now.known c.args.line.now c.in-Ok.line c.in-Ok.ensures.spelled c.in-Ok.ensures.read c.in-Ok.ensures.refused)
+    c.answer_ruled.ensures.told c.args.line.now.bytes.now
+    (read_as c.args.shared.now.known c.args.line.now.bytes.now c.in-Ok.said c.in-Ok.ensures.spelled c.in-Ok.ensures.read c.in-Ok.ensures.refused)
 
 pub returns-in-Err-clause-answers : goal.returns-in-Err-clause-answers
 returns-in-Err-clause-answers g c =
     let rules : List Ruled = stand g.L.Rule c.args.rules.now in
-    let caller : Caller = caller_of c.args.shared.now rules c.args.client.now.name c.args.line_number in
-    let v : Sight = view c.args.pass.now in
-    subst (λ (r : Reply). AnswersBetween caller c.args.line.now r v v) (sym c.unread.ensures)
-    (unread_line caller c.args.line.now v c.in-Err.fault c.in-Err.ensures.wrong)
+    let caller : Caller = caller_of c.args.shared.now rules c.args.guest.now.client.name c.args.line.now.number in
+    let v : Sight = view c.args.guest.now.pass in
+    subst (λ (r : Reply). AnswersBetween caller c.args.line.now.bytes.now r v v) (sym c.unread.ensures)
+    (unread_line caller c.args.line.now.bytes.now v c.in-Err.fault c.in-Err.ensures.wrong)
 
 pub returns-in-Err-clause-told : goal.returns-in-Err-clause-told
 returns-in-Err-clause-told g c =
     let rules : List Ruled = stand g.L.Rule c.args.rules.now in
-    let v : Sight = view c.args.pass.now in
+    let v : Sight = view c.args.guest.now.pass in
     subst (λ (r : Reply). rules ≡ told_by v.seen r rules) (sym c.unread.ensures)
     (sym (untold_by v.seen (fault_reply c.in-Err.fault) (fault_adds c.in-Err.fault) rules))
 
 pub returns-in-Ok-clause-shown : goal.returns-in-Ok-clause-shown
 returns-in-Ok-clause-shown g c =
-    c.answer_ruled.ensures.shown c.args.line.now
-    (read_as c.args.shared.now.known c.args.line.now c.in-Ok.line c.in-Ok.ensures.spelled c.in-Ok.ensures.read c.in-Ok.ensures.refused)
+    c.answer_ruled.ensures.shown c.args.line.now.bytes.now
+    (read_as c.args.shared.now.known c.args.line.now.bytes.now c.in-Ok.said c.in-Ok.ensures.spelled c.in-Ok.ensures.read c.in-Ok.ensures.refused)
 
 pub returns-in-Err-clause-shown : goal.returns-in-Err-clause-shown
 returns-in-Err-clause-shown g c wanted =
-    let v : Sight = view c.args.pass.now in
+    let v : Sight = view c.args.guest.now.pass in
     let timetable : Timetable = timetable_at c.args.shared.now.gate in
     let text : List ℕ = c.args.proof.now.held in
-    subst (λ (r : Reply). ProvedOr (Unit {0}) c.args.shared.now.known timetable c.args.line.now r text v v) (sym c.unread.ensures)
-    (shows_fault c.args.shared.now.known timetable c.args.line.now c.in-Err.fault text v v)
+    subst (λ (r : Reply). ProvedOr (Unit {0}) c.args.shared.now.known timetable c.args.line.now.bytes.now r text v v) (sym c.unread.ensures)
+    (shows_fault c.args.shared.now.known timetable c.args.line.now.bytes.now c.in-Err.fault text v v)
 
 pub returns-in-Ok-clause-granted : goal.returns-in-Ok-clause-granted
 returns-in-Ok-clause-granted g c answers said spelled unhindered_so =
     let rules : List Ruled = stand g.L.Rule c.args.rules.now in
-    let caller : Caller = caller_of c.args.shared.now rules c.args.client.now.name c.args.line_number in
-    let read : IsReadAs caller.known c.args.line.now c.in-Ok.line =
-    read_as c.args.shared.now.known c.args.line.now c.in-Ok.line c.in-Ok.ensures.spelled c.in-Ok.ensures.read c.in-Ok.ensures.refused in
-    let same : said ≡ c.in-Ok.line = read.only said spelled in
-    unhindered caller c.args.line.now said (subst (IsReadAs caller.known c.args.line.now) (sym same) read)
-    c.answer_ruled.result (view c.args.pass.now) (view c.answer_ruled.new.pass) answers unhindered_so
+    let caller : Caller = caller_of c.args.shared.now rules c.args.guest.now.client.name c.args.line.now.number in
+    let read : IsReadAs caller.known c.args.line.now.bytes.now c.in-Ok.said =
+    read_as c.args.shared.now.known c.args.line.now.bytes.now c.in-Ok.said c.in-Ok.ensures.spelled c.in-Ok.ensures.read c.in-Ok.ensures.refused in
+    let same : said ≡ c.in-Ok.said = read.only said spelled in
+    unhindered caller c.args.line.now.bytes.now said (subst (IsReadAs caller.known c.args.line.now.bytes.now) (sym same) read)
+    c.answer_ruled.result (view c.args.guest.now.pass) (view c.answer_ruled.new.guest.pass) answers unhindered_so
 
 pub returns-in-Err-clause-granted : goal.returns-in-Err-clause-granted
 returns-in-Err-clause-granted g c answers said spelled unhindered_so =

@@ -27,50 +27,50 @@ returns-in-Front-clause-room g c = short_room c.args.text.now c.front.result c.r
 
 pub returns-in-Hold-clause-shown : goal.returns-in-Hold-clause-shown
 returns-in-Hold-clause-shown g c =
-    let v : Sight = view c.args.pass.now in let w : Sight = view c.hold.new.pass in
-    let text : List ℕ = c.args.proof.now.held in let after : Option ℕ = c.args.line.after in
+    let v : Sight = view c.args.guest.now.pass in let w : Sight = view c.hold.new.pass in
+    let text : List ℕ = c.args.proof.now.held in let after : Option ℕ = c.args.numbered.line.after in
     let asked : Ask = asks.Hold c.in-Hold.number c.in-Hold.claims c.in-Hold.reason in
-    subst (λ (ask : Ask). ShowsLine c.args.shared.now c.args.proves (record { after = after; ask = ask }) c.hold.result text v w)
+    subst (λ (ask : Ask). ShowsLine c.args.shared.now c.args.guest.now.proves (record { after = after; ask = ask }) c.hold.result text v w)
     (sym c.in-Hold.is)
-    (unsought_shows c.args.shared.now [] c.args.client.now.name c.args.line_number (record { after = after; ask = asked })
-    c.args.proves c.hold.result text v w (c.hold.ensures.answers [] (none_denies (wished asked))) (λ request is. is))
+    (unsought_shows c.args.shared.now [] c.args.guest.now.client.name c.args.numbered.number (record { after = after; ask = asked })
+    c.args.guest.now.proves c.hold.result text v w (c.hold.ensures.answers [] (none_denies (wished asked))) (λ request is. is))
 
 pub returns-in-Pin-clause-shown : goal.returns-in-Pin-clause-shown
 returns-in-Pin-clause-shown g c =
-    let v : Sight = view c.args.pass.now in let w : Sight = view c.pin.new.pass in
-    let text : List ℕ = c.args.proof.now.held in let after : Option ℕ = c.args.line.after in
+    let v : Sight = view c.args.guest.now.pass in let w : Sight = view c.pin.new.pass in
+    let text : List ℕ = c.args.proof.now.held in let after : Option ℕ = c.args.numbered.line.after in
     let asked : Ask = asks.Pin c.in-Pin.number c.in-Pin.path in
-    subst (λ (ask : Ask). ShowsLine c.args.shared.now c.args.proves (record { after = after; ask = ask }) c.pin.result text v w)
+    subst (λ (ask : Ask). ShowsLine c.args.shared.now c.args.guest.now.proves (record { after = after; ask = ask }) c.pin.result text v w)
     (sym c.in-Pin.is)
-    (unsought_shows c.args.shared.now [] c.args.client.now.name c.args.line_number (record { after = after; ask = asked })
-    c.args.proves c.pin.result text v w (c.pin.ensures.answers [] (none_denies (wished asked))) (λ request is. is))
+    (unsought_shows c.args.shared.now [] c.args.guest.now.client.name c.args.numbered.number (record { after = after; ask = asked })
+    c.args.guest.now.proves c.pin.result text v w (c.pin.ensures.answers [] (none_denies (wished asked))) (λ request is. is))
 
 pub returns-in-Free-clause-shown : goal.returns-in-Free-clause-shown
 returns-in-Free-clause-shown g c =
-    let v : Sight = view c.args.pass.now in let w : Sight = view c.free.new.pass in
-    let text : List ℕ = c.args.proof.now.held in let after : Option ℕ = c.args.line.after in
+    let v : Sight = view c.args.guest.now.pass in let w : Sight = view c.free.new.pass in
+    let text : List ℕ = c.args.proof.now.held in let after : Option ℕ = c.args.numbered.line.after in
     let asked : Ask = asks.Free c.in-Free.number c.in-Free.freed in
-    subst (λ (ask : Ask). ShowsLine c.args.shared.now c.args.proves (record { after = after; ask = ask }) c.free.result text v w)
+    subst (λ (ask : Ask). ShowsLine c.args.shared.now c.args.guest.now.proves (record { after = after; ask = ask }) c.free.result text v w)
     (sym c.in-Free.is)
-    (unsought_shows c.args.shared.now [] c.args.client.now.name c.args.line_number (record { after = after; ask = asked })
-    c.args.proves c.free.result text v w (c.free.ensures.answers [] (none_denies (wished asked))) (λ request is. is))
+    (unsought_shows c.args.shared.now [] c.args.guest.now.client.name c.args.numbered.number (record { after = after; ask = asked })
+    c.args.guest.now.proves c.free.result text v w (c.free.ensures.answers [] (none_denies (wished asked))) (λ request is. is))
 
 pub returns-in-Show-clause-shown : goal.returns-in-Show-clause-shown
 returns-in-Show-clause-shown g c =
-    let v : Sight = view c.args.pass.now in let w : Sight = view c.show_entry.new.pass in
-    let text : List ℕ = c.args.proof.now.held in let after : Option ℕ = c.args.line.after in
+    let v : Sight = view c.args.guest.now.pass in let w : Sight = view c.show_entry.new.pass in
+    let text : List ℕ = c.args.proof.now.held in let after : Option ℕ = c.args.numbered.line.after in
     let asked : Ask = asks.Show c.in-Show.at in
-    subst (λ (ask : Ask). ShowsLine c.args.shared.now c.args.proves (record { after = after; ask = ask }) c.show_entry.result text v w)
+    subst (λ (ask : Ask). ShowsLine c.args.shared.now c.args.guest.now.proves (record { after = after; ask = ask }) c.show_entry.result text v w)
     (sym c.in-Show.is)
-    (unsought_shows c.args.shared.now [] c.args.client.now.name c.args.line_number (record { after = after; ask = asked })
-    c.args.proves c.show_entry.result text v w (c.show_entry.ensures.answers [] (none_denies (wished asked))) (λ request is. is))
+    (unsought_shows c.args.shared.now [] c.args.guest.now.client.name c.args.numbered.number (record { after = after; ask = asked })
+    c.args.guest.now.proves c.show_entry.result text v w (c.show_entry.ensures.answers [] (none_denies (wished asked))) (λ request is. is))
 
 pub returns-in-Front-clause-shown : goal.returns-in-Front-clause-shown
 returns-in-Front-clause-shown g c =
-    let v : Sight = view c.args.pass.now in let w : Sight = view c.front.new.pass in
-    let text : List ℕ = c.args.proof.now.held in let after : Option ℕ = c.args.line.after in
+    let v : Sight = view c.args.guest.now.pass in let w : Sight = view c.front.new.pass in
+    let text : List ℕ = c.args.proof.now.held in let after : Option ℕ = c.args.numbered.line.after in
     let asked : Ask = asks.Front in
-    subst (λ (ask : Ask). ShowsLine c.args.shared.now c.args.proves (record { after = after; ask = ask }) c.front.result text v w)
+    subst (λ (ask : Ask). ShowsLine c.args.shared.now c.args.guest.now.proves (record { after = after; ask = ask }) c.front.result text v w)
     (sym c.in-Front.is)
-    (unsought_shows c.args.shared.now [] c.args.client.now.name c.args.line_number (record { after = after; ask = asked })
-    c.args.proves c.front.result text v w (c.front.ensures.answers [] (none_denies (wished asked))) (λ request is. is))
+    (unsought_shows c.args.shared.now [] c.args.guest.now.client.name c.args.numbered.number (record { after = after; ask = asked })
+    c.args.guest.now.proves c.front.result text v w (c.front.ensures.answers [] (none_denies (wished asked))) (λ request is. is))

@@ -22,39 +22,39 @@ use Rattle.line_answers.proofs.asks.ask.Goals as goal
 
 pub returns-in_default-clause-answers : goal.returns-in_default-clause-answers
 returns-in_default-clause-answers g c rules allowed =
-    want_line (caller_of c.args.shared.now rules c.args.client.now.name c.args.line_number)
-    (asking c.args.after c.args.number c.args.request) (view c.args.pass.now)
+    want_line (caller_of c.args.shared.now rules c.args.guest.now.client.name c.args.sent.line)
+    (asking c.args.sent.after c.args.sent.number c.args.request) (view c.args.guest.now.pass)
 
 pub returns-in-Ok-None-clause-answers : goal.returns-in-Ok-None-clause-answers
 returns-in-Ok-None-clause-answers g c rules allowed =
-    let caller : Caller = caller_of c.args.shared.now rules c.args.client.now.name c.args.line_number in
-    let v : Sight = view c.args.pass.now in let u : Sight = view c.find_again.new.pass in
-    let found : IsFoundAgain u.found.list c.args.client.now.name c.args.number c.in-Ok.deed None =
-    subst (IsFoundAgain u.found.list c.args.client.now.name c.args.number c.in-Ok.deed) c.in-Ok-None.field-0-is c.in-Ok-None.ensures.found in
-    let behind = subst (λ (name : List ℕ). AnswersBehind c.args.shared.now name c.args.line_number
-    c.args.number c.args.request c.seek_path.result u (view c.seek_path.new.pass)) c.in-Ok-None.ensures.name c.seek_path.ensures.answers in
-    behind v c.args.after c.in-Ok-None.ensures.looks c.in-Ok-None.ensures.reached
-    (new_is u.found.list (entry_of caller c.args.number (Free 0)) found) rules allowed
+    let caller : Caller = caller_of c.args.shared.now rules c.args.guest.now.client.name c.args.sent.line in
+    let v : Sight = view c.args.guest.now.pass in let u : Sight = view c.find_again.new.pass in
+    let found : IsFoundAgain u.found.list c.args.guest.now.client.name c.args.sent.number c.in-Ok.deed None =
+    subst (IsFoundAgain u.found.list c.args.guest.now.client.name c.args.sent.number c.in-Ok.deed) c.in-Ok-None.field-0-is c.in-Ok-None.ensures.found in
+    let behind = subst (λ (name : List ℕ). AnswersBehind c.args.shared.now name c.args.sent.line
+    c.args.sent.number c.args.request c.seek_path.result u (view c.seek_path.new.guest.pass)) c.in-Ok-None.ensures.name c.seek_path.ensures.answers in
+    behind v c.args.sent.after c.in-Ok-None.ensures.looks c.in-Ok-None.ensures.reached
+    (new_is u.found.list (entry_of caller c.args.sent.number (Free 0)) found) rules allowed
 
 pub returns-in-Ok-Some-clause-answers : goal.returns-in-Ok-Some-clause-answers
 returns-in-Ok-Some-clause-answers g c rules allowed =
-    let caller : Caller = caller_of c.args.shared.now rules c.args.client.now.name c.args.line_number in
-    let v : Sight = view c.args.pass.now in let w : Sight = view c.find_again.new.pass in
+    let caller : Caller = caller_of c.args.shared.now rules c.args.guest.now.client.name c.args.sent.line in
+    let v : Sight = view c.args.guest.now.pass in let w : Sight = view c.find_again.new.pass in
     let told = c.in-Ok-Some.told in
     let path : Path = c.in-Ok.ensures.0 in
-    let found = subst (IsFoundAgain w.found.list c.args.client.now.name c.args.number c.in-Ok.deed) c.in-Ok-Some.field-0-is c.in-Ok-Some.ensures.found in
-    let its = subst (λ (deed : Deed). IsFoundAgain w.found.list c.args.client.now.name c.args.number deed (Some told)) c.in-Ok.ensures.1 found in
-    found_line caller c.args.number c.args.request c.args.after v w c.in-Ok-Some.ensures.looks c.in-Ok-Some.ensures.reached
+    let found = subst (IsFoundAgain w.found.list c.args.guest.now.client.name c.args.sent.number c.in-Ok.deed) c.in-Ok-Some.field-0-is c.in-Ok-Some.ensures.found in
+    let its = subst (λ (deed : Deed). IsFoundAgain w.found.list c.args.guest.now.client.name c.args.sent.number deed (Some told)) c.in-Ok.ensures.1 found in
+    found_line caller c.args.sent.number c.args.request c.args.sent.after v w c.in-Ok-Some.ensures.looks c.in-Ok-Some.ensures.reached
     path told c.number_told.result c.front.result (c.front.ensures ∙ c.in-Ok-Some.ensures.copy.front) its
-    (of_number w.found.list c.args.client.now.name c.args.number (Grant (Asked c.args.request) path) told its)
+    (of_number w.found.list c.args.guest.now.client.name c.args.sent.number (Grant (Asked c.args.request) path) told its)
     c.number_told.ensures.tells
 
 pub returns-in-Err-clause-answers : goal.returns-in-Err-clause-answers
 returns-in-Err-clause-answers g c rules allowed =
-    let caller : Caller = caller_of c.args.shared.now rules c.args.client.now.name c.args.line_number in
-    let v : Sight = view c.args.pass.now in let w : Sight = view c.find_again.new.pass in
-    subst (λ (r : Reply). AnswersLine caller (asking c.args.after c.args.number c.args.request) r v w) (sym c.halted.ensures)
-    (halted_line caller (asking c.args.after c.args.number c.args.request) v w c.in-Err.halt c.in-Err.ensures.halted)
+    let caller : Caller = caller_of c.args.shared.now rules c.args.guest.now.client.name c.args.sent.line in
+    let v : Sight = view c.args.guest.now.pass in let w : Sight = view c.find_again.new.pass in
+    subst (λ (r : Reply). AnswersLine caller (asking c.args.sent.after c.args.sent.number c.args.request) r v w) (sym c.halted.ensures)
+    (halted_line caller (asking c.args.sent.after c.args.sent.number c.args.request) v w c.in-Err.halt c.in-Err.ensures.halted)
 
 pub returns-in-Err-clause-room : goal.returns-in-Err-clause-room
 returns-in-Err-clause-room g c =
@@ -66,17 +66,17 @@ returns-in_default-clause-shown g c bytes read wanted = tt
 
 pub returns-in-Ok-None-clause-shown : goal.returns-in-Ok-None-clause-shown
 returns-in-Ok-None-clause-shown g c =
-    c.seek_path.ensures.shown (view c.args.pass.now) c.args.after c.in-Ok-None.ensures.looks c.in-Ok-None.ensures.reached
+    c.seek_path.ensures.shown (view c.args.guest.now.pass) c.args.sent.after c.in-Ok-None.ensures.looks c.in-Ok-None.ensures.reached
 
 pub returns-in-Ok-Some-clause-shown : goal.returns-in-Ok-Some-clause-shown
 returns-in-Ok-Some-clause-shown g c bytes read wanted =
-    again_shows c.args.shared.now.known (timetable_at c.args.shared.now.gate) bytes c.args.number c.front.result
-    c.in-Ok-Some.told c.number_told.result c.args.proof.now.held (view c.args.pass.now) (view c.find_again.new.pass)
+    again_shows c.args.shared.now.known (timetable_at c.args.shared.now.gate) bytes c.args.sent.number c.front.result
+    c.in-Ok-Some.told c.number_told.result c.args.proof.now.held (view c.args.guest.now.pass) (view c.find_again.new.pass)
     c.number_told.ensures.tells
 
 pub returns-in-Err-clause-shown : goal.returns-in-Err-clause-shown
 returns-in-Err-clause-shown g c bytes read wanted =
-    let v : Sight = view c.args.pass.now in let w : Sight = view c.find_again.new.pass in
+    let v : Sight = view c.args.guest.now.pass in let w : Sight = view c.find_again.new.pass in
     let timetable : Timetable = timetable_at c.args.shared.now.gate in
     let text : List ℕ = c.args.proof.now.held in
     subst (λ (r : Reply). ProvedOr (Unit {0}) c.args.shared.now.known timetable bytes r text v w) (sym c.halted.ensures)

@@ -20,7 +20,7 @@ returns-then-is_empty-clause-answers g c =
     let empty = nil_from_length c.args.rules.now zero in
     let none : rules ≡ [] = ap (stand g.L.Rule) empty in
     c.answer_line.ensures.answers rules
-    (ap (λ (l : List Ruled). denied_by l (wished c.args.line.ask)) none ∙ none_denies (wished c.args.line.ask))
+    (ap (λ (l : List Ruled). denied_by l (wished c.args.numbered.line.ask)) none ∙ none_denies (wished c.args.numbered.line.ask))
 
 pub returns-then-is_empty-clause-told : goal.returns-then-is_empty-clause-told
 returns-then-is_empty-clause-told g c bytes read =
@@ -28,16 +28,16 @@ returns-then-is_empty-clause-told g c bytes read =
     let zero : length c.args.rules.now ≡ 0 = grind (arith, common_steps, c.is_empty.ensures, c.if-is_empty.true) in
     let empty = nil_from_length c.args.rules.now zero in
     let none : rules ≡ [] = ap (stand g.L.Rule) empty in
-    let w : Sight = view c.answer_line.new.pass in
+    let w : Sight = view c.answer_line.new.guest.pass in
     none ∙ sym (ap (told_by w.seen c.answer_line.result) none ∙ told_none w.seen (added c.answer_line.result))
 
 pub returns-in-Free-clause-shown : goal.returns-in-Free-clause-shown
 returns-in-Free-clause-shown g c =
     let rules : List Ruled = stand g.L.Rule c.args.rules.now in
-    let v : Sight = view c.args.pass.now in let w : Sight = view c.free_ruled.new.pass in
-    let text : List ℕ = c.args.proof.now.held in let after : Option ℕ = c.args.line.after in
-    subst (λ (ask : Ask). ShowsLine c.args.shared.now c.args.proves (record { after = after; ask = ask }) c.free_ruled.result text v w)
+    let v : Sight = view c.args.guest.now.pass in let w : Sight = view c.free_ruled.new.pass in
+    let text : List ℕ = c.args.proof.now.held in let after : Option ℕ = c.args.numbered.line.after in
+    subst (λ (ask : Ask). ShowsLine c.args.shared.now c.args.guest.now.proves (record { after = after; ask = ask }) c.free_ruled.result text v w)
     (sym c.in-Free.is)
-    (unsought_shows c.args.shared.now rules c.args.client.now.name c.args.line_number
-    (record { after = after; ask = asks.Free c.in-Free.number c.in-Free.freed }) c.args.proves c.free_ruled.result text v w
+    (unsought_shows c.args.shared.now rules c.args.guest.now.client.name c.args.numbered.number
+    (record { after = after; ask = asks.Free c.in-Free.number c.in-Free.freed }) c.args.guest.now.proves c.free_ruled.result text v w
     c.free_ruled.ensures.answers (λ request is. is))

@@ -18,13 +18,13 @@ returns-in-Some-clause-told g c bytes read =
 pub returns-clause-told : goal.returns-clause-told
 returns-clause-told g c bytes read =
     let rules : List Ruled = stand g.L.Rule c.args.rules.now in
-    let caller : Caller = caller_of c.args.shared.now rules c.args.client.now.name c.args.line_number in
-    let v : Sight = view c.args.pass.now in let w : Sight = view c.answer_line-reply.new.pass in
+    let caller : Caller = caller_of c.args.shared.now rules c.args.guest.now.client.name c.args.numbered.number in
+    let v : Sight = view c.args.guest.now.pass in let w : Sight = view c.answer_line-reply.new.guest.pass in
     let new : List Ruled = stand g.L.Rule c.tell_of_grant.new.rules in
     let none : c.first_denial.result ≡ None = search all_rules in
     let allowed = ap (denied_by rules) (sym c.wish_of_line-wish.ensures) ∙ sym c.first_denial.ensures ∙ none in
     let told = subst (λ (wish : Option Wish). new ≡ told_grant (added c.answer_line-reply.result) wish rules) c.wish_of_line-wish.ensures c.tell_of_grant.ensures in
-    wished_told caller c.args.line bytes read c.answer_line-reply.result v w
+    wished_told caller c.args.numbered.line bytes read c.answer_line-reply.result v w
     (c.answer_line-reply.ensures.answers rules allowed bytes read) c.requires.no_free rules new told
 
 pub returns-clause-answers : goal.returns-clause-answers
@@ -45,7 +45,7 @@ pub deny-requires-clause-may : goal.deny-requires-clause-may
 deny-requires-clause-may g c =
     let rules : List Ruled = stand g.L.Rule c.args.rules.now in
     let some : c.first_denial.result ≡ Some c.in-Some.rule = search all_rules in
-    denied_may rules c.args.line.ask c.in-Some.rule
+    denied_may rules c.args.numbered.line.ask c.in-Some.rule
     (ap (denied_by rules) (sym c.wish_of_line-wish.ensures) ∙ sym c.first_denial.ensures ∙ some)
 
 pub returns-in-Some-clause-shown : goal.returns-in-Some-clause-shown
@@ -53,6 +53,6 @@ returns-in-Some-clause-shown g c =
     let rules : List Ruled = stand g.L.Rule c.args.rules.now in
     let some : c.first_denial.result ≡ Some c.in-Some.rule = search all_rules in
     let denied = ap (denied_by rules) (sym c.wish_of_line-wish.ensures) ∙ sym c.first_denial.ensures ∙ some in
-    denied_shows c.args.shared.now rules c.args.client.now.name c.args.line_number c.args.line c.args.proves c.deny.result
-    c.args.proof.now.held (view c.args.pass.now) (view c.deny.new.pass) (c.deny.ensures.answers rules denied) c.in-Some.rule
-    (denied_may rules c.args.line.ask c.in-Some.rule denied) denied
+    denied_shows c.args.shared.now rules c.args.guest.now.client.name c.args.numbered.number c.args.numbered.line c.args.guest.now.proves c.deny.result
+    c.args.proof.now.held (view c.args.guest.now.pass) (view c.deny.new.pass) (c.deny.ensures.answers rules denied) c.in-Some.rule
+    (denied_may rules c.args.numbered.line.ask c.in-Some.rule denied) denied

@@ -20,18 +20,18 @@ use Rattle.line_answers.proofs.rules.free_found.Goals as goal
 pub returns-in-Ok-Some-clause-answers : goal.returns-in-Ok-Some-clause-answers
 returns-in-Ok-Some-clause-answers g c =
     let rules : List Ruled = stand g.L.Rule c.args.rules.now in
-    let caller : Caller = caller_of c.args.shared.now rules c.args.client.now.name c.args.line_number in
-    let line : Line = record { after = c.args.after; ask = asks.Free c.args.number c.args.freed } in
+    let caller : Caller = caller_of c.args.shared.now rules c.args.client.now.name c.args.sent.line in
+    let line : Line = record { after = c.args.sent.after; ask = asks.Free c.args.sent.number c.args.freed } in
     let v : Sight = view c.args.pass.now in let m : Sight = view c.show.new.pass in
     let w : Sight = view c.free-reply.new.pass in
-    let allowed = subst (λ (name : List ℕ). AnswersAllowed c.args.shared.now name c.args.line_number line c.free-reply.result m w) c.in-Ok-Some.ensures.name c.free-reply.ensures.answers in
-    look_first caller c.args.after c.args.number c.args.freed (some_stand g.L.Rule c.args.rules.now c.requires.some) v m w c.in-Ok-Some.ensures.looks c.in-Ok-Some.ensures.reached
+    let allowed = subst (λ (name : List ℕ). AnswersAllowed c.args.shared.now name c.args.sent.line line c.free-reply.result m w) c.in-Ok-Some.ensures.name c.free-reply.ensures.answers in
+    look_first caller c.args.sent.after c.args.sent.number c.args.freed (some_stand g.L.Rule c.args.rules.now c.requires.some) v m w c.in-Ok-Some.ensures.looks c.in-Ok-Some.ensures.reached
     c.free-reply.result (allowed rules refl)
 
 pub returns-in-Ok-Some-clause-told : goal.returns-in-Ok-Some-clause-told
 returns-in-Ok-Some-clause-told g c bytes read =
     let rules : List Ruled = stand g.L.Rule c.args.rules.now in
-    let caller : Caller = caller_of c.args.shared.now rules c.show.new.client.name c.args.line_number in
+    let caller : Caller = caller_of c.args.shared.now rules c.show.new.client.name c.args.sent.line in
     let m : Sight = view c.show.new.pass in let w : Sight = view c.free-reply.new.pass in
     let entry : Entry = c.in-Ok-Some.standing.entry in
     let shows : IsStanding m.found.list c.args.freed (Some c.in-Ok-Some.standing) =
@@ -39,14 +39,14 @@ returns-in-Ok-Some-clause-told g c bytes read =
     let stands = ap (λ (l : List Entry). slice_get l c.args.freed) c.in-Ok-Some.ensures.looks.same ∙ shows.0 in
     let new : List Ruled = stand g.L.Rule c.tell_of_free.new.rules in
     let told = subst (λ wish. new ≡ told_free (added c.free-reply.result) wish rules) c.wish_of-wish.ensures c.tell_of_free.ensures in
-    freed_told caller c.args.after c.args.number c.args.freed bytes read c.free-reply.result m w
+    freed_told caller c.args.sent.after c.args.sent.number c.args.freed bytes read c.free-reply.result m w
     (c.free-reply.ensures.answers rules refl bytes read) entry stands rules new told
 
 pub returns-in-Err-clause-answers : goal.returns-in-Err-clause-answers
 returns-in-Err-clause-answers g c =
     let rules : List Ruled = stand g.L.Rule c.args.rules.now in
-    let caller : Caller = caller_of c.args.shared.now rules c.args.client.now.name c.args.line_number in
-    let line : Line = record { after = c.args.after; ask = asks.Free c.args.number c.args.freed } in
+    let caller : Caller = caller_of c.args.shared.now rules c.args.client.now.name c.args.sent.line in
+    let line : Line = record { after = c.args.sent.after; ask = asks.Free c.args.sent.number c.args.freed } in
     let v : Sight = view c.args.pass.now in let w : Sight = view c.show.new.pass in
     subst (λ (r : Reply). AnswersLine caller line r v w) (sym c.halted.ensures)
     (halted_line caller line v w c.in-Err.halt c.in-Err.ensures.halted)

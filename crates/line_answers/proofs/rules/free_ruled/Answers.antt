@@ -20,34 +20,34 @@ use Rattle.line_answers.proofs.rules.free_ruled.Goals as goal
 pub returns-then-front-freed-clause-answers : goal.returns-then-front-freed-clause-answers
 returns-then-front-freed-clause-answers g c =
     let rules : List Ruled = stand g.L.Rule c.args.rules.now in
-    let caller : Caller = caller_of c.args.shared.now rules c.args.client.now.name c.args.line_number in
+    let caller : Caller = caller_of c.args.shared.now rules c.args.client.now.name c.args.sent.line in
     let v : Sight = view c.args.pass.now in let w : Sight = view c.find_again.new.pass in
-    let found : IsFoundAgain w.found.list c.args.client.now.name c.args.number (Free c.args.freed) None =
-    subst (IsFoundAgain w.found.list c.args.client.now.name c.args.number (Free c.args.freed)) c.in-Ok-None.field-0-is c.in-Ok-None.ensures.found in
-    unknown_line caller c.args.after c.args.number c.args.freed v w c.in-Ok-None.ensures.looks c.in-Ok-None.ensures.reached
+    let found : IsFoundAgain w.found.list c.args.client.now.name c.args.sent.number (Free c.args.freed) None =
+    subst (IsFoundAgain w.found.list c.args.client.now.name c.args.sent.number (Free c.args.freed)) c.in-Ok-None.field-0-is c.in-Ok-None.ensures.found in
+    unknown_line caller c.args.sent.after c.args.sent.number c.args.freed v w c.in-Ok-None.ensures.looks c.in-Ok-None.ensures.reached
     c.front-front.result (c.front-front.ensures ∙ c.in-Ok-None.ensures.copy.front) found
     (let here = c.front-front.ensures ∙ c.in-Ok-None.ensures.copy.front in let few = c.if-front-freed.true in omega arith)
 
 pub returns-in-Ok-None-clause-answers : goal.returns-in-Ok-None-clause-answers
 returns-in-Ok-None-clause-answers g c =
     let rules : List Ruled = stand g.L.Rule c.args.rules.now in
-    let line : Line = record { after = c.args.after; ask = asks.Free c.args.number c.args.freed } in
-    let caller : Caller = caller_of c.args.shared.now rules c.args.client.now.name c.args.line_number in
+    let line : Line = record { after = c.args.sent.after; ask = asks.Free c.args.sent.number c.args.freed } in
+    let caller : Caller = caller_of c.args.shared.now rules c.args.client.now.name c.args.sent.line in
     let v : Sight = view c.args.pass.now in let u : Sight = view c.find_again.new.pass in
     let w : Sight = view c.free_found.new.pass in
-    let inner = subst (λ (name : List ℕ). AnswersLine (caller_of c.args.shared.now rules name c.args.line_number) line c.free_found.result u w) c.in-Ok-None.ensures.name c.free_found.ensures.answers in
-    look_first caller c.args.after c.args.number c.args.freed (some_stand g.L.Rule c.args.rules.now c.requires.some) v u w c.in-Ok-None.ensures.looks c.in-Ok-None.ensures.reached
+    let inner = subst (λ (name : List ℕ). AnswersLine (caller_of c.args.shared.now rules name c.args.sent.line) line c.free_found.result u w) c.in-Ok-None.ensures.name c.free_found.ensures.answers in
+    look_first caller c.args.sent.after c.args.sent.number c.args.freed (some_stand g.L.Rule c.args.rules.now c.requires.some) v u w c.in-Ok-None.ensures.looks c.in-Ok-None.ensures.reached
     c.free_found.result inner
 
 pub returns-in-Ok-Some-clause-answers : goal.returns-in-Ok-Some-clause-answers
 returns-in-Ok-Some-clause-answers g c =
     let rules : List Ruled = stand g.L.Rule c.args.rules.now in
-    let caller : Caller = caller_of c.args.shared.now rules c.args.client.now.name c.args.line_number in
-    let line : Line = record { after = c.args.after; ask = asks.Free c.args.number c.args.freed } in
+    let caller : Caller = caller_of c.args.shared.now rules c.args.client.now.name c.args.sent.line in
+    let line : Line = record { after = c.args.sent.after; ask = asks.Free c.args.sent.number c.args.freed } in
     let v : Sight = view c.args.pass.now in let w : Sight = view c.find_again.new.pass in
     let told = c.in-Ok-Some.told in
-    let found = subst (IsFoundAgain w.found.list c.args.client.now.name c.args.number (Free c.args.freed)) c.in-Ok-Some.field-0-is c.in-Ok-Some.ensures.found in
-    again_line caller line c.args.number refl v w c.in-Ok-Some.ensures.looks c.in-Ok-Some.ensures.reached
+    let found = subst (IsFoundAgain w.found.list c.args.client.now.name c.args.sent.number (Free c.args.freed)) c.in-Ok-Some.field-0-is c.in-Ok-Some.ensures.found in
+    again_line caller line c.args.sent.number refl v w c.in-Ok-Some.ensures.looks c.in-Ok-Some.ensures.reached
     c.front.result (c.front.ensures ∙ c.in-Ok-Some.ensures.copy.front)
     (Free c.args.freed) refl told c.number_told.result found c.number_told.ensures.tells
 
@@ -59,8 +59,8 @@ returns-in-Ok-Some-clause-told g c bytes read =
 pub returns-clause-answers : goal.returns-clause-answers
 returns-clause-answers g c =
     let rules : List Ruled = stand g.L.Rule c.args.rules.now in
-    let caller : Caller = caller_of c.args.shared.now rules c.args.client.now.name c.args.line_number in
-    let line : Line = record { after = c.args.after; ask = asks.Free c.args.number c.args.freed } in
+    let caller : Caller = caller_of c.args.shared.now rules c.args.client.now.name c.args.sent.line in
+    let line : Line = record { after = c.args.sent.after; ask = asks.Free c.args.sent.number c.args.freed } in
     let v : Sight = view c.args.pass.now in let w : Sight = view c.find_again.new.pass in
     subst (λ (r : Reply). AnswersLine caller line r v w) (sym c.halted.ensures)
     (halted_line caller line v w c.in-Err.halt c.in-Err.ensures.halted)

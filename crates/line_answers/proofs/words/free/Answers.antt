@@ -17,27 +17,27 @@ use Rattle.line_answers.proofs.words.free.Goals as goal
 
 pub returns-in_default-clause-answers : goal.returns-in_default-clause-answers
 returns-in_default-clause-answers g c rules allowed =
-    want_line (caller_of c.args.shared.now rules c.args.client.now.name c.args.line_number)
-    (record { after = c.args.after; ask = asks.Free c.args.number c.args.freed }) (view c.args.pass.now)
+    want_line (caller_of c.args.shared.now rules c.args.client.now.name c.args.sent.line)
+    (record { after = c.args.sent.after; ask = asks.Free c.args.sent.number c.args.freed }) (view c.args.pass.now)
 
 pub returns-in-Ok-Settled-clause-answers : goal.returns-in-Ok-Settled-clause-answers
 returns-in-Ok-Settled-clause-answers g c rules allowed =
-    let caller : Caller = caller_of c.args.shared.now rules c.args.client.now.name c.args.line_number in
-    let line : Line = record { after = c.args.after; ask = asks.Free c.args.number c.args.freed } in
+    let caller : Caller = caller_of c.args.shared.now rules c.args.client.now.name c.args.sent.line in
+    let line : Line = record { after = c.args.sent.after; ask = asks.Free c.args.sent.number c.args.freed } in
     let deed : Deed = Free c.args.freed in
     let v : Sight = view c.args.pass.now in let w : Sight = view c.enter_entry.new.pass in
     let timetable = timetable_at c.args.shared.now.gate in
     let at = c.in-Ok-Settled.at in let front = c.in-Ok-Settled.front in
     let told = subst (λ (x : Entered). HasEntered timetable c.in-Ok.entry x v w) c.in-Ok-Settled.field-0-is c.in-Ok-Settled.ensures.entered in
     let done = subst (λ (e : Entry). HasEntered timetable e (entered.Settled at front) v w) c.in-Ok.ensures told in
-    settled_line caller line c.args.number deed refl refl v w (reply.Freed c.args.number at c.args.freed front) at front done
-    (λ bytes read adds. (line, read.spells, (refl, c.in-Ok-Settled.ensures.reached, (entry_of caller c.args.number deed, adds))))
+    settled_line caller line c.args.sent.number deed refl refl v w (reply.Freed c.args.sent.number at c.args.freed front) at front done
+    (λ bytes read adds. (line, read.spells, (refl, c.in-Ok-Settled.ensures.reached, (entry_of caller c.args.sent.number deed, adds))))
     refl tt (λ ts all. all) (λ ts some. some)
 
 pub returns-in-Ok-Unsettled-clause-answers : goal.returns-in-Ok-Unsettled-clause-answers
 returns-in-Ok-Unsettled-clause-answers g c rules allowed =
-    let caller : Caller = caller_of c.args.shared.now rules c.args.client.now.name c.args.line_number in
-    let line : Line = record { after = c.args.after; ask = asks.Free c.args.number c.args.freed } in
+    let caller : Caller = caller_of c.args.shared.now rules c.args.client.now.name c.args.sent.line in
+    let line : Line = record { after = c.args.sent.after; ask = asks.Free c.args.sent.number c.args.freed } in
     let deed : Deed = Free c.args.freed in
     let v : Sight = view c.args.pass.now in let w : Sight = view c.enter_entry.new.pass in
     let timetable = timetable_at c.args.shared.now.gate in
@@ -46,12 +46,12 @@ returns-in-Ok-Unsettled-clause-answers g c rules allowed =
     let at = c.in-Ok-Unsettled.at in let front = c.in-Ok-Unsettled.front in
     let told = subst (λ (x : Entered). HasEntered timetable c.in-Ok.entry x v w) c.in-Ok-Unsettled.field-0-is c.in-Ok-Unsettled.ensures.entered in
     let done = subst (λ (e : Entry). HasEntered timetable e (entered.Unsettled at front) v w) c.in-Ok.ensures told in
-    unsettled_line caller line c.args.number deed refl refl v w c.in-Ok-Unsettled.ensures.reached may narrow at front done
+    unsettled_line caller line c.args.sent.number deed refl refl v w c.in-Ok-Unsettled.ensures.reached may narrow at front done
 
 pub returns-in-Ok-Refused-clause-answers : goal.returns-in-Ok-Refused-clause-answers
 returns-in-Ok-Refused-clause-answers g c rules allowed =
-    let caller : Caller = caller_of c.args.shared.now rules c.args.client.now.name c.args.line_number in
-    let line : Line = record { after = c.args.after; ask = asks.Free c.args.number c.args.freed } in
+    let caller : Caller = caller_of c.args.shared.now rules c.args.client.now.name c.args.sent.line in
+    let line : Line = record { after = c.args.sent.after; ask = asks.Free c.args.sent.number c.args.freed } in
     let deed : Deed = Free c.args.freed in
     let v : Sight = view c.args.pass.now in let w : Sight = view c.enter_entry.new.pass in
     let timetable = timetable_at c.args.shared.now.gate in
@@ -60,13 +60,13 @@ returns-in-Ok-Refused-clause-answers g c rules allowed =
     let told = c.in-Ok-Refused.told in
     let so = subst (λ (x : Entered). HasEntered timetable c.in-Ok.entry x v w) c.in-Ok-Refused.field-0-is c.in-Ok-Refused.ensures.entered in
     let refused = subst (λ (e : Entry). IsRefusedIn timetable e told v w) c.in-Ok.ensures so in
-    free_refused caller line c.args.number deed refl refl v w c.in-Ok-Refused.ensures.reached may narrow c.front.result
+    free_refused caller line c.args.sent.number deed refl refl v w c.in-Ok-Refused.ensures.reached may narrow c.front.result
     (c.front.ensures ∙ c.in-Ok-Refused.ensures.copy.front) c.args.freed refl told c.free_refused.result refused c.free_refused.ensures
 
 pub returns-in-Ok-Full-clause-answers : goal.returns-in-Ok-Full-clause-answers
 returns-in-Ok-Full-clause-answers g c rules allowed =
-    let caller : Caller = caller_of c.args.shared.now rules c.args.client.now.name c.args.line_number in
-    let line : Line = record { after = c.args.after; ask = asks.Free c.args.number c.args.freed } in
+    let caller : Caller = caller_of c.args.shared.now rules c.args.client.now.name c.args.sent.line in
+    let line : Line = record { after = c.args.sent.after; ask = asks.Free c.args.sent.number c.args.freed } in
     let deed : Deed = Free c.args.freed in
     let v : Sight = view c.args.pass.now in let w : Sight = view c.enter_entry.new.pass in
     let timetable = timetable_at c.args.shared.now.gate in
@@ -74,17 +74,17 @@ returns-in-Ok-Full-clause-answers g c rules allowed =
     let narrow : IsNarrowLine caller line = λ request sought. absurd sought in
     let so = subst (λ (x : Entered). HasEntered timetable c.in-Ok.entry x v w) c.in-Ok-Full.field-0-is c.in-Ok-Full.ensures.entered in
     let full = subst (λ (e : Entry). IsFullIn timetable e v w) c.in-Ok.ensures so in
-    full_line caller line c.args.number deed refl refl v w c.in-Ok-Full.ensures.reached may narrow c.front-in-Ok-Full.result
+    full_line caller line c.args.sent.number deed refl refl v w c.in-Ok-Full.ensures.reached may narrow c.front-in-Ok-Full.result
     (c.front-in-Ok-Full.ensures ∙ c.in-Ok-Full.ensures.copy.front) full
 
 pub returns-in-Err-clause-answers : goal.returns-in-Err-clause-answers
 returns-in-Err-clause-answers g c rules allowed =
-    let caller : Caller = caller_of c.args.shared.now rules c.args.client.now.name c.args.line_number in
-    let line : Line = record { after = c.args.after; ask = asks.Free c.args.number c.args.freed } in
+    let caller : Caller = caller_of c.args.shared.now rules c.args.client.now.name c.args.sent.line in
+    let line : Line = record { after = c.args.sent.after; ask = asks.Free c.args.sent.number c.args.freed } in
     let deed : Deed = Free c.args.freed in
     let v : Sight = view c.args.pass.now in let w : Sight = view c.enter_entry.new.pass in
     let timetable = timetable_at c.args.shared.now.gate in
     let halt = c.in-Err.halt in
-    let stopped = subst (λ (e : Entry). IsStopped timetable e halt c.args.after v w) c.in-Ok.ensures c.in-Err.ensures.stopped in
+    let stopped = subst (λ (e : Entry). IsStopped timetable e halt c.args.sent.after v w) c.in-Ok.ensures c.in-Err.ensures.stopped in
     subst (λ (r : Reply). AnswersLine caller line r v w) (sym c.halted.ensures)
-    (stopped_line caller line c.args.number deed refl refl v w halt stopped)
+    (stopped_line caller line c.args.sent.number deed refl refl v w halt stopped)

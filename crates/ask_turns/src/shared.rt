@@ -1,10 +1,10 @@
 //! What all clients share.
 
-use ask_turns::tails::Followers;
 use book_gate::Gate;
 use client_lines::Known;
 use outside_io::Disk;
 use path_commit::Book;
+use path_labels::tails::Followers;
 use rail_types::Settings;
 
 /// The gate that keeps the book, what lines may name, the settings of the book's timetable, and

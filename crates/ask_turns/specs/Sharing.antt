@@ -2,9 +2,9 @@
 use Rattle.std.specs.Prelude.{◌≡◌}
 use Rattle.client_lines.specs.Within.{AreSound}
 use Rattle.rail_types.specs.Limits.{IsSettingsWithinLimits}
-use Rattle.ask_turns.specs.tails.Following.{AreFollowers}
+use Rattle.path_labels.specs.tails.Following.{AreFollowers}
 use Rattle.ask_turns.specs.Turns.{timetable_at}
-use Rattle.line_answers.specs.declared.shared.Shared.{Shared}
+use Rattle.ask_turns.specs.declared.shared.Shared.{Shared}
 
 -- what lines may name is of the network that the gate's book goes by, with the blocks that follow
 -- one another there, and the settings are the book's
