@@ -18,7 +18,7 @@ use Rattle.batch_command.specs.declared.batch_server.clerks.Clerk.{Clerk}
 use Rattle.batch_command.specs.declared.batch_server.members.Member.{Member}
 use Rattle.served_clients.specs.Seats.{IsBack}
 use Rattle.served_clients.specs.turns.Turns.{Sight}
-use Rattle.served_clients.specs.answers.declared.shared.Shared.{Shared}
+use Rattle.served_clients.specs.turns.declared.shared.Shared.{Shared}
 use Rattle.batch_command.specs.InOrder.{all_answers, AreInOrder, AreWhole, places, reply_at}
 use Rattle.served_clients.specs.lines.declared.reply_texts.replies.Reply.{Reply}
 use Rattle.batch_command.proofs.Matched.{All-left, All-right}

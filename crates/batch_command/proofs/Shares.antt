@@ -30,7 +30,7 @@ use Rattle.served_clients.specs.Talks.{printed, Talk}
 use Rattle.served_clients.proofs.Done.{seat_done, talk_at}
 use Rattle.served_clients.proofs.Histories.{given_within}
 use Rattle.served_clients.proofs.Owned.{told_at-longer, told_whole}
-use Rattle.served_clients.specs.answers.declared.shared.Shared.{Shared}
+use Rattle.served_clients.specs.turns.declared.shared.Shared.{Shared}
 use Rattle.served_clients.specs.sessions.Ends.{Traffic}
 use Rattle.served_clients.specs.sessions.Told.{AreAnswered, lines_told, Told}
 use Rattle.rail_types.specs.declared.entries.Entry.{Entry}
@@ -215,16 +215,16 @@ module _ {D Btw L : Type 0} (kind : Rules L) (shared : Shared D) (lines : List (
   -- ---- where nothing was told, no turn was taken
 
   pub all_still : (k : ℕ) (ones : List (One D Btw L)) → places kept ≡ owned_places owners → AreOnes k ones → flat_map (λ share. share) (shares_from k ones) ≡ []
-      → All (λ (c : Clerk D Btw L). (view c.seat.pass).turns ≡ []) (map (λ o. o.new) ones)
-  all_still k [] kept_are all none = All-nil (λ (c : Clerk D Btw L). (view c.seat.pass).turns ≡ [])
+      → All (λ (c : Clerk D Btw L). (view c.seat.guest.pass).turns ≡ []) (map (λ o. o.new) ones)
+  all_still k [] kept_are all none = All-nil (λ (c : Clerk D Btw L). (view c.seat.guest.pass).turns ≡ [])
   all_still k (one ∷ ones) kept_are all none =
-      let P : Clerk D Btw L → Type 0 = λ c. (view c.seat.pass).turns ≡ [] in
+      let P : Clerk D Btw L → Type 0 = λ c. (view c.seat.guest.pass).turns ≡ [] in
       let share : List ℕ = own_places owners k ++ places one.part in
       let rest : List ℕ = flat_map (λ share. share) (shares_from (k + 1) ones) in
       let parts = nothing_in share rest none in
       let told : answers_of owners kept k one.part ≡ [] = no_answer (answers_of owners kept k one.part) (places_of owners kept kept_are k one.part ∙ parts.0) in
       let same : one.new.seat ≡ one.old.seat = subst (λ l. AreAnswered (AnswersAt kind) 1 (told_of lines l) one.old.seat one.new.seat) told all.0.went.answered in
-      All-cons P one.new (map (λ o. o.new) ones) (ap (λ seat. (view seat.pass).turns) same ∙ all.0.fresh.taken.turns) (all_still (k + 1) ones kept_are all.1 parts.1)
+      All-cons P one.new (map (λ o. o.new) ones) (ap (λ seat. (view seat.guest.pass).turns) same ∙ all.0.fresh.taken.turns) (all_still (k + 1) ones kept_are all.1 parts.1)
 
   -- the shares are what was the workers' own, and what they answered besides
   pub shares_are : (k : ℕ) (ones : List (One D Btw L)) → IsPermutation (flat_map (λ share. share) (shares_from k ones))
@@ -262,7 +262,7 @@ module _ {D Btw L : Type 0} (kind : Rules L) (shared : Shared D) (lines : List (
       ap (λ n. n ∷ map (λ (t : Talk). t.name) (talks_from (k + 1) ones)) sit.0.client ∙ ap (λ l. m.name ∷ l) (names_are (k + 1) ones members sit.1)
 
   has_worked : (left : List Entry) (k : ℕ) (member : Member Btw L) (one : One D Btw L) → IsClerkOf kind shared member one.old → IsOne k one
-      → StartsWith left (found_at shared.gate) → StartsWith left (view one.new.seat.pass).seen
+      → StartsWith left (found_at shared.gate) → StartsWith left (view one.new.seat.guest.pass).seen
       → IsDone kind shared one.new.seat (talk_of k one)
       → owned left (talk_of k one).name (length (found_at shared.gate)) ≡ printed (talk_of k one).traffic.told
       → HasWorked kind (found_at shared.gate) left member (worked_of one.new) (talk_of k one)
@@ -270,7 +270,7 @@ module _ {D Btw L : Type 0} (kind : Rules L) (shared : Shared D) (lines : List (
       let found : List Entry = found_at shared.gate in
       let talk : Talk = talk_of k one in
       let told : List Told = talk.traffic.told in
-      let seen : List Entry = (view one.new.seat.pass).seen in
+      let seen : List Entry = (view one.new.seat.guest.pass).seen in
       let within = given_within seen (callers_at shared talk.name) 1 (length found) talk.rules told done.replies.given in record {
         name = is.went.name ∙ sits.name;
         talk_name = sits.client;
@@ -286,14 +286,14 @@ module _ {D Btw L : Type 0} (kind : Rules L) (shared : Shared D) (lines : List (
 
   pub all_worked : (left : List Entry) (k : ℕ) (members : List (Member Btw L)) (ones : List (One D Btw L)) → AreMatched (IsClerkOf kind shared) members (map (λ o. o.old) ones)
       → AreOnes k ones → StartsWith left (found_at shared.gate)
-      → All (λ (c : Clerk D Btw L). StartsWith left (view c.seat.pass).seen) (map (λ o. o.new) ones)
+      → All (λ (c : Clerk D Btw L). StartsWith left (view c.seat.guest.pass).seen) (map (λ o. o.new) ones)
       → All (λ (t : Talk). owned left t.name (length (found_at shared.gate)) ≡ printed t.traffic.told) (talks_from k ones)
       → AreMatched3 (HasWorked kind (found_at shared.gate) left) members (map worked_of (map (λ o. o.new) ones)) (talks_from k ones)
   all_worked left k [] [] sit all begins seen entries = tt
   all_worked left k (m ∷ members) [] sit all begins seen entries = absurd sit
   all_worked left k [] (one ∷ ones) sit all begins seen entries = absurd sit
   all_worked left k (m ∷ members) (one ∷ ones) sit all begins seen entries =
-      let S : Clerk D Btw L → Type 0 = λ c. StartsWith left (view c.seat.pass).seen in
+      let S : Clerk D Btw L → Type 0 = λ c. StartsWith left (view c.seat.guest.pass).seen in
       let E : Talk → Type 0 = λ t. owned left t.name (length (found_at shared.gate)) ≡ printed t.traffic.told in
       let done = all_done k (one ∷ ones) all in (
         has_worked left k m one sit.0 all.0 begins (All-head S one.new (map (λ o. o.new) ones) seen) done.0 (All-head E (talk_of k one) (talks_from (k + 1) ones) entries),

@@ -7,7 +7,7 @@ use Rattle.batch_command.specs.Batches.{is_of, line_at}
 use Rattle.batch_command.specs.declared.batch_server.clerks.Clerk.{Clerk}
 use Rattle.served_clients.specs.gate.Passes.{turns_left}
 use Rattle.served_clients.specs.Seats.{AnswersAt, IsSeated, IsTaken}
-use Rattle.served_clients.specs.answers.declared.shared.Shared.{Shared}
+use Rattle.served_clients.specs.turns.declared.shared.Shared.{Shared}
 use Rattle.served_clients.specs.sessions.Told.{AreAnswered, Told}
 use Rattle.served_clients.specs.lines.declared.reply_texts.replies.Reply.{Reply}
 
@@ -18,12 +18,12 @@ max_number = 4294967295
 -- how many lines a worker may still be asked at least: each takes four
 -- turns and a number of its own
 abbrev pub lines_left : {D Btw L : Type 0} → Clerk D Btw L → ℕ
-lines_left clerk = min (turns_left clerk.seat.pass / 4) (max_number - clerk.asked)
+lines_left clerk = min (turns_left clerk.seat.guest.pass / 4) (max_number - clerk.asked)
 
 -- a worker that wants no proofs, at its seat
 pub record IsSound {D Btw L : Type 0} (clerk : Clerk D Btw L) : Type 0 where
   pub seated : IsSeated clerk.seat
-  pub unproved : clerk.seat.proves ≡ false
+  pub unproved : clerk.seat.guest.proves ≡ false
 
 -- a line was told this reply as the worker's next one
 pub record Answers {D Btw L : Type 0} (kind : Rules L) (old : Clerk D Btw L) (text : List ℕ)
@@ -35,7 +35,7 @@ pub record Answers {D Btw L : Type 0} (kind : Rules L) (old : Clerk D Btw L) (te
 -- a worker that was not asked yet
 pub record IsFresh {D Btw L : Type 0} (shared : Shared D) (clerk : Clerk D Btw L) : Type 0 where
   pub taken : IsTaken shared clerk.seat
-  pub unproved : clerk.seat.proves ≡ false
+  pub unproved : clerk.seat.guest.proves ≡ false
   pub asked : clerk.asked ≡ 0
 
 -- what was told to lines of a list, by their places

@@ -10,7 +10,7 @@ use Rattle.served_clients.specs.ClientRuns.{AreMatched, owned}
 use Rattle.served_clients.specs.Seats.{found_at}
 use Rattle.served_clients.specs.Talks.{printed, Talk}
 use Rattle.served_clients.specs.turns.Turns.{Sight}
-use Rattle.served_clients.specs.answers.declared.shared.Shared.{Shared}
+use Rattle.served_clients.specs.turns.declared.shared.Shared.{Shared}
 use Rattle.rail_types.specs.declared.entries.Entry.{Entry}
 
 -- The workers shared the lines of a list, and their passes were taken in by the one that knows v.

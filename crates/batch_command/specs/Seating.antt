@@ -14,7 +14,7 @@ use Rattle.served_clients.specs.ClientRuns.{told_own}
 use Rattle.served_clients.specs.Seats.{found_at, IsDone}
 use Rattle.served_clients.specs.Talks.{Talk}
 use Rattle.served_clients.specs.turns.Turns.{Sight}
-use Rattle.served_clients.specs.answers.declared.shared.Shared.{Shared}
+use Rattle.served_clients.specs.turns.declared.shared.Shared.{Shared}
 use Rattle.rail_types.specs.declared.entries.Entry.{Entry}
 
 -- this worker sits at its seat, and its rules were told its entries of the history found
@@ -22,7 +22,7 @@ pub record IsClerkOf {D Btw L : Type 0} (kind : Rules L) (shared : Shared D) (me
     (clerk : Clerk D Btw L) : Type 0 where
   pub fresh : IsFresh shared clerk
   pub name : clerk.name ≡ member.name
-  pub client : clerk.seat.client.name ≡ member.name
+  pub client : clerk.seat.guest.client.name ≡ member.name
   pub rules : stand kind clerk.seat.rules.items
       ≡ told_own (found_at shared.gate) member.name (stand kind member.rules.items)
 
@@ -35,8 +35,8 @@ worked_of clerk =
 pub record HaveLeft {D Btw L : Type 0} (kind : Rules L) (shared : Shared D)
     (clerks : List (Clerk D Btw L)) (v : Sight) : Type 0 where
   pub seen : (history : List Entry) → All (λ list. StartsWith history list) v.joined
-      → All (λ clerk. StartsWith history (view clerk.seat.pass).seen) clerks
+      → All (λ clerk. StartsWith history (view clerk.seat.guest.pass).seen) clerks
   pub joined : (talks : List Talk)
       → AreMatched (λ clerk talk. IsDone kind shared clerk.seat talk) clerks talks
       → AreJoined shared v talks
-  pub still : All (λ clerk. (view clerk.seat.pass).turns ≡ []) clerks → v.turns ≡ []
+  pub still : All (λ clerk. (view clerk.seat.guest.pass).turns ≡ []) clerks → v.turns ≡ []

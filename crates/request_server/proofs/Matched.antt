@@ -20,7 +20,7 @@ use Rattle.served_clients.proofs.Histories.{given_within}
 use Rattle.served_clients.proofs.Joins.{joined_none}
 use Rattle.served_clients.proofs.Owned.{told_at-longer, told_whole}
 use Rattle.served_clients.specs.turns.Turns.{Sight}
-use Rattle.line_answers.specs.declared.shared.Shared.{Shared}
+use Rattle.line_answers.specs.turns.declared.shared.Shared.{Shared}
 use Rattle.line_sessions.specs.Ends.{Streams}
 use Rattle.line_sessions.specs.Told.{Told}
 use Rattle.rail_types.specs.declared.entries.Entry.{Entry}
@@ -143,13 +143,13 @@ apart_alike f g xs zs same apart =
 
 module _ {D Src Snk Btw L : Type 0} (kind : Rules L) (shared : Shared D) (streams : Streams Src Snk) where
   abbrev pub talk_in : (old new : Job D Src Snk Btw L) → WasServed kind streams old new → Talk
-  talk_in old new was = record { name = old.name; rules = stand kind old.seat.rules.items; proves = old.seat.proves; traffic = was.ends.traffic }
+  talk_in old new was = record { name = old.name; rules = stand kind old.seat.rules.items; proves = old.seat.guest.proves; traffic = was.ends.traffic }
 
   one_done : (old new : Job D Src Snk Btw L) → IsReadyJob shared old → (was : WasServed kind streams old new)
       → IsDoneJob kind shared streams (begun_of kind old) new (talk_in old new was)
   one_done old new ready was =
       let done : IsDone kind shared new.seat (talk_in old new was) =
-      subst (λ name. IsDone kind shared new.seat (record { name = name; rules = stand kind old.seat.rules.items; proves = old.seat.proves; traffic = was.ends.traffic })) ready.name
+      subst (λ name. IsDone kind shared new.seat (record { name = name; rules = stand kind old.seat.rules.items; proves = old.seat.guest.proves; traffic = was.ends.traffic })) ready.name
       (seat_done kind shared old.seat new.seat was.ends.traffic ready.taken was.seated was.ends.answered) in record {
         passed = record { name = was.name; talk_name = refl; rules = refl; proves = ready.proves; passes = was.ends.passes; told = done.told };
         done = done;
@@ -170,11 +170,11 @@ module _ {D Src Snk Btw L : Type 0} (kind : Rules L) (shared : Shared D) (stream
   -- ---- passes that are taken in
 
   -- what passed by what a pass has seen passed by each longer history
-  passed_longer : (history : List Entry) (client : Begun Src Snk Btw) (job : Job D Src Snk Btw L) (talk : Talk) → StartsWith history (view job.seat.pass).seen
+  passed_longer : (history : List Entry) (client : Begun Src Snk Btw) (job : Job D Src Snk Btw L) (talk : Talk) → StartsWith history (view job.seat.guest.pass).seen
       → IsDoneJob kind shared streams client job talk → HasPassed kind streams history client (session_of job) talk
   passed_longer history client job talk more done =
       let passed = done.passed in
-      let told : List Told = talk.traffic.told in let seen : List Entry = (view job.seat.pass).seen in
+      let told : List Told = talk.traffic.told in let seen : List Entry = (view job.seat.guest.pass).seen in
       let within = given_within seen (callers_at shared talk.name) 1 (length (found_at shared.gate)) talk.rules told done.done.replies.given in record {
         name = passed.name;
         talk_name = passed.talk_name;
@@ -213,7 +213,7 @@ module _ {D Src Snk Btw L : Type 0} (kind : Rules L) (shared : Shared D) (stream
 
   pub joining_more : (clients : List (Begun Src Snk Btw)) (talks : List Talk) (rest : List (Job D Src Snk Btw L)) (job : Job D Src Snk Btw L) (sessions : List (Session Src Snk L)) (v new : Sight)
       → Joining clients talks (rest ++ job ∷ []) sessions v
-      → ((history : List Entry) → All (λ list. StartsWith history list) new.joined → All (λ list. StartsWith history list) v.joined × StartsWith history (view job.seat.pass).seen)
+      → ((history : List Entry) → All (λ list. StartsWith history list) new.joined → All (λ list. StartsWith history list) v.joined × StartsWith history (view job.seat.guest.pass).seen)
       → ((before : List Talk) (talk : Talk) → AreJoined shared v before → IsDone kind shared job.seat talk
       → AreJoined shared new (before ++ talk ∷ []))
       → Joining clients talks rest (sessions ++ session_of job ∷ []) new

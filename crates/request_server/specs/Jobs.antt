@@ -7,7 +7,7 @@ use Rattle.admission_rules.specs.Told.{told_at}
 use Rattle.served_clients.specs.ClientRuns.{told_own}
 use Rattle.served_clients.specs.Seats.{AnswersAt, IsDone, IsSeated, IsTaken}
 use Rattle.served_clients.specs.Talks.{printed, Talk}
-use Rattle.line_answers.specs.declared.shared.Shared.{Shared}
+use Rattle.line_answers.specs.turns.declared.shared.Shared.{Shared}
 use Rattle.line_sessions.specs.Ends.{Ends, Passes, scene, Streams}
 use Rattle.line_sessions.specs.Proofs.{is_wanted}
 use Rattle.line_sessions.specs.declared.proofs.Proofs.{Proofs}
@@ -48,7 +48,7 @@ begun_of kind job =
       source = job.source;
       sink = job.sink;
       proofs = job.proofs;
-      between = job.seat.between;
+      between = job.seat.guest.between;
       rules = stand kind job.seat.rules.items;
     }
 
@@ -68,8 +68,8 @@ session_of job =
 pub record IsReadyJob {D Src Snk Btw L : Type 0} (shared : Shared D) (job : Job D Src Snk Btw L)
     : Type 0 where
   pub taken : IsTaken shared job.seat
-  pub proves : job.seat.proves ≡ is_wanted job.proofs
-  pub name : job.seat.client.name ≡ job.name
+  pub proves : job.seat.guest.proves ≡ is_wanted job.proofs
+  pub name : job.seat.guest.client.name ≡ job.name
 
 -- the client's lines were answered by its seat
 pub record WasServed {D Src Snk Btw L : Type 0} (kind : Rules L) (streams : Streams Src Snk)
@@ -98,5 +98,5 @@ pub record HasPassed {Src Snk Btw L : Type 0} (kind : Rules L) (streams : Stream
 pub record IsDoneJob {D Src Snk Btw L : Type 0} (kind : Rules L) (shared : Shared D)
     (streams : Streams Src Snk) (client : Begun Src Snk Btw) (job : Job D Src Snk Btw L)
     (talk : Talk) : Type 0 where
-  pub passed : HasPassed kind streams (view job.seat.pass).seen client (session_of job) talk
+  pub passed : HasPassed kind streams (view job.seat.guest.pass).seen client (session_of job) talk
   pub done : IsDone kind shared job.seat talk

@@ -7,7 +7,7 @@ use Rattle.served_clients.specs.ClientRuns.{AreMatched, IsRun, told_own}
 use Rattle.served_clients.specs.Seats.{IsDone}
 use Rattle.served_clients.specs.Talks.{Talk}
 use Rattle.served_clients.specs.declared.client_seats.seats.Seat.{Seat}
-use Rattle.line_answers.specs.declared.shared.Shared.{Shared}
+use Rattle.line_answers.specs.turns.declared.shared.Shared.{Shared}
 use Rattle.line_sessions.specs.Ends.{Passes, Scene as SessionScene, Streams}
 use Rattle.line_sessions.specs.Proofs.{is_wanted}
 use Rattle.line_sessions.specs.declared.sessions.Ended.{Ended}
@@ -24,7 +24,7 @@ pub record IsSession {D Src Snk Btw L : Type 0} (kind : Rules L) (shared : Share
     (streams : Streams Src Snk) (ended : Ended) (old new : SessionScene (Seat D Btw L) Src Snk)
     : Type 0 where
   pub talk : Talk
-  pub name : talk.name ≡ old.desk.client.name
+  pub name : talk.name ≡ old.desk.guest.client.name
   pub rules : talk.rules ≡ stand kind old.desk.rules.items
   pub proves : talk.proves ≡ is_wanted old.proofs
   pub passes : Passes streams ended talk.traffic

@@ -29,7 +29,7 @@ pub fn serve_client<'a, R: Wait, D: Disk, S: Source, T: Sink, B: Between + Drop,
     proofs: &mut Proofs<T>,
 ) -> Ended
     requires taken { IsTaken shared.now seat.old }
-    requires proves { seat.old.proves ≡ is_wanted proofs.old }
+    requires proves { seat.old.guest.proves ≡ is_wanted proofs.old }
     ensures seated { IsSeated seat.new }
     ensures answered { Ends (AnswersAt L.Rule) (streams S.left S.faults T.held T.faults) result
         (scene seat.old source.old sink.old proofs.old)

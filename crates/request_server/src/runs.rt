@@ -14,7 +14,7 @@ ghost use Rattle.served_clients.specs.ClientRuns.{AreMatched};
 ghost use Rattle.served_clients.specs.Seats.{found_at, IsBack};
 ghost use Rattle.served_clients.specs.Talks.{Talk as talk_type};
 ghost use Rattle.served_clients.specs.turns.Turns.{IsReady, timetable_at};
-ghost use Rattle.line_answers.specs.Sharing.{IsShared};
+ghost use Rattle.line_answers.specs.turns.Sharing.{IsShared};
 ghost use Rattle.line_sessions.specs.Ends.{streams};
 ghost use Rattle.served_clients.specs.book.Footings.{footing_of};
 ghost use Rattle.served_clients.specs.book.Ledgers.{settled_of};

@@ -6,7 +6,7 @@ use Rattle.line_answers.specs.gate.Views.{own, rises}
 use Rattle.admission_rules.specs.Ruled.{stand}
 use Rattle.line_answers.specs.turns.Turns.{IsReady, timetable_at}
 use Rattle.line_answers.specs.Callers.{caller_of}
-use Rattle.line_answers.specs.declared.shared.Shared.{Shared}
+use Rattle.line_answers.specs.turns.declared.shared.Shared.{Shared}
 use Rattle.line_sessions.specs.Ends.{Traffic}
 use Rattle.line_sessions.specs.Told.{AreAnswered, Told}
 use Rattle.served_clients.specs.declared.client_seats.seats.Seat.{Seat}
@@ -17,7 +17,7 @@ use Rattle.served_clients.proofs.Replies.{seat_callers, Seated, seated_all, talk
 module _ {D Btw L : Type 0} (kind : Rules L) (shared : Shared D) where
   -- this passed at a seat that was taken so
   abbrev pub talk_at : Seat D Btw L → Traffic → Talk
-  talk_at seat traffic = record { name = seat.client.name; rules = stand kind seat.rules.items; proves = seat.proves; traffic = traffic }
+  talk_at seat traffic = record { name = seat.guest.client.name; rules = stand kind seat.rules.items; proves = seat.guest.proves; traffic = traffic }
 
   pub seat_done : (old new : Seat D Btw L) (traffic : Traffic) → IsTaken shared old → IsSeated new
       → AreAnswered (AnswersAt kind) 1 traffic.told old new → IsDone kind shared new (talk_at old traffic)
@@ -27,19 +27,19 @@ module _ {D Btw L : Type 0} (kind : Rules L) (shared : Shared D) where
       let seated : Seated kind old new (seat_callers kind old) told = seated_all kind old new told answered in
       let serves = seated.serving.serves in
       let gate : new.shared.now ≡ shared = ap (λ s. s.now) seated.shared ∙ taken.shared_is in
-      let callers : seat_callers kind old ≡ callers_at shared old.client.name =
-      ap {A = Shared D} {B = Callers} (λ s number its. caller_of s its old.client.name number) taken.shared_is in record {
+      let callers : seat_callers kind old ≡ callers_at shared old.guest.client.name =
+      ap {A = Shared D} {B = Callers} (λ s number its. caller_of s its old.guest.client.name number) taken.shared_is in record {
         back = record {
-          ready = subst (λ (s : Shared D). IsReady s.gate new.pass) gate sound.ready;
+          ready = subst (λ (s : Shared D). IsReady s.gate new.guest.pass) gate sound.ready;
           share = serves.share ∙ taken.share;
         };
         proves = sym seated.proves;
         told = seated.serving.ruled;
-        replies = subst (λ (n : ℕ). IsTalk (view new.pass).seen (callers_at shared old.client.name) n rules told) (ap length taken.seen)
-            (subst (λ (c : Callers). IsTalk (view new.pass).seen c (length (view old.pass).seen) rules told) callers
-            (talk_of (view old.pass) (view new.pass) (seat_callers kind old) rules (stand kind new.rules.items) told seated.serving));
-        proved = subst (λ (n : ℕ). AreProved (view new.pass).seen shared.known (timetable_at shared.gate) old.proves n told) (ap length taken.seen)
-            (subst (λ (s : Shared D). AreProved (view new.pass).seen s.known (timetable_at s.gate) old.proves (length (view old.pass).seen) told) taken.shared_is seated.proved);
+        replies = subst (λ (n : ℕ). IsTalk (view new.guest.pass).seen (callers_at shared old.guest.client.name) n rules told) (ap length taken.seen)
+            (subst (λ (c : Callers). IsTalk (view new.guest.pass).seen c (length (view old.guest.pass).seen) rules told) callers
+            (talk_of (view old.guest.pass) (view new.guest.pass) (seat_callers kind old) rules (stand kind new.rules.items) told seated.serving));
+        proved = subst (λ (n : ℕ). AreProved (view new.guest.pass).seen shared.known (timetable_at shared.gate) old.guest.proves n told) (ap length taken.seen)
+            (subst (λ (s : Shared D). AreProved (view new.guest.pass).seen s.known (timetable_at s.gate) old.guest.proves (length (view old.guest.pass).seen) told) taken.shared_is seated.proved);
         own_entries = serves.own_entries ∙ ap (λ ts. own ts ++ printed told) taken.turns;
         counts = λ below. let all = serves.counts below in let none = ap rises taken.turns in omega arith;
         told_so = serves.told_so taken.turns;

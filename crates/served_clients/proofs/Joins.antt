@@ -13,7 +13,7 @@ use Rattle.line_answers.specs.gate.Steps.{joining}
 use Rattle.line_answers.specs.gate.Views.{StartsWith, own, rises}
 use Rattle.line_answers.specs.turns.Turns.{Sight, timetable_at}
 use Rattle.line_answers.specs.Calls.{IsToldIn}
-use Rattle.line_answers.specs.declared.shared.Shared.{Shared}
+use Rattle.line_answers.specs.turns.declared.shared.Shared.{Shared}
 use Rattle.rail_types.specs.declared.entries.Entry.{Entry}
 use Rattle.served_clients.specs.Joins.{AreJoined, AreProofsOf, IsTalkOf}
 use Rattle.served_clients.specs.Seats.{callers_at, found_at}

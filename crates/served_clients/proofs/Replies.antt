@@ -23,7 +23,7 @@ use Rattle.line_answers.specs.Calls.{AnswersBetween, EndInFault, IsToldIn, Settl
 use Rattle.line_answers.specs.Points.{added, fault, point, unsettled_by}
 use Rattle.line_answers.specs.Proved.{IsProvedBetween}
 use Rattle.line_answers.specs.Rules.{told_by}
-use Rattle.line_answers.specs.declared.shared.Shared.{Shared}
+use Rattle.line_answers.specs.turns.declared.shared.Shared.{Shared}
 use Rattle.line_sessions.specs.Told.{AreAnswered, Told}
 use Rattle.rail_types.specs.declared.entries.Entry.{Entry}
 use Rattle.client_lines.specs.declared.reply_texts.replies.Reply.{Reply}
@@ -193,14 +193,14 @@ module _ {D Btw L : Type 0} (kind : Rules L) where
   -- what a whole session of a seat says
   pub record Seated (old new : Seat D Btw L) (callers : Callers) (told : List Told) : Type 0 where
     pub shared : new.shared ≡ old.shared
-    pub name : new.client.name ≡ old.client.name
-    pub proves : new.proves ≡ old.proves
-    pub proved : AreProved (view new.pass).seen old.shared.now.known (timetable_at old.shared.now.gate) old.proves (length (view old.pass).seen) told
-    pub serving : Serving (view old.pass) (view new.pass) callers (stand kind old.rules.items) (stand kind new.rules.items) told
+    pub name : new.guest.client.name ≡ old.guest.client.name
+    pub proves : new.guest.proves ≡ old.guest.proves
+    pub proved : AreProved (view new.guest.pass).seen old.shared.now.known (timetable_at old.shared.now.gate) old.guest.proves (length (view old.guest.pass).seen) told
+    pub serving : Serving (view old.guest.pass) (view new.guest.pass) callers (stand kind old.rules.items) (stand kind new.rules.items) told
 
   -- the callers of a seat's lines
   abbrev pub seat_callers : Seat D Btw L → Callers
-  seat_callers seat = λ number rules. caller_of seat.shared.now rules seat.client.name number
+  seat_callers seat = λ number rules. caller_of seat.shared.now rules seat.guest.client.name number
 
   seated_more : (old mid new : Seat D Btw L) (before told : List Told) (number : ℕ) → Seated old mid (seat_callers old) before
       → number ≡ 1 + length before → AreAnswered (AnswersAt kind) number told mid new → Seated old new (seat_callers old) (before ++ told)
@@ -210,23 +210,23 @@ module _ {D Btw L : Type 0} (kind : Rules L) where
   seated_more old mid new before (one ∷ told) number so is all =
       let step : AnswersAt kind mid number one.line one.reply one.proof all.0 = all.1 in
       let rules : List Ruled = stand kind mid.rules.items in
-      let caller : caller_of mid.shared.now rules mid.client.name number ≡ seat_callers old number rules =
-      ap (λ s. caller_of s.now rules mid.client.name number) so.shared ∙ ap (λ n. caller_of old.shared.now rules n number) so.name in
-      let between = subst (λ c. AnswersBetween c one.line one.reply (view mid.pass) (view all.0.pass)) caller step.between in
-      let shared : Shared D = old.shared.now in let seen : List Entry = (view all.0.pass).seen in
-      let least : ℕ = length (view old.pass).seen in
-      let shows : IsProvedBetween shared.known (timetable_at shared.gate) old.proves one.line one.reply one.proof (view mid.pass) (view all.0.pass) =
-      subst (λ p. IsProvedBetween shared.known (timetable_at shared.gate) p one.line one.reply one.proof (view mid.pass) (view all.0.pass)) so.proves
-      (subst (λ s. IsProvedBetween s.now.known (timetable_at s.now.gate) mid.proves one.line one.reply one.proof (view mid.pass) (view all.0.pass)) so.shared step.proved) in
+      let caller : caller_of mid.shared.now rules mid.guest.client.name number ≡ seat_callers old number rules =
+      ap (λ s. caller_of s.now rules mid.guest.client.name number) so.shared ∙ ap (λ n. caller_of old.shared.now rules n number) so.name in
+      let between = subst (λ c. AnswersBetween c one.line one.reply (view mid.guest.pass) (view all.0.guest.pass)) caller step.between in
+      let shared : Shared D = old.shared.now in let seen : List Entry = (view all.0.guest.pass).seen in
+      let least : ℕ = length (view old.guest.pass).seen in
+      let shows : IsProvedBetween shared.known (timetable_at shared.gate) old.guest.proves one.line one.reply one.proof (view mid.guest.pass) (view all.0.guest.pass) =
+      subst (λ p. IsProvedBetween shared.known (timetable_at shared.gate) p one.line one.reply one.proof (view mid.guest.pass) (view all.0.guest.pass)) so.proves
+      (subst (λ s. IsProvedBetween s.now.known (timetable_at s.now.gate) mid.guest.proves one.line one.reply one.proof (view mid.guest.pass) (view all.0.guest.pass)) so.shared step.proved) in
       let next : Seated old all.0 (seat_callers old) (before ++ one ∷ []) = record {
         shared = step.shared ∙ so.shared;
         name = step.name ∙ so.name;
         proves = step.proves ∙ so.proves;
-        proved = proved_more shared.known (timetable_at shared.gate) seen old.proves least before one
-            (all_longer shared.known (timetable_at shared.gate) seen (view mid.pass).seen old.proves least before
-            (seen_longer (seat_callers old number rules) one.line one.reply (view mid.pass) (view all.0.pass) between) so.proved)
-            (proved_now shared.known (timetable_at shared.gate) old.proves (least_behind least before) one (view mid.pass) (view all.0.pass) so.serving.least shows);
-        serving = serving_more (view old.pass) (view mid.pass) (view all.0.pass) (seat_callers old) (stand kind old.rules.items) rules (stand kind all.0.rules.items) one before number so.serving is between step.ruled;
+        proved = proved_more shared.known (timetable_at shared.gate) seen old.guest.proves least before one
+            (all_longer shared.known (timetable_at shared.gate) seen (view mid.guest.pass).seen old.guest.proves least before
+            (seen_longer (seat_callers old number rules) one.line one.reply (view mid.guest.pass) (view all.0.guest.pass) between) so.proved)
+            (proved_now shared.known (timetable_at shared.gate) old.guest.proves (least_behind least before) one (view mid.guest.pass) (view all.0.guest.pass) so.serving.least shows);
+        serving = serving_more (view old.guest.pass) (view mid.guest.pass) (view all.0.guest.pass) (seat_callers old) (stand kind old.rules.items) rules (stand kind all.0.rules.items) one before number so.serving is between step.ruled;
       } in
       let long = length_push before one in
       subst (Seated old new (seat_callers old)) (append_assoc before (one ∷ []) told)
@@ -235,7 +235,7 @@ module _ {D Btw L : Type 0} (kind : Rules L) where
   -- the answers of a seat, from its first line on, are a session over what its pass has seen at the end
   pub seated_all : (old new : Seat D Btw L) (told : List Told) → AreAnswered (AnswersAt kind) 1 told old new → Seated old new (seat_callers old) told
   seated_all old new told all =
-      seated_more old old new [] told 1 (record { shared = refl; name = refl; proves = refl; proved = tt; serving = serving_none (view old.pass) (seat_callers old) (stand kind old.rules.items) }) refl all
+      seated_more old old new [] told 1 (record { shared = refl; name = refl; proves = refl; proved = tt; serving = serving_none (view old.guest.pass) (seat_callers old) (stand kind old.rules.items) }) refl all
 
 pub talk_of : (v w : Sight) (callers : Callers) (first last : List Ruled) (told : List Told) → Serving v w callers first last told → IsTalk w.seen callers (length v.seen) first told
 talk_of v w callers first last told so = record { given = so.given; points = so.rise }

@@ -15,7 +15,7 @@ use Rattle.line_answers.specs.gate.Views.{StartsWith, IsChain, positions, own, r
 use Rattle.line_answers.proofs.gate_lemmas.Turns.{IsWithin, chain_all}
 use Rattle.line_answers.specs.turns.Turns.{Sight, timetable_at}
 use Rattle.line_answers.specs.history.Legal.{IsLegal}
-use Rattle.line_answers.specs.declared.shared.Shared.{Shared}
+use Rattle.line_answers.specs.turns.declared.shared.Shared.{Shared}
 use Rattle.line_answers.specs.book.declared.stands.Footing.{Footing}
 use Rattle.line_answers.specs.book.Ledgers.{Ledger, settled_of}
 use Rattle.rail_types.specs.declared.entries.Entry.{Entry}

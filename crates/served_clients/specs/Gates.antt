@@ -5,8 +5,8 @@ use Rattle.line_answers.specs.gate.Passes.{opened, turns_given, turns_left, view
 use Rattle.client_lines.specs.Names.{Names}
 use Rattle.line_answers.specs.turns.Clients.{IsCopyOf}
 use Rattle.line_answers.specs.turns.Turns.{IsReady}
-use Rattle.line_answers.specs.declared.shared.Shared.{Shared}
-use Rattle.line_answers.specs.Sharing.{IsShared}
+use Rattle.line_answers.specs.turns.declared.shared.Shared.{Shared}
+use Rattle.line_answers.specs.turns.Sharing.{IsShared}
 use Rattle.line_answers.specs.book.declared.stands.Footing.{Footing}
 use Rattle.line_answers.specs.book.Ledgers.{Ledger}
 use Rattle.rail_types.specs.declared.entries.Entry.{Entry}

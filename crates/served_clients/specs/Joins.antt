@@ -3,7 +3,7 @@ use Rattle.std.specs.Prelude.{ℕ, ◌≤◌, All, List, flat_map, length, sum_b
 use Rattle.line_answers.specs.gate.Views.{StartsWith, own, rises}
 use Rattle.line_answers.specs.turns.Turns.{Sight, timetable_at}
 use Rattle.line_answers.specs.Calls.{IsToldIn}
-use Rattle.line_answers.specs.declared.shared.Shared.{Shared}
+use Rattle.line_answers.specs.turns.declared.shared.Shared.{Shared}
 use Rattle.rail_types.specs.declared.entries.Entry.{Entry}
 use Rattle.served_clients.specs.Seats.{callers_at, found_at}
 use Rattle.served_clients.specs.Talks.{AreBelowEnd, AreProved, AreSettledWithin, faults, IsTalk}

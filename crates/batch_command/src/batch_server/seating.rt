@@ -12,7 +12,7 @@ ghost use Rattle.served_clients.specs.Seats.{found_at, IsBack, IsDone};
 ghost use Rattle.served_clients.specs.Talks.{Talk as talk_type};
 ghost use Rattle.served_clients.specs.declared.client_seats.gates.TheConstants.{TURNS_OF_A_CLIENT};
 ghost use Rattle.served_clients.specs.turns.Turns.{IsReady, timetable_at};
-ghost use Rattle.served_clients.specs.answers.Sharing.{IsShared};
+ghost use Rattle.served_clients.specs.turns.Sharing.{IsShared};
 ghost use Rattle.rail_types.specs.Limits.{IsClientName};
 ghost use Rattle.rail_types.specs.declared.entries.Entry.{Entry as entry_type};
 
@@ -157,13 +157,13 @@ fn leave<'a, D: Disk, B: Between + Drop, L: Rule>(
     requires back { IsBack shared.now clerk.seat }
     ensures ready { IsReady shared.now.gate pass.new }
     ensures share { (view pass.new).share ≡ (view pass.old).share + TURNS_OF_A_CLIENT }
-    ensures turns { (view clerk.entry.seat.pass).turns ≡ []
+    ensures turns { (view clerk.entry.seat.guest.pass).turns ≡ []
         → (view pass.new).turns ≡ (view pass.old).turns }
     ensures worked { result ≡ worked_of clerk.entry }
     ensures seen { (history : list_of entry_type)
         → All (λ list. StartsWith history list) (view pass.new).joined
         → All (λ list. StartsWith history list) (view pass.old).joined
-        × StartsWith history (view clerk.entry.seat.pass).seen }
+        × StartsWith history (view clerk.entry.seat.guest.pass).seen }
     ensures joined { (talks : list_of talk_type) (talk : talk_type)
         → AreJoined shared.now (view pass.old) talks
         → IsDone L.Rule shared.now clerk.entry.seat talk

@@ -14,7 +14,7 @@ ghost use Rattle.served_clients.specs.ClientRuns.{IsRun, told_own};
 ghost use Rattle.served_clients.specs.Seats.{found_at, IsBack, IsDone, IsTaken};
 ghost use Rattle.served_clients.specs.Talks.{Talk as talk_type};
 ghost use Rattle.line_answers.specs.turns.Turns.{IsReady, timetable_at};
-ghost use Rattle.line_answers.specs.Sharing.{IsShared};
+ghost use Rattle.line_answers.specs.turns.Sharing.{IsShared};
 ghost use Rattle.line_answers.specs.book.Footings.{footing_of};
 ghost use Rattle.line_answers.specs.book.Ledgers.{settled_of};
 ghost use Rattle.rail_types.specs.declared.entries.Entry.{Entry as entry_type};
@@ -29,6 +29,7 @@ use line_answers::Shared;
 use line_answers::book::Book;
 use line_answers::gate::{Gate, Pass};
 use line_answers::tails::Followers;
+use line_answers::turns::Guest;
 use no_memory::NoMemory;
 use outside_io::{Between, Disk};
 use rail_types::networks_without_flaws;
@@ -100,21 +101,24 @@ pub fn take_seat<'a, D: Disk, B: Between + Drop, L: Rule>(
     ensures host { IsHost shared.now pass.new }
     ensures share { (view pass.new).share + TURNS_OF_A_CLIENT ≡ (view pass.old).share }
     ensures taken { IsTaken shared.now result }
-    ensures name { result.client.name ≡ newcomer.client.name }
-    ensures between { result.between ≡ between }
-    ensures proves { result.proves ≡ proves }
+    ensures name { result.guest.client.name ≡ newcomer.client.name }
+    ensures between { result.guest.between ≡ between }
+    ensures proves { result.guest.proves ≡ proves }
     ensures rules { stand L.Rule result.rules.items ≡ told_own (found_at shared.now.gate)
         newcomer.client.name (stand L.Rule rules.items) }
 {
     let Newcomer { client, tellings } = newcomer;
     let pass = shared.gate.split(pass, TURNS_OF_A_CLIENT);
-    Seat {
-        shared,
+    let guest = Guest {
         pass,
         client,
         between,
-        rules: told(rules, &tellings),
         proves,
+    };
+    Seat {
+        shared,
+        guest,
+        rules: told(rules, &tellings),
     }
 }
 
@@ -128,25 +132,28 @@ pub fn leave_seat<'a, D: Disk, B: Between + Drop, L: Rule>(
     requires back { IsBack shared.now seat }
     ensures ready { IsReady shared.now.gate pass.new }
     ensures share { (view pass.new).share ≡ (view pass.old).share + TURNS_OF_A_CLIENT }
-    ensures turns { (view seat.entry.pass).turns ≡ []
+    ensures turns { (view seat.entry.guest.pass).turns ≡ []
         → (view pass.new).turns ≡ (view pass.old).turns }
     ensures rules { result ≡ seat.entry.rules }
     ensures seen { (history : List entry_type)
         → All (λ list. StartsWith history list) (view pass.new).joined
         → All (λ list. StartsWith history list) (view pass.old).joined
-        × StartsWith history (view seat.entry.pass).seen }
+        × StartsWith history (view seat.entry.guest.pass).seen }
     ensures joined { (talks : List talk_type) (talk : talk_type)
         → AreJoined shared.now (view pass.old) talks → IsDone L.Rule shared.now seat.entry talk
         → AreJoined shared.now (view pass.new) (talks ++ talk ∷ []) }
 {
     let Seat {
-        pass: other,
         shared: _shared,
+        guest,
+        rules,
+    } = seat;
+    let Guest {
+        pass: other,
         client: _client,
         between: _between,
-        rules,
         proves: _proves,
-    } = seat;
+    } = guest;
     shared.gate.join(pass, other);
     rules
 }

@@ -6,33 +6,24 @@ ghost use Rattle.served_clients.specs.Seats.{AnswersAt, IsSeated};
 
 use admission_rules::Rule;
 use client_lines::reply_texts::Reply;
-use line_answers::book::Book;
 use line_answers::bytes::Buffer;
-use line_answers::gate::Pass;
-use line_answers::turns::client_turns::Client;
-use line_answers::{Shared, answer_one};
+use line_answers::turns::Guest;
+use line_answers::{Received, Shared, answer_one};
 use line_sessions::Desk;
 use no_memory::NoMemory;
 use outside_io::{Between, Disk};
 use std::alloc::Global;
 use std::sync::Wait;
 
-/// A client with its pass at the gate that it shares, what happens between its searches, its rules,
-/// and whether it wants the proofs that go along with its replies.
+/// A client as a guest at the gate that it shares, and its rules.
 #[derive(Drop)]
 pub struct Seat<'a, D: Disk, B: Between, L: Rule> {
     #[doc(hidden)]
     pub shared: &'a Shared<D>,
     #[doc(hidden)]
-    pub pass: Pass<Book<D>>,
-    #[doc(hidden)]
-    pub client: Client,
-    #[doc(hidden)]
-    pub between: B,
+    pub guest: Guest<D, B>,
     #[doc(hidden)]
     pub rules: Vec<L>,
-    #[doc(hidden)]
-    pub proves: bool,
 }
 
 /// Each line takes at most four turns.
@@ -40,7 +31,7 @@ impl<'a, D: Disk, B: Between, L: Rule> Desk for Seat<'a, D, B, L> {
     ghost answers = { λ old number line told proof new.
         AnswersAt L.Rule old number line told proof new };
 
-    ghost lines_left = { λ seat. turns_left seat.pass / 4 };
+    ghost lines_left = { λ seat. turns_left seat.guest.pass / 4 };
 
     ghost is_sound = { λ seat. IsSeated seat };
 
@@ -53,19 +44,19 @@ impl<'a, D: Disk, B: Between, L: Rule> Desk for Seat<'a, D, B, L> {
         text: &mut Buffer,
         proof: &mut Buffer,
     ) -> Result<Reply, NoMemory> {
+        let received = Received {
+            number: line_number,
+            bytes: line,
+        };
         answer_one(
             rt,
             alloc,
             self.shared,
-            &mut self.pass,
-            &mut self.client,
+            &mut self.guest,
             self.rules.as_mut_slice(),
-            line_number,
-            line,
+            &received,
             text,
-            self.proves,
             proof,
-            &mut self.between,
         )
     }
 }

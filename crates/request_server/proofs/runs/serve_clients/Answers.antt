@@ -6,7 +6,7 @@ use Rattle.served_clients.specs.Gates.{IsNewcomer}
 use Rattle.served_clients.specs.ClientRuns.{AreMatched, IsRun}
 use Rattle.served_clients.specs.Talks.{Talk}
 use Rattle.served_clients.specs.declared.client_seats.newcomers.Newcomer.{Newcomer}
-use Rattle.line_answers.specs.declared.shared.Shared.{Shared}
+use Rattle.line_answers.specs.turns.declared.shared.Shared.{Shared}
 use Rattle.line_sessions.specs.Ends.{streams}
 use Rattle.served_clients.specs.book.Ledgers.{Ledger, settled_of}
 use Rattle.request_server.specs.declared.jobs.Job.{Job}

@@ -13,7 +13,7 @@ use Rattle.served_clients.specs.Gates.{IsNewcomer}
 use Rattle.served_clients.specs.ClientRuns.{AreMatched as AreMatched3, IsRun}
 use Rattle.served_clients.specs.Talks.{Talk}
 use Rattle.served_clients.specs.declared.client_seats.newcomers.Newcomer.{Newcomer}
-use Rattle.served_clients.specs.answers.declared.shared.Shared.{Shared}
+use Rattle.served_clients.specs.turns.declared.shared.Shared.{Shared}
 use Rattle.served_clients.specs.book.Ledgers.{Ledger}
 use Rattle.batch_command.proofs.Matched.{apart_alike, matched_all, matched_length}
 use Rattle.batch_command.proofs.batch_server.lists.answer_list.Goals as goal

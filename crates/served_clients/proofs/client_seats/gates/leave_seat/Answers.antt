@@ -6,11 +6,11 @@ use Rattle.served_clients.proofs.client_seats.gates.leave_seat.Goals as goal
 
 pub returns-clause-seen : goal.returns-clause-seen
 returns-clause-seen g c history ends =
-    joined_parts (λ list. StartsWith history list) (view c.args.pass.now) (view c.args.seat.pass) (view c.join.new.into) c.join.ensures.joined ends
+    joined_parts (λ list. StartsWith history list) (view c.args.pass.now) (view c.args.seat.guest.pass) (view c.join.new.into) c.join.ensures.joined ends
 
 pub returns-clause-joined : goal.returns-clause-joined
 returns-clause-joined g c talks talk joined done =
-    joined_more c.args.shared.now (view c.args.pass.now) (view c.args.seat.pass) (view c.join.new.into) talks talk
+    joined_more c.args.shared.now (view c.args.pass.now) (view c.args.seat.guest.pass) (view c.join.new.into) talks talk
     joined done.replies done.proved done.own_entries done.counts done.told_so done.settled
     c.join.ensures.joined c.join.ensures.turns c.join.ensures.own_entries c.join.ensures.rises
 
