@@ -155,13 +155,21 @@ class Door:
         return self.plan.folder / f"{client}.sock"
 
     async def _open(self, client: str) -> asyncio.Server:
-        """The client's socket, which nobody else can use from the moment at which it is there."""
+        """The client's socket, which nobody else can use from the moment at which it is there.
+
+        It gets its name once it listens, so that nobody who finds it there is turned away.
+        """
         path, owner = self._path(client), self.plan.sockets[client]
+        unnamed = path.with_name(f".{client}")
         _clear(path)
+        _clear(unnamed)
         listener = socket.socket(socket.AF_UNIX)
         mask = os.umask(0o177)
         try:
-            listener.bind(str(path))
+            listener.bind(str(unnamed))
+            listener.listen()
+            os.link(unnamed, path)
+            unnamed.unlink()
         except OSError as wrong:
             raise Refused(path, "", wrong.strerror or str(wrong)) from None
         finally:
