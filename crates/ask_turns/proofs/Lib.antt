@@ -2,6 +2,7 @@ pub mod Alike
 pub mod CertificatePlaces
 pub mod Passing
 pub mod Copies
+pub mod Courses
 pub mod Judged
 pub mod Searching
 pub mod Short

@@ -5,6 +5,7 @@ ghost use Rattle.label_search.specs.Plans.{IsPlan};
 ghost use Rattle.label_search.specs.Sought.{IsSearched, IsSought};
 ghost use Rattle.label_search.specs.Limits.{IsConsistent, IsLimits};
 
+use crate::lent::LentPlan;
 use crate::limits::{Limits, no_limits};
 use crate::paths::path_to;
 use crate::plans::{Member, Plan, Step, Trip};
@@ -36,12 +37,13 @@ pub fn search(
     requires consistent { IsConsistent plan.now limits.ahead }
     ensures { IfOk result (IsSearched plan.now trip.now book.now limits) }
 {
-    let search = explore_all(alloc, plan, book, trip, limits)?;
+    let lent = LentPlan::listed(plan);
+    let search = explore_all(alloc, &lent, book, trip, limits)?;
     let members = List::from_vec(search.labels.members(alloc)?);
     let Some(ending) = search.best else {
         return Ok(Sought::NoPath(members));
     };
-    let steps = path_to(alloc, plan, book, trip, &search, &ending)?;
+    let steps = path_to(alloc, &lent, book, trip, &search, &ending)?;
     Ok(Sought::Found(steps, members))
 }
 

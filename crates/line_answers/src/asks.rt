@@ -1,12 +1,14 @@
 //! A path that is sought: what its number stands for, and then its searches.
-ghost use Rattle.std.specs.Prelude.{◌≡◌, ◌+◌, ◌⊎◌, ◌≤◌, IfOk};
+ghost use Rattle.std.specs.Prelude.{◌≡◌, ◌+◌, ◌⊎◌, ◌≤◌, IfErr, IfOk, IfSome};
 ghost use Rattle.book_gate.specs.Passes.{turns_left, view};
 ghost use Rattle.client_lines.specs.Within.{IsAskWithin};
 ghost use Rattle.client_lines.specs.declared.asks.Ask.TheVariants.{Path as path_of};
-ghost use Rattle.rail_types.specs.Limits.{IsClientName};
+ghost use Rattle.path_labels.specs.Courses.{IsCourse};
+ghost use Rattle.rail_types.specs.Limits.{IsClientName, IsRequestWithinLimits};
 ghost use Rattle.rail_types.specs.declared.entries.Deed.TheVariants.{Grant};
 ghost use Rattle.rail_types.specs.declared.entries.Wanted.TheVariants.{Asked};
 ghost use Rattle.rail_types.specs.declared.paths.Path.{Path as path_type};
+ghost use Rattle.ask_turns.specs.tails.Listed.{Refuses};
 ghost use Rattle.client_lines.specs.Rooms.{room_for};
 ghost use Rattle.ask_turns.specs.Clients.{IsCopyOf, Knows};
 ghost use Rattle.ask_turns.specs.Turns.{IsReady, timetable_at};
@@ -27,6 +29,7 @@ use client_lines::reply_texts::Reply;
 use no_memory::NoMemory;
 use outside_io::{Between, Disk};
 use path_commit::Book;
+use path_labels::{Course, courses_have_the_places};
 use proof_texts::asks_can_be_told;
 use rail_types::{Deed, List, Network, Path, Request, Wanted};
 use std::alloc::Global;
@@ -136,11 +139,9 @@ fn seek_path<R: Wait, D: Disk, B: Between>(
     ensures held { text.new.held ≡ text.old.held }
     ensures room { HasRoomIn text.new result ⊎ AddsNothing result }
 {
-    asks_can_be_told();
-    sound_networks_are_asked();
-    let net = network_of(shared);
-    let places = match places(alloc, net, &shared.followers, &request) {
-        Ok(places) => places,
+    let kept = client.take_course(&request);
+    let course = match course_of(alloc, shared, kept, &request) {
+        Ok(course) => course,
         Err(PlacesFault::Wide { count: _count }) => {
             return Reply::Wide {
                 number,
@@ -153,8 +154,91 @@ fn seek_path<R: Wait, D: Disk, B: Between>(
         number,
         line: line_number,
         request,
-        places,
+        course,
     };
+    let reply = search_along(
+        rt, alloc, shared, pass, client, &ask, text, proves, proof, between,
+    );
+    client.keep_course(ask.request, ask.course);
+    reply
+}
+
+// The course of a request: the one that was kept for such a request, or else it is worked out.
+fn course_of<D: Disk>(
+    alloc: Global,
+    shared: &Shared<D>,
+    kept: Option<Course>,
+    request: &Request,
+) -> Result<Course, PlacesFault>
+    requires shared { IsShared shared.now }
+    requires request { IsRequestWithinLimits request.now }
+    requires kept { IfSome kept (IsCourse (timetable_at shared.now.gate).net
+        (timetable_at shared.now.gate).settings request.now) }
+    ensures course { IfOk result (IsCourse (timetable_at shared.now.gate).net
+        (timetable_at shared.now.gate).settings request.now) }
+    ensures wide { IfErr result (Refuses (timetable_at shared.now.gate).net request.now) }
+{
+    match kept {
+        Some(course) => Ok(course),
+        None => worked_out(alloc, shared, request),
+    }
+}
+
+// Works out the course of a request.
+fn worked_out<D: Disk>(
+    alloc: Global,
+    shared: &Shared<D>,
+    request: &Request,
+) -> Result<Course, PlacesFault>
+    requires shared { IsShared shared.now }
+    requires request { IsRequestWithinLimits request.now }
+    ensures course { IfOk result (IsCourse (timetable_at shared.now.gate).net
+        (timetable_at shared.now.gate).settings request.now) }
+    ensures wide { IfErr result (Refuses (timetable_at shared.now.gate).net request.now) }
+{
+    sound_networks_are_asked();
+    let net = network_of(shared);
+    let places = places(alloc, net, &shared.followers, request)?;
+    let course = Course::of(alloc, net, &shared.settings, request, places)?;
+    Ok(course)
+}
+
+// Searches a path by the course of its request, behind a turn in which the number was new.
+fn search_along<R: Wait, D: Disk, B: Between>(
+    rt: &R,
+    alloc: Global,
+    shared: &Shared<D>,
+    pass: &mut Pass<Book<D>>,
+    client: &mut Client,
+    ask: &Ask,
+    text: &mut Buffer,
+    proves: bool,
+    proof: &mut Buffer,
+    between: &mut B,
+) -> Reply
+    requires ready { IsReady shared.now.gate pass.old }
+    requires budget { 3 ≤ turns_left pass.old }
+    requires copy { IsCopyOf (timetable_at shared.now.gate) client.old (view pass.old).seen }
+    requires name { IsClientName client.old.name }
+    requires shared { IsShared shared.now }
+    requires within { IsAskWithin (timetable_at shared.now.gate).net
+        (path_of ask.now.number ask.now.request) }
+    requires course { IsCourse (timetable_at shared.now.gate).net
+        (timetable_at shared.now.gate).settings ask.now.request ask.now.course }
+    requires spare { room_for 0 ≤ text.old.spare }
+    ensures ready { IsReady shared.now.gate pass.new }
+    ensures budget { turns_left pass.old ≤ turns_left pass.new + 3 }
+    ensures name { client.new.name ≡ client.old.name }
+    ensures knows { Knows (timetable_at shared.now.gate) client.new (view pass.new).seen }
+    ensures answers { AnswersBehind shared.now client.old.name ask.now.line
+        ask.now.number ask.now.request result (view pass.old) (view pass.new) }
+    ensures shown { ShowsBehind shared.now proves ask.now.number ask.now.request result
+        proof.new.held (view pass.old) (view pass.new) }
+    ensures held { text.new.held ≡ text.old.held }
+    ensures room { HasRoomIn text.new result ⊎ AddsNothing result }
+{
+    asks_can_be_told();
+    courses_have_the_places();
     match try_searches(
         rt,
         alloc,
@@ -163,13 +247,13 @@ fn seek_path<R: Wait, D: Disk, B: Between>(
         &shared.settings,
         pass,
         client,
-        &ask,
+        ask,
         text,
         proves,
         proof,
         between,
     ) {
-        Ok(outcome) => ask_told(number, outcome, client.front()),
+        Ok(outcome) => ask_told(ask.number, outcome, client.front()),
         Err(halt) => halted(halt),
     }
 }

@@ -1,13 +1,13 @@
--- Rules of the three kinds, and those that words ask for.
+-- Rules of the three ghosts, and those that words ask for.
 use Rattle.std.specs.Prelude.{ℕ, List, [], ◌∷◌, map}
 use Rattle.admission_rules.specs.Senses.{Sense, curfew, longest, numbers_of, quota}
 use Rattle.admission_rules.specs.Tallies.{no_tally}
 use Rattle.admission_rules.specs.Ruled.{Ruled, ruled}
 use Rattle.admission_rules.specs.declared.client_rules.clients.ClientRules.{ClientRules}
-use Rattle.command_line.specs.declared.rule_words.kinds.RuleKind.{RuleKind}
-use Rattle.command_line.specs.declared.rule_words.kinds.RuleKind.TheVariants.{Quota as QuotaKind}
-use Rattle.command_line.specs.declared.rule_words.kinds.RuleKind.TheVariants.{Curfew as CurfewKind}
-use Rattle.command_line.specs.declared.rule_words.kinds.RuleKind.TheVariants.{
+use Rattle.command_line.specs.declared.rule_words.ghosts.RuleKind.{RuleKind}
+use Rattle.command_line.specs.declared.rule_words.ghosts.RuleKind.TheVariants.{Quota as QuotaKind}
+use Rattle.command_line.specs.declared.rule_words.ghosts.RuleKind.TheVariants.{Curfew as CurfewKind}
+use Rattle.command_line.specs.declared.rule_words.ghosts.RuleKind.TheVariants.{
   Longest as LongestKind,
 }
 use Rattle.command_line.specs.declared.rule_words.reading.RuleWord.{RuleWord}

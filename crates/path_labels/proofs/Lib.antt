@@ -7,4 +7,6 @@ pub mod Telling
 pub mod Steps
 pub mod PlanningPlaces
 pub mod Searching
+pub mod Keeping
+pub mod Narrow
 pub use Rattle.running_time.proofs as running_lemmas

@@ -2,6 +2,7 @@ pub mod Answers
 pub mod Joining
 pub mod Plans
 pub mod Searched
+pub mod Courses
 pub use Rattle.running_time.specs as running
 pub use Rattle.stair_pieces.specs as pieces
 pub use Rattle.tail_states.specs as tails

@@ -25,7 +25,7 @@ use rail_types::{Network, Path, Request, Settings};
 use std::alloc::Global;
 use tail_states::{Places, sound_networks_are_asked, windows_change_no_places};
 
-fn trip(request: &Request) -> Trip
+pub(crate) fn trip(request: &Request) -> Trip
     ensures { result ≡ trip_of request.now }
 {
     Trip {
@@ -35,7 +35,7 @@ fn trip(request: &Request) -> Trip
 }
 
 // The claims that a book holds have ticks.
-fn claims_have_ticks(book: &Occupations)
+pub(crate) fn claims_have_ticks(book: &Occupations)
     ensures { HoldsTicks book.now }
 {
     book.zones();

@@ -6,9 +6,11 @@ mod certificates;
 mod faults;
 mod interned;
 mod laws;
+mod listed_spots;
 mod listings;
 mod moves;
 mod searches;
+mod ways;
 
 pub use adjacency::Followers;
 pub use certificates::{Closed, Member};
@@ -17,6 +19,8 @@ pub use laws::{
     closed_members_exclude_paths, places_may_be_cut, sound_networks_are_asked,
     windows_change_no_places,
 };
+pub use listed_spots::{MAX_SPOTS, Spots, list_spots};
 pub use listings::Places;
 pub use moves::{Move, Next};
 pub use searches::places;
+pub use ways::Way;

@@ -1,7 +1,7 @@
 use Rattle.std.proofs.Common.{ℕ, ◌≡◌, ◌++◌, ◌∷◌, [], List, Some, All, length, map, reverse, ap, sym}
 use Rattle.std.proofs.Common.{◌∙◌, subst, arith, length-append}
 use Rattle.std.proofs.lemmas.List.{length-map, map-append}
-use Rattle.std.proofs.lemmas.List.Elements.{All-nil, All-pop, All-push}
+use Rattle.std.proofs.lemmas.List.Elements.{All-pop, All-push}
 use Rattle.admission_rules.specs.Ruled.{Ruled, stand}
 use Rattle.served_clients.specs.Gates.{IsNewcomer}
 use Rattle.served_clients.specs.ClientRuns.{told_own}
@@ -16,25 +16,6 @@ use Rattle.served_clients.specs.declared.plans.Plan.{Plan}
 use Rattle.request_server.specs.Jobs.{Begun, begun, begun_of, IsReadyJob}
 use Rattle.request_server.proofs.Matched.{snoc_same}
 use Rattle.request_server.proofs.runs.seat_all.Goals as goal
-
-pub loop-plan-init : goal.loop-plan-init
-loop-plan-init g c =
-    let D = g.row.D.Denot in let S = g.row.S.Denot in let T = g.row.T.Denot in let B = g.row.B.Denot in let L = g.row.L.Denot in
-    let kind = g.L.Rule in
-    let found : List Entry = found_at c.args.shared.now.gate in
-    let ready : Job D S T B L → Type 0 = IsReadyJob c.args.shared.now in
-    let f : Job D S T B L → Begun S T B = λ j. begun_of kind j in
-    let h : Plan S T B L → Begun S T B = λ p. begun kind found p in
-    let none = ap length c.requires.jobs in record {
-      host = c.requires.host;
-      share = c.requires.share;
-      names = c.requires.names;
-      newcomers = c.requires.newcomers;
-      jobs = subst (All ready) (sym c.requires.jobs) (All-nil ready);
-      room = let room = c.requires.room in omega arith;
-      count = omega arith;
-      begun = ap (λ l. map f l ++ reverse (map h c.args.plans.items)) c.requires.jobs;
-    }
 
 pub loop-plan-smaller : goal.loop-plan-smaller
 loop-plan-smaller g c =
