@@ -1,12 +1,18 @@
 -- What a client knows of the history.
-use Rattle.std.specs.Prelude.{◌≡◌, List, length}
+use Rattle.std.specs.Prelude.{◌≡◌, ◌≤◌, List, length}
 use Rattle.book_gate.specs.Views.{StartsWith}
 use Rattle.path_commit.specs.claims.Held.{held}
 use Rattle.path_commit.specs.history.Following.{AreLive}
 use Rattle.path_labels.specs.Courses.{AreCourses, AreFew, IsCourse}
 use Rattle.path_labels.specs.declared.course_searches.Course.{Course}
+use Rattle.path_labels.specs.declared.guides.Guide.{Guide}
+use Rattle.path_labels.specs.declared.kept_charts.TheConstants.{MAX_CHARTS}
+use Rattle.path_labels.specs.declared.train_charts.TrainChart.{TrainChart}
+use Rattle.path_labels.specs.Guides.{IsGuide}
+use Rattle.path_labels.specs.TrainCharts.{AreCharts, IsChartOf}
 use Rattle.rail_types.specs.declared.entries.Entry.{Entry}
 use Rattle.rail_types.specs.declared.trains.Request.{Request}
+use Rattle.rail_types.specs.declared.trains.Train.{Train}
 use Rattle.rail_types.specs.Timetables.{Timetable}
 use Rattle.ask_turns.specs.declared.client_turns.clients.Client.{Client}
 
@@ -18,6 +24,8 @@ pub record IsCopyOf (timetable : Timetable) (client : Client) (entries : List En
   pub live : AreLive timetable (held client.copy) entries
   pub courses : AreCourses timetable.net timetable.settings client.courses
   pub few : AreFew client.courses
+  pub charts : AreCharts timetable.net timetable.settings client.charts
+  pub few_charts : length client.charts ≤ MAX_CHARTS
 
 -- the copy is that of a beginning of what was seen
 abbrev pub Knows : Timetable → Client → List Entry → Type 0
@@ -38,9 +46,32 @@ StaysCopy before after =
     (timetable : Timetable) (entries : List Entry)
     → IsCopyOf timetable before entries → IsCopyOf timetable after entries
 
--- the same where the course of a request is put to those that it keeps
-abbrev pub StaysCopyWith : Request → Course → Client → Client → Type 0
-StaysCopyWith request course before after =
+-- the client has a copy of some entries by a timetable, and stays so
+abbrev pub HasCopy : Timetable → Client → Type 0
+HasCopy timetable client = (entries : List Entry) × IsCopyOf timetable client entries
+
+abbrev pub StaysCopyOf : Timetable → Client → Client → Type 0
+StaysCopyOf timetable before after =
+    (entries : List Entry) → IsCopyOf timetable before entries → IsCopyOf timetable after entries
+
+-- the same where what guided the search of a request is put to what it keeps
+abbrev pub StaysCopyWith : Request → Guide → Client → Client → Type 0
+StaysCopyWith request guide before after =
     (timetable : Timetable) (entries : List Entry)
-    → IsCourse timetable.net timetable.settings request course
+    → IsGuide timetable.net timetable.settings request guide
+    → IsCopyOf timetable before entries → IsCopyOf timetable after entries
+
+-- ---- charts that come and go
+
+-- by whatever timetable a client has a copy, one is the chart of the train
+abbrev pub IsChartFor : Client → Train → TrainChart → Type 0
+IsChartFor client train chart =
+    (timetable : Timetable) (entries : List Entry) → IsCopyOf timetable client entries
+    → IsChartOf timetable.net timetable.settings train chart
+
+-- what the client had a copy of, it has a copy of after, where a chart is put to those that it keeps
+abbrev pub StaysCopyWithChart : TrainChart → Client → Client → Type 0
+StaysCopyWithChart chart before after =
+    (timetable : Timetable) (entries : List Entry)
+    → IsChartOf timetable.net timetable.settings chart.train chart
     → IsCopyOf timetable before entries → IsCopyOf timetable after entries

@@ -6,6 +6,7 @@ ghost use Rattle.client_lines.specs.Within.{AreSound};
 ghost use Rattle.rail_types.specs.Limits.{IsClientName};
 ghost use Rattle.ask_turns.specs.Clients.{IsCopyOf, Knows};
 ghost use Rattle.ask_turns.specs.Turns.{IsReady, timetable_at};
+ghost use Rattle.path_labels.specs.Guides.{IsListed};
 ghost use Rattle.ask_turns.specs.Finds.{HasRoomFor, MayBeSearched};
 ghost use Rattle.ask_turns.specs.Shown.{Shows};
 ghost use Rattle.ask_turns.specs.Tries.{HasSearched, HasStopped, IsTheFront};
@@ -49,6 +50,7 @@ pub fn try_searches<R: Wait, D: Disk, B: Between>(
     requires net { known.now.railway.network ≡ (timetable_at gate.now).net }
     requires settings { settings.now ≡ (timetable_at gate.now).settings }
     requires may { MayBeSearched known.now.railway.network settings.now ask.now }
+    requires listed { IsTrue proves → IsListed ask.now.guide }
     ensures ready { IsReady gate.now pass.new }
     ensures budget { turns_left pass.old ≤ turns_left pass.new + 3 }
     ensures name { client.new.name ≡ client.old.name }

@@ -1,5 +1,6 @@
 -- A plan over the chart of a train: a place for each spot and each count of calls that are made.
-use Rattle.std.specs.Prelude.{ℕ, zero, suc, ◌+◌, ◌*◌, ◌/◌, ◌%◌, ℤ, pos, List, [], length, map}
+use Rattle.std.specs.Prelude.{ℕ, zero, suc, ◌+◌, ◌*◌, ◌/◌, ◌%◌, ◌^◌, ◌<◌, ℤ, pos, List, []}
+use Rattle.std.specs.Prelude.{All, length, map}
 use Rattle.std.specs.Prelude.{Bool, true, false, not, ◌&&◌, ◌||◌, filter, if◌then◌else◌, nat_eq, nat_le}
 use Rattle.std.specs.List.{list_any, range_with_len, slice_index_or}
 use Rattle.label_search.specs.declared.charts.Call.{Call}
@@ -125,3 +126,22 @@ made_at calls (suc number) = number % length calls
 abbrev pub way_at : List ChartSpot → List ChartWay → List Call → ℕ → ℕ → ChartWay
 way_at spots starts calls place number =
     way_among (call_at calls (made_at calls place)) (ways_at spots starts calls place) number
+
+-- the move of a number
+abbrev pub move_among : List Move → ℕ → Move
+move_among moves number =
+    slice_index_or moves number (record { target = End; run = pos 0; pieces = [] })
+
+-- each way leads to one of so many spots
+abbrev pub LeadWithin : ℕ → List ChartWay → Type 0
+LeadWithin count ways = All (λ way. way.next < count) ways
+
+-- each way of a chart, and each from the start, leads to a spot of the chart
+pub record IsWhole (spots : List ChartSpot) (starts : List ChartWay) : Type 0 where
+  pub starts_lead : LeadWithin (length spots) starts
+  pub ways_lead : All (λ spot. LeadWithin (length spots) spot.ways) spots
+
+-- there is a call, and no more places than have numbers
+pub record HasNumbers (spots : List ChartSpot) (calls : List Call) : Type 0 where
+  pub called : 0 < length calls
+  pub few : (length spots * length calls) < 2 ^ 31

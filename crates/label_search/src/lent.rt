@@ -1,15 +1,18 @@
 //! A plan as a search looks at it: one whose places are listed, or that of calls over a chart, of
 //! which each place and each move is worked out when it is looked at. Contracts see the whole plan.
 
-ghost use Rattle.std.specs.Prelude.{◌≡◌, ◌+◌, ◌<◌, ◌^◌, pos, length, All};
+ghost use Rattle.std.specs.Prelude.{◌≡◌, ◌<◌, pos, length};
 ghost use Rattle.label_search.specs.Charts.{
+  HasNumbers,
+  IsWhole,
+  LeadWithin,
   count_over,
   is_called as called_there,
   is_open as open_there,
   made_at,
+  move_among,
   move_over,
   moves_over,
-  number_at,
   open_among,
   open_ways,
   place_over,
@@ -18,23 +21,13 @@ ghost use Rattle.label_search.specs.Charts.{
   way_at as way_there,
   ways_at,
 };
-ghost use Rattle.label_search.specs.Lent.{HasNumbers, IsWhole, LeadWithin, move_among};
-ghost use Rattle.label_search.specs.Paths.{place_at as place_of};
+ghost use Rattle.label_search.specs.Paths.{move_at as move_of, place_at as place_of};
 
-use crate::charts::{Call, Chart, ChartSpot, ChartWay};
+use crate::chart_loans::{Charted, ChartedWays};
+use crate::charts::{Call, Chart, ChartWay};
 use crate::plans::{Move, Place, Plan, Target};
 use rail_types::{Claim, List, Tick};
 use std::marker::Model;
-
-// Calls over a chart, from the ways of the start.
-#[derive(Clone, Copy)]
-struct Charted<'a> {
-    spots: &'a [ChartSpot],
-    starts: &'a [ChartWay],
-    calls: &'a [Call],
-    ghost whole: { IsWhole spots.now starts.now },
-    ghost numbers: { HasNumbers spots.now calls.now },
-}
 
 #[derive(Clone, Copy)]
 enum Lender<'a> {
@@ -57,16 +50,6 @@ impl<'a> Model for LentPlan<'a> {
     ghost use Rattle.label_search.specs.Lent.{places_lent};
 
     ghost view = { λ a. record { places = places_lent a.lender; horizon = a.horizon } };
-}
-
-// The ways from a spot where so many of as many calls as there are levels are made.
-#[derive(Clone, Copy)]
-struct ChartedWays<'a> {
-    call: &'a Call,
-    ways: &'a [ChartWay],
-    levels: u32,
-    made: u32,
-    ghost few: { All (λ way. number_at levels way.next (made + 1) < 2 ^ 32) ways.now },
 }
 
 #[derive(Clone, Copy)]
@@ -161,6 +144,16 @@ impl<'a> LentPlan<'a> {
             lender: Lender::Charted(charted),
             horizon: i64::from(horizon),
         }
+    }
+
+    /// Where a move leads.
+    pub fn target(&self, place: u32, number: usize) -> Target
+        requires place { place < length self.now.places }
+        requires number { number < length (place_of self.now place).moves }
+        ensures { result ≡ (move_of self.now place number).target }
+    {
+        let one = self.place(place).moves.get(number);
+        one.target
     }
 
     /// How many places it has.

@@ -2,6 +2,7 @@
 #![tactic(auto)]
 
 mod bounding;
+mod chart_loans;
 mod charts;
 mod finds;
 mod firsts;

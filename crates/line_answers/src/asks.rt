@@ -1,16 +1,20 @@
 //! A path that is sought: what its number stands for, and then its searches.
-ghost use Rattle.std.specs.Prelude.{◌≡◌, ◌+◌, ◌⊎◌, ◌≤◌, IfErr, IfOk, IfSome};
+ghost use Rattle.std.specs.Prelude.{◌≡◌, ◌+◌, ◌⊎◌, ◌≤◌, IfErr, IfOk, IfSome, IsTrue};
 ghost use Rattle.book_gate.specs.Passes.{turns_left, view};
 ghost use Rattle.client_lines.specs.Within.{IsAskWithin};
 ghost use Rattle.client_lines.specs.declared.asks.Ask.TheVariants.{Path as path_of};
+ghost use Rattle.path_labels.specs.ChartCourses.{IsChartCourse};
 ghost use Rattle.path_labels.specs.Courses.{IsCourse};
+ghost use Rattle.path_labels.specs.Guides.{IsGuide, IsListed};
+ghost use Rattle.path_labels.specs.TrainCharts.{IsChartOf};
 ghost use Rattle.rail_types.specs.Limits.{IsClientName, IsRequestWithinLimits};
+ghost use Rattle.rail_types.specs.Limits.{IsTrainWithinLimits};
 ghost use Rattle.rail_types.specs.declared.entries.Deed.TheVariants.{Grant};
 ghost use Rattle.rail_types.specs.declared.entries.Wanted.TheVariants.{Asked};
 ghost use Rattle.rail_types.specs.declared.paths.Path.{Path as path_type};
 ghost use Rattle.ask_turns.specs.tails.Listed.{Refuses};
 ghost use Rattle.client_lines.specs.Rooms.{room_for};
-ghost use Rattle.ask_turns.specs.Clients.{IsCopyOf, Knows};
+ghost use Rattle.ask_turns.specs.Clients.{HasCopy, IsCopyOf, Knows, StaysCopyOf};
 ghost use Rattle.ask_turns.specs.Turns.{IsReady, timetable_at};
 ghost use Rattle.line_answers.specs.Asked.{AnswersBehind, HasRoomIn, asking};
 ghost use Rattle.line_answers.specs.Callers.{AnswersAllowed};
@@ -29,9 +33,9 @@ use client_lines::reply_texts::Reply;
 use no_memory::NoMemory;
 use outside_io::{Between, Disk};
 use path_commit::Book;
-use path_labels::{Course, courses_have_the_places};
+use path_labels::{ChartCourse, Course, Guide, TrainChart, guides_are_narrow};
 use proof_texts::asks_can_be_told;
-use rail_types::{Deed, List, Network, Path, Request, Wanted};
+use rail_types::{Deed, List, Network, Path, Request, Train, Wanted};
 use std::alloc::Global;
 use std::sync::Wait;
 
@@ -139,9 +143,8 @@ fn seek_path<R: Wait, D: Disk, B: Between>(
     ensures held { text.new.held ≡ text.old.held }
     ensures room { HasRoomIn text.new result ⊎ AddsNothing result }
 {
-    let kept = client.take_course(&request);
-    let course = match course_of(alloc, shared, kept, &request) {
-        Ok(course) => course,
+    let guide = match guide_of(alloc, shared, client, &request, proves) {
+        Ok(guide) => guide,
         Err(PlacesFault::Wide { count: _count }) => {
             return Reply::Wide {
                 number,
@@ -154,13 +157,116 @@ fn seek_path<R: Wait, D: Disk, B: Between>(
         number,
         line: line_number,
         request,
-        course,
+        guide,
     };
     let reply = search_along(
         rt, alloc, shared, pass, client, &ask, text, proves, proof, between,
     );
-    client.keep_course(ask.request, ask.course);
+    client.keep_guide(ask.request, ask.guide);
     reply
+}
+
+// What guides the search of a request: its course over the chart of its train, where one is kept or
+// the train was asked for before, and what is found needs not be shown; or else its course over
+// listed places.
+fn guide_of<D: Disk>(
+    alloc: Global,
+    shared: &Shared<D>,
+    client: &mut Client,
+    request: &Request,
+    proves: bool,
+) -> Result<Guide, PlacesFault>
+    requires shared { IsShared shared.now }
+    requires request { IsRequestWithinLimits request.now }
+    requires copy { HasCopy (timetable_at shared.now.gate) client.old }
+    ensures guide { IfOk result (IsGuide (timetable_at shared.now.gate).net
+        (timetable_at shared.now.gate).settings request.now) }
+    ensures listed { IfOk result (λ guide. IsTrue proves → IsListed guide) }
+    ensures wide { IfErr result (Refuses (timetable_at shared.now.gate).net request.now) }
+    ensures copy { StaysCopyOf (timetable_at shared.now.gate) client.old client.new }
+    ensures name { client.new.name ≡ client.old.name }
+    ensures front { client.new.front ≡ client.old.front }
+{
+    if !proves {
+        if let Some(course) = chart_course_of(alloc, shared, client, request) {
+            return Ok(Guide::Charted(course));
+        }
+    }
+    let kept = client.take_course(request);
+    let course = course_of(alloc, shared, kept, request)?;
+    Ok(Guide::Listed(course))
+}
+
+// The course of a request over the chart of its train, or None where there is no chart, where it
+// does not bound the places of the request, or where memory is wanted.
+fn chart_course_of<D: Disk>(
+    alloc: Global,
+    shared: &Shared<D>,
+    client: &mut Client,
+    request: &Request,
+) -> Option<ChartCourse>
+    requires shared { IsShared shared.now }
+    requires request { IsRequestWithinLimits request.now }
+    requires copy { HasCopy (timetable_at shared.now.gate) client.old }
+    ensures course { IfSome result (IsChartCourse (timetable_at shared.now.gate).net
+        (timetable_at shared.now.gate).settings request.now) }
+    ensures copy { StaysCopyOf (timetable_at shared.now.gate) client.old client.new }
+    ensures name { client.new.name ≡ client.old.name }
+    ensures front { client.new.front ≡ client.old.front }
+{
+    let chart = chart_of(alloc, shared, client, &request.train)?;
+    if !chart.bounds(request) {
+        client.keep_chart(chart);
+        return None;
+    }
+    let net = network_of(shared);
+    let over = ChartCourse::of(
+        alloc,
+        net,
+        &shared.settings,
+        &shared.followers,
+        request,
+        chart,
+    );
+    let Ok(course) = over else {
+        return None;
+    };
+    Some(course)
+}
+
+// The chart that is kept for a train. Where none is, and a course of the train's is, it is made.
+fn chart_of<D: Disk>(
+    alloc: Global,
+    shared: &Shared<D>,
+    client: &mut Client,
+    train: &Train,
+) -> Option<TrainChart>
+    requires shared { IsShared shared.now }
+    requires train { IsTrainWithinLimits train.now }
+    requires copy { HasCopy (timetable_at shared.now.gate) client.old }
+    ensures chart { IfSome result (IsChartOf (timetable_at shared.now.gate).net
+        (timetable_at shared.now.gate).settings train.now) }
+    ensures copy { StaysCopyOf (timetable_at shared.now.gate) client.old client.new }
+    ensures name { client.new.name ≡ client.old.name }
+    ensures front { client.new.front ≡ client.old.front }
+{
+    let kept = client.take_chart(train);
+    if kept.is_some() {
+        return kept;
+    }
+    if !client.has_asked(train) || client.knows_wide(train) {
+        return None;
+    }
+    sound_networks_are_asked();
+    let net = network_of(shared);
+    match TrainChart::of(alloc, net, &shared.settings, &shared.followers, train) {
+        Ok(chart) => Some(chart),
+        Err(PlacesFault::Wide { count: _count }) => {
+            client.note_wide(alloc, train);
+            None
+        }
+        Err(PlacesFault::Memory) => None,
+    }
 }
 
 // The course of a request: the one that was kept for such a request, or else it is worked out.
@@ -223,8 +329,9 @@ fn search_along<R: Wait, D: Disk, B: Between>(
     requires shared { IsShared shared.now }
     requires within { IsAskWithin (timetable_at shared.now.gate).net
         (path_of ask.now.number ask.now.request) }
-    requires course { IsCourse (timetable_at shared.now.gate).net
-        (timetable_at shared.now.gate).settings ask.now.request ask.now.course }
+    requires guide { IsGuide (timetable_at shared.now.gate).net
+        (timetable_at shared.now.gate).settings ask.now.request ask.now.guide }
+    requires listed { IsTrue proves → IsListed ask.now.guide }
     requires spare { room_for 0 ≤ text.old.spare }
     ensures ready { IsReady shared.now.gate pass.new }
     ensures budget { turns_left pass.old ≤ turns_left pass.new + 3 }
@@ -238,7 +345,7 @@ fn search_along<R: Wait, D: Disk, B: Between>(
     ensures room { HasRoomIn text.new result ⊎ AddsNothing result }
 {
     asks_can_be_told();
-    courses_have_the_places();
+    guides_are_narrow();
     match try_searches(
         rt,
         alloc,

@@ -6,3 +6,6 @@ pub mod Courses
 pub use Rattle.running_time.specs as running
 pub use Rattle.stair_pieces.specs as pieces
 pub use Rattle.tail_states.specs as tails
+pub mod TrainCharts
+pub mod ChartCourses
+pub mod Guides

@@ -6,7 +6,7 @@ ghost use Rattle.path_labels.specs.Courses.{AreFew, IsAlikeAt, IsCourseAmong, Is
 ghost use Rattle.path_labels.specs.Courses.{StayCourses, StayCoursesWith, with_room};
 
 use crate::Course;
-use rail_types::{Request, Stop};
+use rail_types::{Request, Stop, Train};
 use std::alloc::Global;
 use std::marker::Model;
 
@@ -58,6 +58,13 @@ impl Courses {
         ensures few { AreFew self.old → AreFew self.new }
     {
         take_alike(&mut self.kept, request)
+    }
+
+    /// Whether a course is kept for a request of that train.
+    pub fn has_train(&self, train: &Train) -> bool {
+        self.kept
+            .iter()
+            .any(|kept| kept.request.train.is_same(train))
     }
 
     /// Keeps the course of a request behind the others. Where they are too many the first one is

@@ -1,11 +1,12 @@
 -- The spots of a train on a network: its places whatever stops it has made, with the ways from each.
 use Rattle.std.specs.Prelude.{◌≡◌, ℕ, ◌+◌, ◌*◌, ◌<◌, ◌≤◌, List, [], ◌∷◌, ◌++◌, length, All}
-use Rattle.std.specs.Prelude.{Contains, Some, slice_get}
+use Rattle.std.specs.Prelude.{Contains, None, Some, slice_get}
 use Rattle.rail_types.specs.declared.limits.TheConstants.{MAX_PLACES}
 use Rattle.rail_types.specs.declared.tracks.Block.{Block}
 use Rattle.rail_types.specs.declared.tracks.Network.{Network}
 use Rattle.rail_types.specs.declared.trains.Request.{Request}
 use Rattle.rail_types.specs.declared.trains.Train.{Train}
+use Rattle.rail_types.specs.Flaws.{first_flaw}
 use Rattle.rail_types.specs.Limits.{IsBlockWithinLimits, IsTrainWithinLimits}
 use Rattle.running_time.specs.declared.edges.Edge.{Edge}
 use Rattle.running_time.specs.declared.edges.Edge.TheVariants.{Still as Halted}
@@ -88,7 +89,13 @@ pub record AreSpots (net : Network) (train : Train) (spotted : Spotted) : Type 0
 pub record MayRun (net : Network) (train : Train) : Type 0 where
   pub points : HasPoints net
   pub blocks : All IsBlockWithinLimits net.blocks
-  pub train : IsTrainWithinLimits train
+  pub train_fits : IsTrainWithinLimits train
+
+-- so is each train within its limits on a network without a flaw
+abbrev pub SoundNetworksAreRun : Type 0
+SoundNetworksAreRun =
+    (net : Network) (train : Train) → first_flaw net ≡ None → IsTrainWithinLimits train
+    → MayRun net train
 
 -- with each count of stops that can be made, the spots are no more than places that are searched
 abbrev pub AreEnough : Request → Spotted → Type 0

@@ -11,10 +11,7 @@ ghost use Rattle.std.specs.Prelude.{
   [],
   length,
   All,
-  Contains,
-  IfNone,
   IfOk,
-  IfSome,
   IsTrue,
   OnOk,
   Some,
@@ -89,13 +86,31 @@ impl Spots {
         self.members.get(number as usize)
     }
 
-    /// The number of a spot, None where it is none of them.
-    pub fn number(&self, spot: &Place) -> Option<usize>
-        ensures found { IfSome result
-            (λ number. slice_get self.now.spots number ≡ Some spot.now) }
-        ensures none { IfNone result (¬ Contains self.now.spots spot.now) }
+    /// The way that a stride from the start is.
+    pub fn start_way(
+        &self,
+        alloc: Global,
+        net: &Network,
+        train: &Train,
+        step: Step,
+    ) -> Result<Way, NoMemory>
+        requires may { MayRun net.now train.now }
+        requires spots { AreSpots net.now train.now self.now }
+        requires few { length self.now.spots ≤ MAX_SPOTS }
+        requires step { IsStride net.now start_place step }
+        ensures step { IfOk result (λ way. way.step ≡ step) }
+        ensures leads { IfOk result (λ way. slice_get self.now.spots way.next
+            ≡ Some (spot_after net.now train.now start_place step)) }
     {
-        self.members.find(spot)
+        let start = Place::start(alloc);
+        let spot = place_behind(alloc, net, train, &start, step)?;
+        let Some(next) = self.members.find(&spot) else {
+            unreachable!()
+        };
+        Ok(Way {
+            step,
+            next: next as u32,
+        })
     }
 
     /// The ways from the spot of a number.
@@ -374,9 +389,16 @@ fn add_start(
     if !is_served(block_of(net, block)) {
         return Ok(());
     }
-    for exit in [Edge::Rolling, Edge::Still] {
-        spot_behind(alloc, net, train, members, start, Step { block, exit })?;
-    }
+    let rolling = Step {
+        block,
+        exit: Edge::Rolling,
+    };
+    let halting = Step {
+        block,
+        exit: Edge::Still,
+    };
+    spot_behind(alloc, net, train, members, start, rolling)?;
+    spot_behind(alloc, net, train, members, start, halting)?;
     Ok(())
 }
 
