@@ -46,7 +46,7 @@ of_excluded known request (Some path) of within = record {
 
 module _ (law : CertificatesCanBeTold) (known : Names) (settings : Settings) (live : List Claim) (ask : Ask)
     (may : MayBeSearched known.railway.network settings ask) (found : Certified)
-    (is : IsCertified known.railway.network settings live ask.request ask.places found) (front : ℕ)
+    (is : IsCertified known.railway.network settings live ask.request ask.course.places found) (front : ℕ)
     (early : front ≤ MAX_NUMBER) (few : length found.closed.members ≤ MAX_NUMBER) where
   abbrev pub its_proof : Proof
   its_proof = record { at = front; number = ask.number; request = found.excluded; closed = found.closed }
@@ -55,7 +55,7 @@ module _ (law : CertificatesCanBeTold) (known : Names) (settings : Settings) (li
       → IsProofOf known (record { at = front; number = ask.number; request = found.excluded; closed = found.closed })
   told of =
       let within : IsRequestWithinLimits (excluded ask.request found.path) = subst IsRequestWithinLimits is.excludes is.passes.within in
-      law known settings live its_proof may.sound may.within is.passes.within
+      law known settings live its_proof may.course.planned.flawless may.course.planned.timetable is.passes.within
       (subst (IsRequestOf known) (sym is.excludes) (of_excluded known ask.request found.path of within))
       is.certificate early may.number few
 
@@ -92,9 +92,9 @@ shown_at known timetable settings net_is settings_is client entries copy ask pat
   number = is.number;
   request = is.request;
   passes = passes_alike timetable.net timetable.settings is.proof.request (held client.copy)
-      (live_claims timetable entries) copy.live ask.places is.proof.closed
+      (live_claims timetable entries) copy.live ask.course.places is.proof.closed
       (moved timetable known.railway.network settings net_is settings_is
-      (λ n s. Passes n s (claims_held client.copy) is.proof.request ask.places is.proof.closed) is.passes);
+      (λ n s. Passes n s (claims_held client.copy) is.proof.request ask.course.places is.proof.closed) is.passes);
   text_is = is.text_is;
   told = is.told;
 }

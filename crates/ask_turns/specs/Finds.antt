@@ -5,19 +5,18 @@ use Rattle.byte_fields.specs.Buffered.{Buffered}
 use Rattle.path_commit.specs.history.Legal.{IsWantedOn}
 use Rattle.path_commit.specs.history.Meanings.{IsNumbered}
 use Rattle.path_labels.specs.Answers.{IsEarliest, claims_held}
+use Rattle.path_labels.specs.Courses.{IsCourse}
 use Rattle.rail_types.specs.declared.entries.Deed.TheVariants.{Grant}
 use Rattle.rail_types.specs.declared.entries.Entry.{Entry}
 use Rattle.rail_types.specs.declared.entries.Settings.{Settings}
 use Rattle.rail_types.specs.declared.entries.Wanted.TheVariants.{Asked}
-use Rattle.rail_types.specs.declared.limits.TheConstants.{MAX_NUMBER, MAX_PLACES}
+use Rattle.rail_types.specs.declared.limits.TheConstants.{MAX_NUMBER}
 use Rattle.rail_types.specs.declared.paths.Claim.{Claim}
 use Rattle.rail_types.specs.declared.paths.Path.{Path}
 use Rattle.rail_types.specs.declared.paths.Run.{Run}
 use Rattle.rail_types.specs.declared.tracks.Network.{Network}
-use Rattle.rail_types.specs.Flaws.{first_flaw}
-use Rattle.rail_types.specs.Limits.{IsRequestWithinLimits, IsSettingsWithinLimits}
+use Rattle.rail_types.specs.Limits.{IsRequestWithinLimits}
 use Rattle.client_lines.specs.Rooms.{PrintsRuns, room_for}
-use Rattle.path_labels.specs.tails.Listed.{AreTheMoves, AreThePlaces}
 use Rattle.ask_turns.specs.declared.client_turns.clients.Client.{Client}
 use Rattle.ask_turns.specs.declared.asks.Ask.{Ask}
 use Rattle.ask_turns.specs.declared.asks.Found.{Found}
@@ -37,16 +36,12 @@ entry_for owner ask path = record {
 abbrev pub IsNewNumber : List ℕ → ℕ → List Entry → Type 0
 IsNewNumber owner number entries = All (λ other. ¬ IsNumbered owner number other) entries
 
--- a request within its limits with its places, on a network without a flaw
+-- a request within its limits with its course, on a network without a flaw
 pub record MayBeSearched (net : Network) (settings : Settings) (ask : Ask) : Type 0 where
-  pub sound : first_flaw net ≡ None
-  pub within : IsSettingsWithinLimits settings
   pub number : ask.number ≤ MAX_NUMBER
   pub request : IsRequestWithinLimits ask.request
   pub points : IsWantedOn net (Asked ask.request)
-  pub places : AreThePlaces net ask.request ask.places.members
-  pub moves : AreTheMoves net ask.request ask.places
-  pub few : length ask.places.members ≤ MAX_PLACES
+  pub course : IsCourse net settings ask.request ask.course
 
 -- the text has room for a reply that prints these runs
 pub record HasRoomOf (text : Buffered) (runs : List Run) : Type 0 where

@@ -11,4 +11,5 @@ pub mod Told
 pub mod Turns
 pub use Rattle.path_commit.specs.journal as journal
 pub use Rattle.path_commit.specs.history as history
+pub use Rattle.path_labels.specs as labels
 pub use Rattle.path_labels.specs.tails as tails

@@ -31,7 +31,7 @@ pub record IsShown (known : Names) (net : Network) (settings : Settings) (live :
   pub at : proof.at ≡ front
   pub number : proof.number ≡ ask.number
   pub request : proof.request ≡ excluded ask.request path
-  pub passes : Passes net settings live proof.request ask.places proof.closed
+  pub passes : Passes net settings live proof.request ask.course.places proof.closed
   pub text_is : text ≡ proof_text known.railway.stops proof
   pub told : IsRequestOf known ask.request → IsProofOf known proof
 

@@ -14,6 +14,7 @@ mod tries;
 pub use asks::{Ask, Outcome};
 pub use guests::Guest;
 pub use path_commit::history;
+pub use path_labels as labels;
 pub use path_labels::tails;
 pub use shared::Shared;
 pub use tries::try_searches;

@@ -14,7 +14,7 @@ use byte_fields::Buffer;
 use client_lines::Known;
 use client_lines::reply_texts::reply_room;
 use no_memory::NoMemory;
-use path_labels::find;
+use path_labels::find_along;
 use proof_texts::{Proof, proof_text};
 use rail_types::{Deed, Entry, MAX_NUMBER, Path, Settings, Wanted};
 use std::alloc::Global;
@@ -81,13 +81,13 @@ fn seek_path(
     let railway = known.railway();
     let net = &railway.network;
     if !proves {
-        return find(
+        return find_along(
             alloc,
             net,
             settings,
             client.copy(),
             &ask.request,
-            &ask.places,
+            &ask.course,
         );
     }
     let found = seek_certified(
@@ -96,7 +96,7 @@ fn seek_path(
         settings,
         client.copy(),
         &ask.request,
-        &ask.places,
+        &ask.course,
     )?;
     let Certified {
         path,

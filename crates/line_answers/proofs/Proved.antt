@@ -314,7 +314,7 @@ module _ (law : AsksCanBeTold) (known : Names) (timetable : Timetable) (owner : 
     shows = record {
       of = is.told (law known (fields_of bytes) line ask.number ask.request spelled sought);
       at = is.at;
-      places = ask.places;
+      places = ask.course.places;
       passes = is.passes;
     };
     text_is = is.text_is;

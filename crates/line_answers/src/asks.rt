@@ -1,15 +1,17 @@
 //! A path that is sought: what its number stands for, and then its searches.
-ghost use Rattle.std.specs.Prelude.{◌≡◌, ◌+◌, ◌⊎◌, ◌≤◌, IfOk};
+ghost use Rattle.std.specs.Prelude.{◌≡◌, ◌+◌, ◌⊎◌, ◌≤◌, IfErr, IfOk, IfSome};
 ghost use Rattle.book_gate.specs.Passes.{turns_left, view};
 ghost use Rattle.client_lines.specs.Within.{IsAskWithin};
 ghost use Rattle.client_lines.specs.declared.asks.Ask.TheVariants.{Path as path_of};
-ghost use Rattle.rail_types.specs.Limits.{IsClientName};
+ghost use Rattle.rail_types.specs.Limits.{IsClientName, IsRequestWithinLimits};
 ghost use Rattle.rail_types.specs.declared.entries.Deed.TheVariants.{Grant};
 ghost use Rattle.rail_types.specs.declared.entries.Wanted.TheVariants.{Asked};
 ghost use Rattle.rail_types.specs.declared.paths.Path.{Path as path_type};
 ghost use Rattle.client_lines.specs.Rooms.{room_for};
 ghost use Rattle.ask_turns.specs.Clients.{IsCopyOf, Knows};
 ghost use Rattle.ask_turns.specs.Sharing.{IsShared};
+ghost use Rattle.ask_turns.specs.labels.Courses.{IsCourse};
+ghost use Rattle.ask_turns.specs.tails.Listed.{Refuses};
 ghost use Rattle.ask_turns.specs.Turns.{IsReady, timetable_at};
 ghost use Rattle.line_answers.specs.Asked.{AnswersBehind, HasRoomIn, asking};
 ghost use Rattle.line_answers.specs.Callers.{AnswersAllowed};
@@ -19,6 +21,7 @@ ghost use Rattle.line_answers.specs.Tells.{AddsNothing};
 use crate::lines::Sent;
 use crate::replies::{ask_told, halted, number_told};
 use ask_turns::client_turns::find_again;
+use ask_turns::labels::{Course, courses_have_the_places};
 use ask_turns::tails::{PlacesFault, places, sound_networks_are_asked};
 use ask_turns::{Ask, Guest, Shared, try_searches};
 use byte_fields::Buffer;
@@ -131,11 +134,9 @@ fn seek_path<R: Wait, D: Disk, B: Between>(
     ensures held { text.new.held ≡ text.old.held }
     ensures room { HasRoomIn text.new result ⊎ AddsNothing result }
 {
-    asks_can_be_told();
-    sound_networks_are_asked();
-    let net = network_of(shared);
-    let places = match places(alloc, net, &shared.followers, &request) {
-        Ok(places) => places,
+    let kept = guest.client.take_course(&request);
+    let course = match course_of(alloc, shared, kept, &request) {
+        Ok(course) => course,
         Err(PlacesFault::Wide { count: _count }) => {
             return Reply::Wide {
                 number: sent.number,
@@ -148,10 +149,91 @@ fn seek_path<R: Wait, D: Disk, B: Between>(
         number: sent.number,
         line: sent.line,
         request,
-        places,
+        course,
     };
-    match try_searches(rt, alloc, shared, guest, &ask, text, proof) {
-        Ok(outcome) => ask_told(sent.number, outcome, guest.client.front()),
+    let reply = search_along(rt, alloc, shared, guest, &ask, text, proof);
+    guest.client.keep_course(ask.request, ask.course);
+    reply
+}
+
+// The course of a request: the one that was kept for such a request, or else it is worked out.
+fn course_of<D: Disk>(
+    alloc: Global,
+    shared: &Shared<D>,
+    kept: Option<Course>,
+    request: &Request,
+) -> Result<Course, PlacesFault>
+    requires shared { IsShared shared.now }
+    requires request { IsRequestWithinLimits request.now }
+    requires kept { IfSome kept (IsCourse (timetable_at shared.now.gate).net
+        (timetable_at shared.now.gate).settings request.now) }
+    ensures course { IfOk result (IsCourse (timetable_at shared.now.gate).net
+        (timetable_at shared.now.gate).settings request.now) }
+    ensures wide { IfErr result (Refuses (timetable_at shared.now.gate).net request.now) }
+{
+    match kept {
+        Some(course) => Ok(course),
+        None => worked_out(alloc, shared, request),
+    }
+}
+
+// Works out the course of a request.
+fn worked_out<D: Disk>(
+    alloc: Global,
+    shared: &Shared<D>,
+    request: &Request,
+) -> Result<Course, PlacesFault>
+    requires shared { IsShared shared.now }
+    requires request { IsRequestWithinLimits request.now }
+    ensures course { IfOk result (IsCourse (timetable_at shared.now.gate).net
+        (timetable_at shared.now.gate).settings request.now) }
+    ensures wide { IfErr result (Refuses (timetable_at shared.now.gate).net request.now) }
+{
+    sound_networks_are_asked();
+    let net = network_of(shared);
+    let places = places(alloc, net, &shared.followers, request)?;
+    let course = Course::of(alloc, net, &shared.settings, request, places)?;
+    Ok(course)
+}
+
+// Searches a path along the course of its request, behind a turn in which the number was new.
+fn search_along<R: Wait, D: Disk, B: Between>(
+    rt: &R,
+    alloc: Global,
+    shared: &Shared<D>,
+    guest: &mut Guest<D, B>,
+    ask: &Ask,
+    text: &mut Buffer,
+    proof: &mut Buffer,
+) -> Reply
+    requires ready { IsReady shared.now.gate guest.old.pass }
+    requires budget { 3 ≤ turns_left guest.old.pass }
+    requires copy { IsCopyOf (timetable_at shared.now.gate) guest.old.client
+        (view guest.old.pass).seen }
+    requires name { IsClientName guest.old.client.name }
+    requires shared { IsShared shared.now }
+    requires within { IsAskWithin (timetable_at shared.now.gate).net
+        (path_of ask.now.number ask.now.request) }
+    requires course { IsCourse (timetable_at shared.now.gate).net
+        (timetable_at shared.now.gate).settings ask.now.request ask.now.course }
+    requires spare { room_for 0 ≤ text.old.spare }
+    ensures ready { IsReady shared.now.gate guest.new.pass }
+    ensures budget { turns_left guest.old.pass ≤ turns_left guest.new.pass + 3 }
+    ensures name { guest.new.client.name ≡ guest.old.client.name }
+    ensures proves { guest.new.proves ≡ guest.old.proves }
+    ensures knows { Knows (timetable_at shared.now.gate) guest.new.client
+        (view guest.new.pass).seen }
+    ensures answers { AnswersBehind shared.now guest.old.client.name ask.now.line ask.now.number
+        ask.now.request result (view guest.old.pass) (view guest.new.pass) }
+    ensures shown { ShowsBehind shared.now guest.old.proves ask.now.number ask.now.request result
+        proof.new.held (view guest.old.pass) (view guest.new.pass) }
+    ensures held { text.new.held ≡ text.old.held }
+    ensures room { HasRoomIn text.new result ⊎ AddsNothing result }
+{
+    asks_can_be_told();
+    courses_have_the_places();
+    match try_searches(rt, alloc, shared, guest, ask, text, proof) {
+        Ok(outcome) => ask_told(ask.number, outcome, guest.client.front()),
         Err(halt) => halted(halt),
     }
 }

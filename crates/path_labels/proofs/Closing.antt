@@ -34,6 +34,7 @@ use Rattle.label_search.specs.Closed.{Admits, before as trip_before, IsClosed as
 use Rattle.path_labels.specs.Plans.{dwell_at, dwell_of, kept_behind, target_of as target_in, ticks_of_step}
 use Rattle.path_labels.specs.Answers.{before, claims_held}
 use Rattle.path_labels.specs.Joining.{AreClosedAlike, IsPlannedFrom, IsBehindTheStart, member_in, members_in, move_of, moves_of, trip_of}
+use Rattle.path_labels.proofs.Alike.{planned_alike}
 use Rattle.path_labels.proofs.Fitting.{AreFreeOver, later_fits, moved_of_over, over_at, over_of_kept}
 use Rattle.path_labels.proofs.Standing.{IsAt, IsMoveAs, at_listed, at_start, ends_by, goes_to, leaves_alike, move_is, numbered, stands_at_a_stop}
 
@@ -184,16 +185,8 @@ module _ (net : Network) (settings : Settings) (request : Request) (listed : Lis
 
 -- a request with another window of arrival is planned alike
 pub planned_before : WindowsChangeNoPlaces → (net : Network) (settings : Settings) (request : Request) (listed : Listed) (plan : Plan) (tick : ℤ) → IsPlannedFrom net settings request listed plan → IsPlannedFrom net settings (before request tick) listed plan
-planned_before alike net settings request listed plan tick all =
-    let same = alike net request (before request tick) (record { train = refl; origin = refl; destination = refl; stops = refl }) in
-    record {
-      places = same.places listed.members all.places;
-      moves = same.moves listed all.moves;
-      planned = record {
-        places = record { counted = all.planned.places.counted; start = all.planned.places.start; places = all.planned.places.places };
-        horizon = all.planned.horizon;
-      };
-    }
+planned_before windows net settings request listed plan tick all =
+    planned_alike windows net settings request (before request tick) listed plan (record { train = refl; origin = refl; destination = refl; stops = refl }) all
 
 pub closed_alike : WindowsChangeNoPlaces → (net : Network) (settings : Settings) (request : Request) (listed : Listed) (plan : Plan) (book : Book) (members : List PlannedMember) → IsPlannedFrom net settings request listed plan → All (IsBehindTheStart listed.members) members → AreClosedAlike net settings request listed plan book members
 closed_alike alike net settings request listed plan book members all behind = record {

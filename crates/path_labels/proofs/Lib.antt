@@ -1,5 +1,6 @@
 pub mod Fitting
 pub mod Standing
+pub mod Alike
 pub mod Closing
 pub mod Granting
 pub mod Planning
@@ -7,4 +8,6 @@ pub mod Telling
 pub mod Steps
 pub mod PlanningPlaces
 pub mod Searching
+pub mod Keeping
+pub mod Narrow
 pub use Rattle.running_time.proofs as running_lemmas

@@ -1,4 +1,5 @@
 pub mod Answers
+pub mod Courses
 pub mod Joining
 pub mod Plans
 pub mod Searched

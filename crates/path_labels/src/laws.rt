@@ -1,12 +1,15 @@
 //! The laws that join what is planned of a request to the request, each on a function
 //! that calls other laws alone.
 
+ghost use Rattle.std.specs.Prelude.{◌≡◌};
+ghost use Rattle.path_labels.specs.Courses.{CoursesHaveThePlaces};
 ghost use Rattle.path_labels.specs.Joining.{
   ClosedPlansAreClosed,
   GrantedPathsArePlanned,
   PlannedPathsAreGranted,
 };
 
+use crate::kept_courses::{MAX_COURSES, MAX_KEPT_PLACES};
 use stair_pieces::{a_path_fits_run_by_run, a_path_is_a_list_of_moves, moves_make_a_path};
 use tail_states::windows_change_no_places;
 
@@ -35,3 +38,16 @@ pub fn closed_plans_are_closed()
 {
     windows_change_no_places();
 }
+
+/// The course of a request has its places, and the request has no more than are searched.
+pub fn courses_have_the_places()
+    ensures { CoursesHaveThePlaces }
+{
+    windows_change_no_places();
+}
+
+/// The limits of the courses that are kept.
+pub fn limits_are_these()
+    ensures courses { MAX_COURSES ≡ 16 }
+    ensures kept_places { MAX_KEPT_PLACES ≡ 32768 }
+{}

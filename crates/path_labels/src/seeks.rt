@@ -7,66 +7,15 @@ ghost use Rattle.rail_types.specs.Limits.{IsRequestWithinLimits, IsSettingsWithi
 ghost use Rattle.tail_states.specs.Listed.{AreTheMoves, AreThePlaces};
 ghost use Rattle.path_labels.specs.Answers.{IsAnswer, IsCount, IsFinding, claims_held};
 ghost use Rattle.path_labels.specs.Answers.{count_of as count_in};
-ghost use Rattle.label_search.specs.Plans.{IsPlan};
-ghost use Rattle.path_labels.specs.Searched.{IsPlannedWithinLimits};
-ghost use Rattle.path_labels.specs.Joining.{ArePlannedMoves, HoldsTicks, trip_of};
 
 use crate::Sought;
-use crate::laws::{closed_plans_are_closed, granted_paths_are_planned, planned_paths_are_granted};
-use crate::members::told_members;
-use crate::paths::told_path;
-use crate::request_plans::{plan_of, plans_may_be_searched};
-use label_search::{
-    Finding, Plan, Sought as Planned, Trip, bounds, find as find_planned, seek as seek_planned,
-};
+use crate::plan_searches::{find_by_plan, planned, seek_by_plan};
+use label_search::bounds;
 use no_memory::NoMemory;
 use occupation_book::Occupations;
 use rail_types::{Network, Path, Request, Settings};
 use std::alloc::Global;
-use tail_states::{Places, sound_networks_are_asked, windows_change_no_places};
-
-fn trip(request: &Request) -> Trip
-    ensures { result ≡ trip_of request.now }
-{
-    Trip {
-        depart: request.depart,
-        arrive: request.arrive,
-    }
-}
-
-// The claims that a book holds have ticks.
-fn claims_have_ticks(book: &Occupations)
-    ensures { HoldsTicks book.now }
-{
-    book.zones();
-}
-
-// The plan of a request, which may be searched.
-fn planned(
-    alloc: Global,
-    net: &Network,
-    settings: &Settings,
-    book: &Occupations,
-    request: &Request,
-    places: &Places,
-) -> Result<Plan, NoMemory>
-    requires flawless { first_flaw net.now ≡ None }
-    requires settings { IsSettingsWithinLimits settings.now }
-    requires zones { length book.now ≡ net.now.zones }
-    requires request { IsRequestWithinLimits request.now }
-    requires places { AreThePlaces net.now request.now places.now.members }
-    requires moves { AreTheMoves net.now request.now places.now }
-    requires few { length places.now.members ≤ MAX_PLACES }
-    ensures planned { IfOk result
-        (IsPlannedWithinLimits net.now settings.now request.now places.now) }
-    ensures plan { IfOk result (λ plan. IsPlan plan book.now) }
-    ensures moves { IfOk result (ArePlannedMoves places.now) }
-{
-    sound_networks_are_asked();
-    plans_may_be_searched();
-    let plan = plan_of(alloc, net, settings, request, places)?;
-    Ok(plan)
-}
+use tail_states::Places;
 
 /// The path of a request that leaves last as early as any that can be granted beside what the book
 /// holds, or none where none can; with members that show it. `NoMemory` alone is refused.
@@ -88,23 +37,9 @@ pub fn seek(
     ensures { IfOk result
         (IsAnswer net.now settings.now (claims_held book.now) request.now) }
 {
-    planned_paths_are_granted();
-    granted_paths_are_planned();
-    closed_plans_are_closed();
-    windows_change_no_places();
-    claims_have_ticks(book);
-    let plan = planned(alloc, net, settings, book, request, places)?;
-    match seek_planned(alloc, &plan, book, &trip(request))? {
-        Planned::Found(steps, members) => {
-            let path = told_path(alloc, request, places, &plan, &steps)?;
-            let proof = told_members(alloc, places, &members)?;
-            Ok(Sought::Found(path, proof))
-        }
-        Planned::NoPath(members) => {
-            let proof = told_members(alloc, places, &members)?;
-            Ok(Sought::NoPath(proof))
-        }
-    }
+    let plan = planned(alloc, net, settings, request, places)?;
+    let sought = seek_by_plan(alloc, net, settings, book, request, places, &plan)?;
+    Ok(sought)
 }
 
 /// The same without members, and so without the work that they take: None
@@ -127,18 +62,10 @@ pub fn find(
     ensures { IfOk result
         (IsFinding net.now settings.now (claims_held book.now) request.now) }
 {
-    planned_paths_are_granted();
-    granted_paths_are_planned();
-    claims_have_ticks(book);
-    let plan = planned(alloc, net, settings, book, request, places)?;
+    let plan = planned(alloc, net, settings, request, places)?;
     let ahead = bounds(alloc, &plan)?;
-    match find_planned(alloc, &plan, book, &trip(request), &ahead)? {
-        Finding::Found(steps) => {
-            let path = told_path(alloc, request, places, &plan, &steps)?;
-            Ok(Some(path))
-        }
-        Finding::NoPath => Ok(None),
-    }
+    let found = find_by_plan(alloc, net, settings, book, request, places, &plan, &ahead)?;
+    Ok(found)
 }
 
 fn count_of(sought: &Sought) -> u64

@@ -1,20 +1,18 @@
 //! The path of a request with what shows it.
 
-ghost use Rattle.std.specs.Prelude.{◌≡◌, ◌≤◌, pos, ◌-ℤ◌, ◌≤ℤ◌, None, length, IfOk};
-ghost use Rattle.rail_types.specs.declared.limits.TheConstants.{MAX_PLACES};
-ghost use Rattle.rail_types.specs.Flaws.{first_flaw};
-ghost use Rattle.rail_types.specs.Limits.{IsRequestWithinLimits, IsSettingsWithinLimits};
+ghost use Rattle.std.specs.Prelude.{◌≡◌, ◌≤◌, pos, ◌-ℤ◌, ◌≤ℤ◌, length, IfOk};
+ghost use Rattle.rail_types.specs.Limits.{IsRequestWithinLimits};
 ghost use Rattle.refusal_proof.specs.Proofs.{claims_held};
 ghost use Rattle.path_labels.specs.Answers.{before, last_leave};
-ghost use Rattle.path_labels.specs.tails.Listed.{AreTheMoves, AreThePlaces};
+ghost use Rattle.path_labels.specs.Courses.{IsCourse};
 ghost use Rattle.ask_turns.specs.Certified.{IsCertified};
 
 use crate::certificates::laws::certificates_pass;
 use no_memory::NoMemory;
 use path_commit::claims::Occupations;
 use path_labels::pieces::a_path_is_a_list_of_moves;
-use path_labels::tails::{Closed, Places};
-use path_labels::{Sought, seek};
+use path_labels::tails::Closed;
+use path_labels::{Course, Sought, courses_have_the_places, seek_along};
 use rail_types::{Network, Path, Request, Run, Settings, Window};
 use std::alloc::Global;
 
@@ -59,28 +57,25 @@ fn earlier(alloc: Global, request: &Request, path: &Path) -> Result<Request, NoM
 
 /// The path of a request that leaves last as early as any that can be granted beside what
 /// the book holds, or None where none can; with members that pass the check for the
-/// request that is excluded beside it.
+/// request that is excluded beside it. `NoMemory` alone is refused.
 pub fn seek_certified(
     alloc: Global,
     net: &Network,
     settings: &Settings,
     book: &Occupations,
     request: &Request,
-    places: &Places,
+    course: &Course,
 ) -> Result<Certified, NoMemory>
-    requires flawless { first_flaw net.now ≡ None }
-    requires settings { IsSettingsWithinLimits settings.now }
     requires zones { length book.now ≡ net.now.zones }
     requires request { IsRequestWithinLimits request.now }
-    requires places { AreThePlaces net.now request.now places.now.members }
-    requires moves { AreTheMoves net.now request.now places.now }
-    requires few { length places.now.members ≤ MAX_PLACES }
+    requires course { IsCourse net.now settings.now request.now course.now }
     ensures { IfOk result (IsCertified net.now settings.now (claims_held book.now) request.now
-        places.now) }
+        course.now.places) }
 {
     certificates_pass();
     a_path_is_a_list_of_moves();
-    let sought = seek(alloc, net, settings, book, request, places)?;
+    courses_have_the_places();
+    let sought = seek_along(alloc, net, settings, book, request, course)?;
     match sought {
         Sought::Found(path, closed) => {
             let excluded = earlier(alloc, request, &path)?;

@@ -16,9 +16,9 @@ returns-clause-shown c proved =
     let copy : List Zone = c.args.client.now.copy in let found = c.in_ok-found.found in
     let front : ℕ = c.front-at.result in let text : List ℕ = c.proof_text.new.to.held in
     let written : Proof = record { at = front; number = ask.number; request = found.excluded; closed = found.closed } in
-    let certified = subst (λ (railway : Named). IsCertified railway.network settings (claims_held copy) ask.request ask.places found)
+    let certified = subst (λ (railway : Named). IsCertified railway.network settings (claims_held copy) ask.request ask.course.places found)
     c.railway-railway.ensures
-    (subst (λ (book : List Zone). IsCertified c.railway-railway.result.now.network settings (claims_held book) ask.request ask.places found)
+    (subst (λ (book : List Zone). IsCertified c.railway-railway.result.now.network settings (claims_held book) ask.request ask.course.places found)
     c.copy-2.ensures c.in_ok-found.ensures) in
     let early : front ≤ MAX_NUMBER = let not_more = c.if-at-gt-MAX_NUMBER.false in omega arith in
     let few : length found.closed.members ≤ MAX_NUMBER =

@@ -3,7 +3,7 @@ use Rattle.rail_types.specs.declared.trains.Request.{Request}
 use Rattle.refusal_proof.specs.Proofs.{claims_held}
 use Rattle.path_labels.specs.Answers.{IsAnswer, IsCertificate}
 use Rattle.path_labels.specs.declared.answers.Sought.{Sought}
-use Rattle.path_labels.specs.declared.answers.Sought.TheVariants.{Found}
+use Rattle.path_labels.specs.declared.answers.Sought.TheVariants.{Found, NoPath}
 use Rattle.ask_turns.specs.Certified.{Passes}
 use Rattle.ask_turns.proofs.Passing.{leaves_within}
 use Rattle.ask_turns.proofs.certificates.searches.seek_certified.Goals as goal
@@ -22,12 +22,35 @@ returns-in_ok-excluded-in-Found c =
     let live = claims_held c.args.book.now in
     let request = c.args.request.now in
     let closed = c.in-Found.closed in
+    let course = c.args.course.now in
+    let all = c.requires.course.planned in
+    let has = c.courses_have_the_places.ensures net settings request course c.requires.course in
     let cut = c.in_ok-excluded-in-Found.ensures in
     let found : IsAnswer net settings live request (Found c.in-Found.path closed) = subst (λ (sought : Sought). IsAnswer net settings live request sought) c.in-Found.is c.in_ok-sought.ensures in
     record {
       answer = found.0;
       excludes = cut;
       certificate = subst (λ (r : Request). IsCertificate net settings live r closed) (sym cut) found.1;
-      passes = subst (λ (r : Request). Passes net settings live r c.args.places.now closed) (sym cut)
-          (c.certificates_pass.ensures.earlier net settings live request c.args.places.now c.in-Found.path closed c.requires.flawless c.requires.settings c.requires.request c.requires.places c.requires.moves c.requires.few found);
+      passes = subst (λ (r : Request). Passes net settings live r course.places closed) (sym cut)
+          (c.certificates_pass.ensures.earlier net settings live request course.places c.in-Found.path closed all.flawless all.timetable c.requires.request has.places has.moves all.few found);
+    }
+
+pub returns-in_ok-excluded-in-NoPath : goal.returns-in_ok-excluded-in-NoPath
+returns-in_ok-excluded-in-NoPath c =
+    let net = c.args.net.now in
+    let settings = c.args.settings.now in
+    let live = claims_held c.args.book.now in
+    let request = c.args.request.now in
+    let closed = c.in-NoPath.closed in
+    let course = c.args.course.now in
+    let all = c.requires.course.planned in
+    let has = c.courses_have_the_places.ensures net settings request course c.requires.course in
+    let same = c.in_ok-excluded-in-NoPath.ensures in
+    let none : IsAnswer net settings live request (NoPath closed) = subst (λ (sought : Sought). IsAnswer net settings live request sought) c.in-NoPath.is c.in_ok-sought.ensures in
+    record {
+      answer = none.0;
+      excludes = same;
+      certificate = subst (λ (r : Request). IsCertificate net settings live r closed) (sym same) none.1;
+      passes = subst (λ (r : Request). Passes net settings live r course.places closed) (sym same)
+          (c.certificates_pass.ensures.refused net settings live request course.places closed all.flawless all.timetable c.requires.request has.places has.moves all.few none);
     }

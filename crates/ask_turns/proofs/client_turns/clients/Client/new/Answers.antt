@@ -1,10 +1,17 @@
 use Rattle.std.proofs.Common.{◌∙◌, subst, sym}
+use Rattle.std.proofs.lemmas.List.Elements.{All-nil}
 use Rattle.path_commit.specs.history.Following.{AreLive}
+use Rattle.path_labels.specs.Courses.{AreCourses, IsCourse}
+use Rattle.path_labels.specs.declared.kept_courses.KeptCourse.{KeptCourse}
+use Rattle.rail_types.specs.Timetables.{Timetable}
 use Rattle.ask_turns.proofs.client_turns.clients.Client.new.Goals as goal
 
 pub returns-clause-copy : goal.returns-clause-copy
-returns-clause-copy g c = record {
-  front = c.front-front.ensures;
-  zones = c.in_ok-copy.ensures.zones ∙ c.occupations.ensures.zones;
-  live = subst (λ l. AreLive c.args.book.now.timetable l c.args.book.now.entries) (sym c.in_ok-copy.ensures.held) c.occupations.ensures.live;
-}
+returns-clause-copy g c =
+    let timetable : Timetable = c.args.book.now.timetable in record {
+      front = c.front-front.ensures;
+      zones = c.in_ok-copy.ensures.zones ∙ c.occupations.ensures.zones;
+      live = subst (λ l. AreLive timetable l c.args.book.now.entries) (sym c.in_ok-copy.ensures.held) c.occupations.ensures.live;
+      courses = subst (AreCourses timetable.net timetable.settings) (sym c.in_ok-courses.ensures)
+          (All-nil (λ (kept : KeptCourse). IsCourse timetable.net timetable.settings kept.request kept.course));
+    }
