@@ -5,11 +5,12 @@ Each name that docs/DEFINITIONS.md and docs/MAP.md cite stands in the crates tha
 of a list names those that it cites by themselves or as `crate::module`, and those of its heading.
 Each source, spec and proof that an item of CONTRIBUTING.md cites is one of a crate that it names.
 The order of docs/MAP.md is that of crates.txt, in which a crate names only those above it, and none
-stands on one of a higher floor. Links lead to files and headings that are there. What fenced blocks
-run exists and takes these options, and blocks behind a line `<!-- run -->` are run in a copy of the
-repository, in the order of their page: in one with lines `$ COMMAND` the lines behind each are what
-it must print, `...` standing for any lines; without such lines each command must succeed.
-`<!-- run, status 7 -->` is one whose last command must end so.
+stands on one of a higher floor; its table of crates that others give on is what these do. Links
+lead to files and headings that are there. What fenced blocks run exists and takes these options,
+and blocks behind a line `<!-- run -->` are run in a copy of the repository, in the order of their
+page: in one with lines `$ COMMAND` the lines behind each are what it must print, `...` standing for
+any lines; without such lines each command must succeed. `<!-- run, status 7 -->` is one whose last
+command must end so.
 
     tests/test_docs.py --only links blocks
 """
@@ -54,6 +55,9 @@ HEADING = re.compile(r"^#+ +(.+?) *$", re.M)
 #: A file of a crate from which it is proved.
 SOURCE = re.compile(r"/.*\.(?:rt|antt)$")
 NAME = re.compile(r"[A-Za-z_]\w*(?:::[A-Za-z_]\w*)*\*?")
+#: What gives a crate on, in a source and in specs: itself under a name, or what it gives on.
+CODE_GIVES = re.compile(r"^pub use (\w+)(?: as (\w+)|::(\w+)|::\{([^{}]*)\});", re.M)
+SPECS_GIVE = re.compile(r"^pub use Rattle\.(\w+)\.specs(?:\.(\w+))? as (\w+)$", re.M)
 #: What defines a name in a source of Rattle and in one of its specs.
 IN_SOURCE = (r"\b(?:fn|struct|enum|trait|type|const|mod|ghost)\s+{0}\b|\bpub use [^;]*\b{0}\b"
              r"|^\s+(?:pub )?{0}\s*[:,({{]")
@@ -200,6 +204,42 @@ def map_order() -> list[str]:
     if f"the longest chain has {max(chains.values())} crates" not in " ".join(page.split()):
         faults.append(f"docs/MAP.md: the longest chain has {max(chains.values())} crates")
     return faults
+
+
+def given_on(repository: Repository) -> set[tuple[str, str, str]]:
+    """What crates give on of others, by code or by specs: (the crate, its short name, who)."""
+    given: dict[str, dict[str, str]] = {}
+    for crate in repository.libraries:
+        folder, names = repository.folder(crate), given.setdefault(crate, {})
+        code, specs = (path.read_text() if path.exists() else ""
+                       for path in (folder / "src/lib.rt", folder / "specs/Lib.antt"))
+        for front, name, one, several in CODE_GIVES.findall(code):
+            if name:
+                names[name] = front
+            for word in re.findall(r"\w+", one or several):
+                if word in given.get(front, {}):
+                    names[word] = given[front][word]
+        for front, part, name in SPECS_GIVE.findall(specs):
+            names[name] = given.get(front, {}).get(part, part) if part else front
+    return {(origin, name, crate) for crate, names in given.items()
+            for name, origin in names.items()}
+
+
+def map_given() -> list[str]:
+    """The table of docs/MAP.md names each crate that another gives on, and none besides."""
+    table = re.search(r"^\| given on \| as \| by \|\n\|[-|]+\|\n((?:\|.*\n)*)",
+                      (ROOT / "docs/MAP.md").read_text(), re.M)
+    if not table:
+        return ["docs/MAP.md has no table of what is given on"]
+    told = set()
+    for row in table[1].splitlines():
+        origins, names, givers = (CODE.findall(cell) for cell in row.strip("|").split("|"))
+        told |= {(origin, name, giver) for origin, name in zip(origins, names) for giver in givers}
+    found = given_on(Repository(ROOT))
+    return [*(f"docs/MAP.md does not tell that {giver} gives {origin} on as {name}"
+              for origin, name, giver in sorted(found - told)),
+            *(f"docs/MAP.md tells that {giver} gives {origin} on as {name}, which it does not"
+              for origin, name, giver in sorted(told - found))]
 
 
 def definition_names() -> list[str]:
@@ -460,6 +500,7 @@ def main() -> int:
         ("names of the map", map_names),
         ("order of the map", map_order),
         ("floors of the map", map_floors),
+        ("libraries given on", map_given),
         ("names of the definitions", definition_names),
         ("files to change", files_to_change),
         ("links", links),
