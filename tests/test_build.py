@@ -400,6 +400,16 @@ def lanes_are_told_to_the_toolchain(clone: Clone) -> None:
     must(1 <= asked <= 4, f"{asked} at once, of which 8 GB hold four")
 
 
+def lanes_are_printed(clone: Clone) -> None:
+    """One where memory holds less than one proof, else no more than there are processors."""
+    told = {gb: clone.build("--lanes", gb) for gb in ("1e9", "1e-9", "0", "none")}
+    must(told["1e9"].stdout == "1\n", told["1e9"])
+    most = int(told["1e-9"].stdout)
+    must(1 <= most <= len(os.sched_getaffinity(0)), f"{most} at once")
+    must(told["0"].returncode == told["none"].returncode == 2, told)
+    must(not clone.noted() and clone.program() is None, "something was run")
+
+
 def a_run_that_holds_too_much_memory_pauses(clone: Clone) -> None:
     """Of three that hold a third of a GB each two pause, until those before them have ended."""
     process = clone.start("--memory", "0.8", fake="heavy")
@@ -465,6 +475,7 @@ CASES: list[Callable[[Clone], None]] = [
     a_gate_that_kept_all_is_run_anew_for_the_program,
     a_gate_that_kept_all_and_cannot_begin_anew_fails,
     lanes_are_told_to_the_toolchain,
+    lanes_are_printed,
     a_run_that_holds_too_much_memory_pauses,
     another_program_is_asked_for_by_name,
     the_record_tells_what_was_built,
