@@ -1,0 +1,132 @@
+#!/usr/bin/env python3
+"""Tests that what a client asked before changes no reply and no proof: a client keeps what searches
+of its last requests had worked out, and finds by it what a client finds that has asked nothing yet.
+
+On corridors with planned trains one client asks all in one session. Another server, over a journal
+of its own, is begun anew for each ask. More relations are asked for than are kept, each of them
+several times, in windows of its own; holds come in between.
+
+    tests/test_asked_before.py --program crates/stdcm/out/stdcm
+"""
+from __future__ import annotations
+
+import random
+import sys
+import tempfile
+from pathlib import Path
+from typing import Any
+
+REPOSITORY = Path(__file__).resolve().parent.parent
+sys.path[:0] = [str(REPOSITORY / name) for name in ("tools", "bench")]
+
+from blocking_times import Railway, Settings, Train, blocks_of  # noqa: E402
+from cases import Cases, World, program_of  # noqa: E402
+from corridor import corridor  # noqa: E402
+from table_file import read_table  # noqa: E402
+
+HORIZON, LATEST, PLANNED = 3_000, 1_500, 10
+#: How many relations are asked for: more than the sixteen whose courses a client keeps.
+RELATIONS, ASKS = 24, 160
+TRAINS = [
+    {"name": "F1", "length_m": 400, "speed": 20_000, "accel": 200, "brake": 250, "allowance": 0},
+    {"name": "long one", "length_m": 900, "speed": 25_000, "accel": 150, "brake": 250,
+     "allowance": 5}]
+BASE = {"tick_s": 10, "setting": 1, "release": 1, "horizon": HORIZON, "journal_bytes": 268_435_456}
+
+
+def planned(railway: Railway, source: random.Random) -> list[dict[str, Any]]:
+    """Planned trains that do not clash, each over a part of the corridor."""
+    follows: dict[str, list[int]] = {}
+    for number, block in enumerate(railway.blocks):
+        follows.setdefault(block.begins, []).append(number)
+    trains: list[dict[str, Any]] = []
+    while len(trains) < PLANNED:
+        told = source.choice(TRAINS)
+        train = Train(*(told[key] for key in ("length_m", "speed", "accel", "brake", "allowance")))
+        way = [source.randrange(len(railway.blocks))]
+        while len(way) < 14 and follows.get(railway.blocks[way[-1]].ends):
+            way.append(source.choice(follows[railway.blocks[way[-1]].ends]))
+        claims = railway.stairway(train, railway.run(train, way, source.randrange(LATEST)))
+        if railway.clash(claims) is None:
+            railway.add(claims, "planned")
+            trains.append({"name": f"IC {len(trains)}", "requirements": [
+                {"zone": zone, "from": begin, "to": end} for zone, begin, end in claims]})
+    return trains
+
+
+def relations_of(stops: list[str], source: random.Random) -> list[tuple[str, str]]:
+    """Relations of which no two are the same: train, origin and destination; and what stands behind
+    the windows, one stop or none."""
+    found: set[tuple[str, str]] = set()
+    while len(found) < RELATIONS:
+        first = source.randrange(len(stops) - 1)
+        last = source.randrange(first + 1, len(stops))
+        train = source.choice(("F1", "long%20one"))
+        between = stops[first + 1:last]
+        is_halting = bool(between) and source.randrange(2) == 0
+        stop = f"1 {source.choice(between)} {source.randrange(30)}" if is_halting else "0"
+        found.add((f"{train} {stops[first]} {stops[last]}", stop))
+    return sorted(found)
+
+
+def lines_of(stops: list[str], zones: int, source: random.Random) -> list[str]:
+    """Asks of these relations in a drawn order, with a hold behind every eighth."""
+    relations, lines = relations_of(stops, source), []
+    for number in range(ASKS):
+        relation, stop = source.choice(relations)
+        tick = source.randrange(LATEST)
+        windows = f"{tick} {tick + source.choice((0, 20, 200))} 0 " \
+                  f"{tick + source.choice((300, 700, HORIZON))}"
+        lines.append(f"ask {len(lines)} {relation} {windows} {stop}")
+        if number % 8 == 7:
+            lines.append(f"hold {len(lines)} {source.randrange(zones)} {tick} {tick + 40}")
+    return lines
+
+
+def try_corridor(cases: Cases, program: Path, folder: Path, seed: int, proves: bool) -> None:
+    """All lines in one session, and each in a session of its own over another journal."""
+    source = random.Random(seed)
+    made = corridor(4, 3)
+    worlds = [World(program, folder / name) for name in (f"one{seed}", f"many{seed}")]
+    for world in worlds:
+        world.folder.mkdir()
+        world.write("network", made.infra)
+        world.write("trains", {"trains": TRAINS})
+        world.list()
+    blocks = blocks_of(read_table(worlds[0].path("table")), made.infra)
+    railway = Railway(blocks, settings=Settings(horizon=HORIZON))
+    base = BASE | {"trains": planned(railway, source)}
+    stops = [stop.replace(" ", "%20") for stop in made.stops]
+    lines = lines_of(stops, 1 + max(zone for block in blocks for zone, _ in block.cells), source)
+    one, many = worlds
+    for world in worlds:
+        world.write("base", base)
+        cases.equal(f"corridor {seed}: a journal is begun", 0, world.init())
+
+    def proof_of(world: World) -> list[str]:
+        return ["--proof", f"A={world.path('proofs')}"] if proves else []
+
+    together = one.serve("A", lines, *proof_of(one))
+    apart = [many.serve("A", [line], *proof_of(many))[0] for line in lines]
+    counts = {word: sum(reply.startswith(f"{word} ") for reply in together)
+              for word in ("granted", "no-path", "held")}
+    cases.holds(f"corridor {seed}: paths are granted and refused, and holds are taken",
+                min(counts["granted"], counts["no-path"], 5 * counts["held"]) >= 20, counts)
+    for line, wanted, got in zip(lines, apart, together):
+        cases.equal(f"corridor {seed}: {line}", wanted, got)
+    cases.equal(f"corridor {seed}: as many replies", len(lines), len(together))
+    if proves:
+        cases.equal(f"corridor {seed}: the proofs", many.path("proofs").read_text(),
+                    one.path("proofs").read_text())
+
+
+def main() -> int:
+    program, cases = program_of(__doc__), Cases()
+    with tempfile.TemporaryDirectory() as place:
+        for seed, proves in ((1, False), (2, True), (3, False)):
+            try_corridor(cases, program, Path(place), seed, proves)
+    return cases.end()
+
+
+if __name__ == "__main__":
+    sys.exit(main())
