@@ -75,15 +75,24 @@ def stops_of(railway: Railway) -> list[str]:
     return list(stops)
 
 
-def asks_of(stops: list[str], client: int, count: int, source: random.Random) -> list[Ask]:
-    """Asks over some ten sections: every other one at one tick alone, the rest in a window of 100 ticks."""
+def relation_of(stops: list[str], source: random.Random) -> tuple[str, str]:
+    """An origin and a destination, some ten sections apart."""
+    first = source.randrange(len(stops) - 1)
+    return stops[first], stops[min(len(stops) - 1, first + source.randrange(2, 12))]
+
+
+def asks_of(stops: list[str], client: int, count: int, source: random.Random, relations: int = 0) -> list[Ask]:
+    """Asks over some ten sections: every other one at one tick alone, the rest in a window of 100 ticks.
+
+    They are of so many relations, or each of one that is drawn anew.
+    """
+    drawn = [relation_of(stops, source) for _ in range(relations)]
     asks = []
     for number in range(count):
-        first = source.randrange(len(stops) - 1)
-        last = min(len(stops) - 1, first + source.randrange(2, 12))
+        origin, destination = source.choice(drawn) if drawn else relation_of(stops, source)
         tick = source.randrange(HORIZON - 2000)
         wide = 0 if number % 2 else 100
-        asks.append(Ask(number, stops[first], stops[last], (tick, tick + wide), (0, min(HORIZON, tick + 1500))))
+        asks.append(Ask(number, origin, destination, (tick, tick + wide), (0, min(HORIZON, tick + 1500))))
     return asks
 
 
