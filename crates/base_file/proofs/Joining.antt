@@ -9,12 +9,12 @@ use Rattle.rail_types.specs.declared.limits.TheConstants.{MAX_BASE_CLAIMS}
 use Rattle.rail_types.specs.declared.paths.Claim.{Claim}
 use Rattle.rail_types.specs.Limits.{IsTick}
 use Rattle.rail_types.specs.Occupation.{AreJoined, EndsBefore}
+use Rattle.rail_types.proofs.Elements.{all_pairs_append, all_pairs_map, all_pairs_weaker}
 use Rattle.blocking_time.specs.Joined.{ends_before, hull, joined_claims, joined_with}
 use Rattle.base_file.specs.declared.trains.Planned.{Planned}
 use Rattle.base_file.specs.Claims.{of_train, with_train}
 use Rattle.base_file.specs.Overlaps.{StandsBefore}
 use Rattle.base_file.specs.Sound.{ArePlanned, IsClaimOn}
-use Rattle.base_file.proofs.Pairs.{all_pairs_append, all_pairs_map, all_pairs_weaker}
 
 -- ---- no more claims than before
 

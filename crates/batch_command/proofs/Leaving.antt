@@ -13,7 +13,8 @@ use Rattle.served_clients.proofs.Joins.{joined_none}
 use Rattle.served_clients.specs.turns.Turns.{Sight}
 use Rattle.served_clients.specs.turns.declared.shared.Shared.{Shared}
 use Rattle.rail_types.specs.declared.entries.Entry.{Entry}
-use Rattle.batch_command.proofs.Matched.{All-left, All-right, last_of, matched_none}
+use Rattle.rail_types.proofs.Elements.{all_left, all_right}
+use Rattle.batch_command.proofs.Matched.{last_of, matched_none}
 
 module _ {D Btw L : Type 0} (kind : Rules L) (shared : Shared D) where
   pub left_none : (v : Sight) → v.turns ≡ [] → HaveLeft {Btw = Btw} kind shared [] v
@@ -41,5 +42,5 @@ module _ {D Btw L : Type 0} (kind : Rules L) (shared : Shared D) where
         subst (AreJoined shared new) (sym last.ys_are) (more last.before last.last (left.joined last.before last.all) last.one);
     still = λ all.
         let P : Clerk D Btw L → Type 0 = λ c. (view c.seat.guest.pass).turns ≡ [] in
-        turns (All-right P front (clerk ∷ []) all 0 clerk (omega arith)) ∙ left.still (All-left P front (clerk ∷ []) all);
+        turns (all_right P front (clerk ∷ []) all 0 clerk (omega arith)) ∙ left.still (all_left P front (clerk ∷ []) all);
   }

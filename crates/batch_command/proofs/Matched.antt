@@ -1,8 +1,6 @@
 -- Lists that stand to one another place by place.
-use Rattle.std.proofs.Common.{◌≡◌, ◌≢◌, ℕ, suc, ◌<◌, List, [], ◌∷◌, ◌++◌, All, AllPairs, get_or, length, map, ap, sym, ◌∙◌, subst, refl, arith}
-use Rattle.std.proofs.Math.ListN.{get_or-map}
-use Rattle.std.proofs.lemmas.List.{get_or_default, length-map}
-use Rattle.std.proofs.lemmas.List.Elements.{All-cons, All-head, All-nil, All-tail}
+use Rattle.std.proofs.Common.{◌≡◌, suc, List, [], ◌∷◌, ◌++◌, All, length, ap, refl}
+use Rattle.std.proofs.lemmas.List.Elements.{All-cons, All-nil}
 use Rattle.batch_pool.specs.Batches.{AreMatched}
 
 module _ {X Y : Type 0} (R : X → Y → Type 0) where
@@ -44,36 +42,3 @@ module _ {X Y : Type 0} (R : X → Y → Type 0) where
   pub matched_none : (ys : List Y) → AreMatched R [] ys → ys ≡ []
   matched_none [] all = refl
   matched_none (y ∷ ys) all = absurd all
-
--- ---- names that differ
-
-AllPairs-map : {X Y : Type 0} (R : Y → Y → Type 0) (f : X → Y) (xs : List X) → AllPairs R (map f xs) → AllPairs (λ a b. R (f a) (f b)) xs
-AllPairs-map R f xs h i j d less below =
-    let there : j < length (map f xs) = omega (arith, length-map xs f) in
-    subst (λ y. R (f (get_or xs i d)) y) (get_or-map f xs j d)
-    (subst (λ y. R y (get_or (map f xs) j (f d))) (get_or-map f xs i d) (h i j (f d) less there))
-
-AllPairs-mapped : {X Y : Type 0} (R : Y → Y → Type 0) (f : X → Y) (xs : List X) → AllPairs (λ a b. R (f a) (f b)) xs → AllPairs R (map f xs)
-AllPairs-mapped R f [] h i j d less below = absurd (omega arith)
-AllPairs-mapped R f (x ∷ xs) h i j d less below =
-    let long = length-map (x ∷ xs) f in
-    let there : j < length (x ∷ xs) = omega arith in
-    let sooner : i < length (map f (x ∷ xs)) = omega arith in
-    let at = λ (k : ℕ) (within : k < length (map f (x ∷ xs))).
-    get_or_default (map f (x ∷ xs)) k d (f x) within ∙ get_or-map f (x ∷ xs) k x in
-    subst (λ y. R y (get_or (map f (x ∷ xs)) j d)) (sym (at i sooner))
-    (subst (λ y. R (f (get_or (x ∷ xs) i x)) y) (sym (at j below)) (h i j x less there))
-
--- lists with the same names have them apart alike
-pub apart_alike : {X Z N : Type 0} (f : X → N) (g : Z → N) (xs : List X) (zs : List Z) → map g zs ≡ map f xs
-    → AllPairs (λ a b. f a ≢ f b) xs → AllPairs (λ a b. g a ≢ g b) zs
-apart_alike f g xs zs same apart =
-    AllPairs-map (λ a b. a ≢ b) g zs (subst (AllPairs (λ a b. a ≢ b)) (sym same) (AllPairs-mapped (λ a b. a ≢ b) f xs apart))
-
-pub All-left : {X : Type 0} (P : X → Type 0) (xs ys : List X) → All P (xs ++ ys) → All P xs
-All-left P [] ys all = All-nil P
-All-left P (x ∷ xs) ys all = All-cons P x xs (All-head P x (xs ++ ys) all) (All-left P xs ys (All-tail P x (xs ++ ys) all))
-
-pub All-right : {X : Type 0} (P : X → Type 0) (xs ys : List X) → All P (xs ++ ys) → All P ys
-All-right P [] ys all = all
-All-right P (x ∷ xs) ys all = All-right P xs ys (All-tail P x (xs ++ ys) all)

@@ -6,10 +6,10 @@ use Rattle.std.proofs.lemmas.List.{length-map, map-append}
 use Rattle.std.proofs.lemmas.List.Sorted.{IsPermutation-append, IsPermutation-append_right}
 use Rattle.std.proofs.lemmas.List.Sorted.{IsPermutation-trans, length_permutation}
 use Rattle.std.specs.List.{range_with_len}
+use Rattle.rail_types.proofs.Elements.{all_left, all_of_map, all_right}
 use Rattle.served_clients.specs.admission.declared.rules.Rule.{Ghosts as Rules}
 use Rattle.batch_pool.specs.Batches.{all_places, AreMatched}
 use Rattle.batch_pool.specs.declared.workers.Served.{Served}
-use Rattle.batch_pool.proofs.Ends.{all_mapped}
 use Rattle.batch_command.specs.Batches.{AreTexts, own_places}
 use Rattle.batch_command.specs.Clerks.{EachWent, free_places, IsFresh, IsSound, owned_places}
 use Rattle.batch_command.specs.Outcomes.{HaveAnswered}
@@ -21,7 +21,6 @@ use Rattle.served_clients.specs.turns.Turns.{Sight}
 use Rattle.served_clients.specs.turns.declared.shared.Shared.{Shared}
 use Rattle.batch_command.specs.InOrder.{all_answers, AreInOrder, AreWhole, places, reply_at}
 use Rattle.served_clients.specs.lines.declared.reply_texts.replies.Reply.{Reply}
-use Rattle.batch_command.proofs.Matched.{All-left, All-right}
 use Rattle.batch_command.proofs.Places.{all_own, owned_and_free}
 use Rattle.batch_command.proofs.Shares.{all_back, all_done, all_given, all_still, all_told}
 use Rattle.batch_command.proofs.Shares.{all_worked, AreOnes, IsServedOne, names_are, One, own_first}
@@ -114,7 +113,7 @@ module _ {D Btw L : Type 0} (kind : Rules L) (shared : Shared D) (lines : List (
       let rest : List (ℕ × Reply) = flat_map (λ part. part) (map (λ (o : One D Btw L). o.part) ones) in record {
         replies = placed.replies;
         number = placed.number ∙ same;
-        given = all_given kind shared lines owners kept kept_are placed.replies 0 ones (All-left P kept rest placed.placed) (All-right P kept rest placed.placed);
+        given = all_given kind shared lines owners kept kept_are placed.replies 0 ones (all_left P kept rest placed.placed) (all_right P kept rest placed.placed);
         texts_are = placed.texts_are;
       }
 
@@ -126,7 +125,7 @@ module _ {D Btw L : Type 0} (kind : Rules L) (shared : Shared D) (lines : List (
     come_back served led sound =
         let P : Clerk D Btw L → Type 0 = λ c. IsBack shared c.seat in
         let z : Zipped kind shared lines owners kept 0 olds served = zipped kind shared lines owners kept olds mids served fresh went long led sound in
-        all_mapped P (λ s. s.worker) served (subst (All P) (sym z.news_are) (all_back kind shared lines owners kept 0 z.ones z.all))
+        all_of_map P (λ s. s.worker) served (subst (All P) (sym z.news_are) (all_back kind shared lines owners kept 0 z.ones z.all))
 
     module _ (members : List (Member Btw L)) (sit : AreMatched (IsClerkOf kind shared) members olds) (theirs : All (λ owner. IfSome owner (λ worker. worker < length olds)) owners) where
       -- each line was answered, and the texts were made, or memory was wanted for them

@@ -34,9 +34,9 @@ use Rattle.served_clients.specs.turns.declared.shared.Shared.{Shared}
 use Rattle.served_clients.specs.sessions.Ends.{Traffic}
 use Rattle.served_clients.specs.sessions.Told.{AreAnswered, lines_told, Told}
 use Rattle.rail_types.specs.declared.entries.Entry.{Entry}
+use Rattle.rail_types.proofs.Elements.{all_left, all_right}
 use Rattle.served_clients.specs.lines.declared.reply_texts.replies.Reply.{Reply}
 use Rattle.batch_command.proofs.Clerking.{answered_append, leads_led, Led, length_told, told_append}
-use Rattle.batch_command.proofs.Matched.{All-left, All-right}
 use Rattle.batch_command.proofs.Places.{filter_within, map_filter}
 
 -- a worker at its seat before its first line and behind its last, and what it answered of those lines that were nobody's
@@ -196,8 +196,8 @@ module _ {D Btw L : Type 0} (kind : Rules L) (shared : Shared D) (lines : List (
         let P : ℕ × Reply → Type 0 = λ a. reply_at replies a.0 ≡ a.1 in
         let rest : List (ℕ × Reply) = flat_map (λ part. part) (map (λ (o : One D Btw L). o.part) ones) in
         let each = All-append P (answers_by owners k kept) one.part
-        (All-filter P (λ a. is_of k (get_or owners a.0 None)) kept mine) (All-left P one.part rest theirs) in
-        (replies_of_told lines replies (answers_of owners kept k one.part) each ∙ ap (map (reply_at replies)) (places_of owners kept kept_are k one.part), all_given replies (k + 1) ones mine (All-right P one.part rest theirs))
+        (All-filter P (λ a. is_of k (get_or owners a.0 None)) kept mine) (all_left P one.part rest theirs) in
+        (replies_of_told lines replies (answers_of owners kept k one.part) each ∙ ap (map (reply_at replies)) (places_of owners kept kept_are k one.part), all_given replies (k + 1) ones mine (all_right P one.part rest theirs))
 
   own_at : (k : ℕ) (ones : List (One D Btw L)) (i : ℕ) → i < length (shares_from k ones)
       → StartsWith (get_or (shares_from k ones) i []) (own_places owners (k + i))

@@ -14,6 +14,7 @@ use Rattle.std.proofs.lemmas.List.Sorted.{All-permutation, Contains-permutation,
 use Rattle.std.proofs.lemmas.Map.Keys.{IsDistinct-IsPermutation}
 use Rattle.std.proofs.lemmas.Map.Made.{AllPairs-from_IsDistinct, IsDistinct-from_AllPairs}
 use Rattle.std.specs.List.{range_with_len}
+use Rattle.rail_types.proofs.Elements.{all_left, all_right}
 use Rattle.batch_command.specs.InOrder.{AreInOrder, AreWhole, places}
 use Rattle.batch_command.specs.Tables.{filled, texts_by}
 use Rattle.served_clients.specs.lines.Replies.{reply_text}
@@ -129,19 +130,11 @@ module _ {T : Type 0} (count : ℕ) (answers : List (ℕ × T)) (all : IsPermuta
 -- ---- answers in parts
 
 module _ {X : Type 0} (P : X → Type 0) where
-  pub all_front : (xs ys : List X) → All P (xs ++ ys) → All P xs
-  all_front [] ys all = All-nil P
-  all_front (x ∷ xs) ys all = All-cons P x xs (All-head P x (xs ++ ys) all) (all_front xs ys (All-tail P x (xs ++ ys) all))
-
-  pub all_back : (xs ys : List X) → All P (xs ++ ys) → All P ys
-  all_back [] ys all = all
-  all_back (x ∷ xs) ys all = all_back xs ys (All-tail P x (xs ++ ys) all)
-
   -- what holds of all parts holds of each
   pub all_of_part : (parts : List (List X)) (k : ℕ) (d : List X) → k < length parts → All P (flat_map (λ part. part) parts) → All P (get_or parts k d)
   all_of_part [] k d less all = absurd (omega arith)
-  all_of_part (part ∷ parts) zero d less all = all_front part (flat_map (λ p. p) parts) all
-  all_of_part (part ∷ parts) (suc k) d less all = all_of_part parts k d (omega arith) (all_back part (flat_map (λ p. p) parts) all)
+  all_of_part (part ∷ parts) zero d less all = all_left P part (flat_map (λ p. p) parts) all
+  all_of_part (part ∷ parts) (suc k) d less all = all_of_part parts k d (omega arith) (all_right P part (flat_map (λ p. p) parts) all)
 
 -- ---- the texts of replies
 

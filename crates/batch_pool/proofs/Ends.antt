@@ -1,7 +1,7 @@
 -- Lists that are taken apart from their ends.
 use Rattle.std.proofs.Common.{◌≡◌, suc, List, [], ◌∷◌, ◌++◌, All, length, reverse, map, sym, refl, ap, ◌∙◌, subst, arith}
 use Rattle.std.proofs.lemmas.List.{append-nil, append_assoc, map-append, reverse-append, reverse-reverse}
-use Rattle.std.proofs.lemmas.List.Elements.{All-cons, All-nil, All-push}
+use Rattle.std.proofs.lemmas.List.Elements.{All-nil, All-push}
 
 -- the last of those left goes behind those that are done
 turned : {X : Type 0} (done left whole : List X) (x : X) → done ++ reverse (left ++ x ∷ []) ≡ whole → (done ++ x ∷ []) ++ reverse left ≡ whole
@@ -41,7 +41,3 @@ map_reverse f (x ∷ xs) = ap (map f) (reverse-append (x ∷ []) xs) ∙ (map-ap
 
 pub reversed_map : {J X : Type 0} (f : J → X) (xs : List J) → reverse (map f (reverse xs)) ≡ map f xs
 reversed_map f xs = ap reverse (map_reverse f xs) ∙ reverse-reverse (map f xs)
-
-pub all_mapped : {J X : Type 0} (P : X → Type 0) (f : J → X) (xs : List J) → All P (map f xs) → All (λ x. P (f x)) xs
-all_mapped P f [] all = λ k d l. absurd (omega arith)
-all_mapped P f (x ∷ xs) all = All-cons (λ y. P (f y)) x xs (all 0 (f x) (omega arith)) (all_mapped P f xs (λ k d l. all (suc k) d (omega arith)))

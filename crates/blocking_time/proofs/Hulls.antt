@@ -3,12 +3,13 @@ use Rattle.std.proofs.Common.{◌≡◌, ◌∙◌, ◌⊎◌, ◌↔◌, sym, r
 use Rattle.std.proofs.lemmas.Int.{ints, by_lt_z}
 use Rattle.std.proofs.lemmas.Bool.Decides.{leb_tells, not_from_Decides, Decides-and, Decides-or, Decides-eqb, Decides-ltb}
 use Rattle.std.proofs.lemmas.List.Elements.{All-nil, All-cons, All-head, All-tail, All-weaker}
+use Rattle.std.proofs.lemmas.List.Kept.{AllPairs-cons}
 use Rattle.rail_types.specs.declared.paths.Claim.{Claim}
 use Rattle.rail_types.specs.Occupation.{AreJoined, EndsBefore, HasTicks}
+use Rattle.rail_types.proofs.Elements.{all_pairs_nil, all_pairs_head, all_pairs_tail}
 use Rattle.blocking_time.specs.Ticks.{Takes, Covers}
 use Rattle.blocking_time.specs.Joined.{CoverTheSame, ends_before, hull, joined_claims, joined_with}
 use Rattle.blocking_time.specs.Laws.{JoinedClaimsAreOne}
-use Rattle.blocking_time.proofs.Pairs.{all_pairs_nil, all_pairs_head, all_pairs_tail, all_pairs_cons}
 
 abbrev HasSome : Claim → Type 0
 HasSome claim = HasTicks claim.span
@@ -23,7 +24,7 @@ joined_nil : AreJoined []
 joined_nil = record { ticks = All-nil HasSome; apart = all_pairs_nil EndsBefore }
 
 joined_cons : (claim : Claim) (claims : List Claim) → HasTicks claim.span → All (EndsBefore claim) claims → AreJoined claims → AreJoined (claim ∷ claims)
-joined_cons claim claims some ends made = record { ticks = All-cons HasSome claim claims some made.ticks; apart = all_pairs_cons EndsBefore claim claims ends made.apart }
+joined_cons claim claims some ends made = record { ticks = All-cons HasSome claim claims some made.ticks; apart = AllPairs-cons EndsBefore claim claims ends made.apart }
 
 first_ticks : (claim : Claim) (claims : List Claim) → AreJoined (claim ∷ claims) → HasTicks claim.span
 first_ticks claim claims made = All-head HasSome claim claims made.ticks

@@ -4,14 +4,16 @@ use Rattle.std.proofs.lemmas.Int.{ints, by_lt_z}
 use Rattle.std.proofs.lemmas.List.Elements.{All-nil, All-cons, All-append, All-weaker}
 use Rattle.rail_types.specs.declared.paths.Claim.{Claim}
 use Rattle.rail_types.specs.Occupation.{AreJoined, EndsBefore, HasTicks}
+use Rattle.rail_types.proofs.Elements.{all_pairs_nil, all_pairs_append}
 use Rattle.blocking_time.specs.Ticks.{Takes, Covers}
 use Rattle.std.specs.List.Sorted.{IsSortedBy}
 use Rattle.std.specs.Cmp.{IsStrictWeakOrder}
 use Rattle.std.proofs.lemmas.Bool.Decides.{nat_tests, leb_tells, eqb_tells}
+use Rattle.std.proofs.lemmas.List.Kept.{AllPairs-cons}
 use Rattle.std.proofs.lemmas.List.{get_or_default, take_more}
 use Rattle.std.proofs.lemmas.List.Sorted.{sorted_far, IsPermutation-sym, Contains-permutation}
 use Rattle.blocking_time.specs.Joined.{NoneBehind, AreByBegin, AreJoinedUpTo, comes_first, CoverTheSame, BeginsBy, Meets, united, HasJoined}
-use Rattle.blocking_time.proofs.Pairs.{all_front, all_last, all_pairs_nil, all_pairs_cons, all_pairs_append, all_pairs_front, all_pairs_last}
+use Rattle.blocking_time.proofs.Pairs.{all_front, all_last, all_pairs_front, all_pairs_last}
 
 abbrev HasSome : Claim → Type 0
 HasSome claim = HasTicks claim.span
@@ -75,7 +77,7 @@ module _ (front : List Claim) (last claim : Claim) (made : AreJoined (front ++ l
     joins_last = record {
       joined = record {
         ticks = All-append HasSome front (united last claim ∷ []) (all_front HasSome front last made.ticks) (All-cons HasSome (united last claim) [] both_ticks (All-nil HasSome));
-        apart = all_pairs_append EndsBefore front (united last claim ∷ []) (all_pairs_front EndsBefore front last made.apart) (all_pairs_cons EndsBefore (united last claim) [] (All-nil (EndsBefore (united last claim))) (all_pairs_nil EndsBefore))
+        apart = all_pairs_append EndsBefore front (united last claim ∷ []) (all_pairs_front EndsBefore front last made.apart) (AllPairs-cons EndsBefore (united last claim) [] (All-nil (EndsBefore (united last claim))) (all_pairs_nil EndsBefore))
             (All-weaker (λ one. EndsBefore one last) (λ one. All (EndsBefore one) (united last claim ∷ [])) (λ one ends. All-cons (EndsBefore one) (united last claim) [] ends (All-nil (EndsBefore one))) front (all_pairs_last EndsBefore front last made.apart));
       };
       behind = All-append (λ one. BeginsBy one claim) front (united last claim ∷ []) (all_front (λ one. BeginsBy one claim) front last behind) (All-cons (λ one. BeginsBy one claim) (united last claim) [] (inr (meets.0, begun)) (All-nil (λ one. BeginsBy one claim)));
@@ -116,7 +118,7 @@ module _ (front : List Claim) (last claim : Claim) (made : AreJoined (front ++ l
     joins_behind = record {
       joined = record {
         ticks = All-append HasSome (front ++ last ∷ []) (claim ∷ []) made.ticks (All-cons HasSome claim [] ticks (All-nil HasSome));
-        apart = all_pairs_append EndsBefore (front ++ last ∷ []) (claim ∷ []) made.apart (all_pairs_cons EndsBefore claim [] (All-nil (EndsBefore claim)) (all_pairs_nil EndsBefore))
+        apart = all_pairs_append EndsBefore (front ++ last ∷ []) (claim ∷ []) made.apart (AllPairs-cons EndsBefore claim [] (All-nil (EndsBefore claim)) (all_pairs_nil EndsBefore))
             (All-append (λ one. All (EndsBefore one) (claim ∷ [])) front (last ∷ [])
             (All-weaker (λ one. EndsBefore one last) (λ one. All (EndsBefore one) (claim ∷ [])) (λ one ends. All-cons (EndsBefore one) claim [] (others_end one ends) (All-nil (EndsBefore one))) front (all_pairs_last EndsBefore front last made.apart))
             (All-cons (λ one. All (EndsBefore one) (claim ∷ [])) last [] (All-cons (EndsBefore last) claim [] ends_before (All-nil (EndsBefore last))) (All-nil (λ one. All (EndsBefore one) (claim ∷ [])))));
@@ -127,7 +129,7 @@ module _ (front : List Claim) (last claim : Claim) (made : AreJoined (front ++ l
 
 pub joins_first : (claim : Claim) → HasTicks claim.span → HasJoined [] claim (claim ∷ [])
 joins_first claim ticks = record {
-  joined = record { ticks = All-cons HasSome claim [] ticks (All-nil HasSome); apart = all_pairs_cons EndsBefore claim [] (All-nil (EndsBefore claim)) (all_pairs_nil EndsBefore) };
+  joined = record { ticks = All-cons HasSome claim [] ticks (All-nil HasSome); apart = AllPairs-cons EndsBefore claim [] (All-nil (EndsBefore claim)) (all_pairs_nil EndsBefore) };
   behind = All-cons (λ one. BeginsBy one claim) claim [] (inr (refl, omega (arith, ints))) (All-nil (λ one. BeginsBy one claim));
   same = λ zone tick. (λ covered. covered, λ covered. covered);
 }

@@ -1,20 +1,15 @@
 -- Entries that are carried one by one, and spelled.
-use Rattle.std.proofs.Common.{◌≡◌, ◌∙◌, ℕ, zero, suc, ◌<◌, ◌^◌, List, [], ◌∷◌, ◌++◌, map, length}
-use Rattle.std.proofs.Common.{append_assoc, All, Contains, Some, slice_get, sym, ap, arith}
+use Rattle.std.proofs.Common.{◌≡◌, ◌∙◌, ℕ, ◌<◌, ◌^◌, List, [], ◌∷◌, ◌++◌, length}
+use Rattle.std.proofs.Common.{append_assoc, All, Some, slice_get, sym, ap}
 use Rattle.std.proofs.lemmas.List.{append-nil}
 use Rattle.std.proofs.lemmas.List.Concat.{flat_map-append}
 use Rattle.std.proofs.lemmas.List.Elements.{All-append, All-cons, All-contains, All-nil}
 use Rattle.path_recover.specs.spelling.Body.{body_of}
 use Rattle.path_recover.specs.journal.Histories.{bodies_of, counted, front_of, opened}
-use Rattle.path_recover.proofs.history_lemmas.Elements.{contains_tail, no_element}
 use Rattle.path_recover.proofs.history_lemmas.Slices.{is_contained}
 use Rattle.rail_types.specs.declared.entries.Entry.{Entry}
+use Rattle.rail_types.proofs.Elements.{contains_map}
 use Rattle.carry_command.specs.Carried.{alone, entries_at}
-
-pub contains_map : {X Y : Type 0} (f : X → Y) (xs : List X) (x : X) → Contains xs x → Contains (map f xs) (f x)
-contains_map f [] x contains = absurd (no_element x contains)
-contains_map f (y ∷ ys) x (zero, within, here) = (zero, omega arith, ap f here)
-contains_map f (y ∷ ys) x (suc k, within, here) = contains_tail (f y) (f x) (map f ys) (contains_map f ys x (k, omega arith, here))
 
 pub body_short : (entries : List Entry) (at : ℕ) (entry : Entry) → slice_get entries at ≡ Some entry → All (λ body. length body < 2 ^ 32) (bodies_of entries) → length (body_of entry) < 2 ^ 32
 body_short entries at entry here short = All-contains (λ body. length body < 2 ^ 32) (bodies_of entries) (body_of entry) short (contains_map body_of entries entry (is_contained entries at entry here))

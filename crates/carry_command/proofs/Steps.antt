@@ -1,11 +1,11 @@
 -- What is carried of the first entries of a history, and of one more.
 use Rattle.std.proofs.Common.{◌≡◌, ◌⊎◌, ◌∙◌, ℕ, ◌+◌, ◌<◌, List, [], ◌∷◌, ◌++◌, length, take, drop}
-use Rattle.std.proofs.Common.{get_or, Some, slice_get, All, AllPairs, Any, Contains, inl, inr, refl}
+use Rattle.std.proofs.Common.{get_or, Some, slice_get, All, AllPairs, Contains, inl, inr, refl}
 use Rattle.std.proofs.Common.{sym, ap, subst, arith}
 use Rattle.std.proofs.lemmas.Bool.{cases_eq}
-use Rattle.std.proofs.lemmas.List.{drop-append-le, drop_all, get_or_append_left, length-append}
+use Rattle.std.proofs.lemmas.List.{drop-append-le, drop_all, length-append}
 use Rattle.std.proofs.lemmas.List.{take-append-le, take_all}
-use Rattle.std.proofs.lemmas.List.Elements.{All-append, All-contains, All-cons, All-nil}
+use Rattle.std.proofs.lemmas.List.Elements.{All-append, All-contains, All-nil}
 use Rattle.std.proofs.lemmas.List.Elements.{Contains-append_left, Contains-append_right}
 use Rattle.std.proofs.lemmas.List.Quantifiers.{Any-push}
 use Rattle.std.proofs.lemmas.Option.{slice_get-get_or, slice_get_within}
@@ -20,10 +20,10 @@ use Rattle.path_recover.specs.history.Verdict.{verdict_on}
 use Rattle.path_recover.proofs.history_lemmas.Slices.{is_contained, slice_get_kept, slice_get_last}
 use Rattle.path_recover.proofs.history_lemmas.Slices.{slice_get_push, take_slice_get}
 use Rattle.path_recover.proofs.history_lemmas.Elements.{all_by, contains_head}
-use Rattle.path_recover.proofs.history_lemmas.Pairs.{all_pairs_append}
 use Rattle.rail_types.specs.declared.entries.Entry.{Entry}
 use Rattle.rail_types.specs.declared.entries.Owner.TheVariants.{Base as of_train, Entry as of_entry}
 use Rattle.rail_types.specs.Timetables.{Timetable}
+use Rattle.rail_types.proofs.Elements.{all_one, all_pairs_append, any_left}
 use Rattle.carry_command.specs.Carried.{AreKept, IsCarriedTo, IsLeftOut, IsLiveAt, IsReason}
 use Rattle.carry_command.specs.declared.carried_history.reasons.LeftOut.{LeftOut}
 use Rattle.carry_command.specs.declared.carried_history.reasons.Reason.{Reason}
@@ -32,14 +32,8 @@ use Rattle.carry_command.specs.declared.carried_history.reasons.Reason.{Reason}
 all_more : {X : Type 0} (P Q : X → Type 0) (xs : List X) → ((x : X) → P x → Q x) → All P xs → All Q xs
 all_more P Q xs more all = λ k d within. more (get_or xs k d) (all k d within)
 
-all_one : {X : Type 0} (P : X → Type 0) (x : X) → P x → All P (x ∷ [])
-all_one P x p = All-cons P x [] p (All-nil P)
-
 pairs_one : {X : Type 0} (R : X → X → Type 0) (x : X) → AllPairs R (x ∷ [])
 pairs_one R x i j other less within = absurd (omega arith)
-
-any_left : {X : Type 0} (P : X → Type 0) (xs ys : List X) → Any P xs → Any P (xs ++ ys)
-any_left P xs ys (k, x, within, here, p) = (k, x, omega (arith, within, length-append xs ys), get_or_append_left xs ys x k within ∙ here, p)
 
 -- a reason stays one, whatever is carried behind
 reason_kept : (kept : List ℕ) (at : ℕ) (verdict : Verdict) (reason : Reason) → IsReason kept verdict reason → IsReason (kept ++ at ∷ []) verdict reason

@@ -13,6 +13,7 @@ use Rattle.path_recover.specs.journal.Headers.{header_of}
 use Rattle.path_recover.specs.journal.Histories.{bodies_of, front_of}
 use Rattle.rail_types.specs.declared.entries.Entry.{Entry}
 use Rattle.rail_types.specs.Timetables.{Timetable}
+use Rattle.rail_types.proofs.Elements.{contains_map}
 use Rattle.command_files.specs.declared.bases.BaseFile.{BaseFile}
 use Rattle.command_files.specs.declared.networks.NetworkFile.{NetworkFile}
 use Rattle.command_reports.specs.declared.refusals.Refusal.{Refusal}
@@ -24,7 +25,6 @@ use Rattle.carry_command.specs.Prepared.{IsPrepared, Prepares, TellsLeft}
 use Rattle.carry_command.specs.Unfinished.{IsMarked}
 use Rattle.carry_command.specs.declared.carried_history.carrying.Carried.{Carried}
 use Rattle.carry_command.specs.declared.preparing.Prepared.{Prepared}
-use Rattle.carry_command.proofs.Spelled.{contains_map}
 
 -- the bodies of what was carried are among those of what it was carried from
 pub short_kept : (old entries : List Entry) (kept : List ℕ) → AreKept old entries kept → All (λ body. length body < 2 ^ 32) (bodies_of old) → All (λ body. length body < 2 ^ 32) (bodies_of entries)

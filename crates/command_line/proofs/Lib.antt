@@ -2,7 +2,6 @@ pub mod Spellings
 pub mod Under
 pub mod NamingBatches
 pub mod Workers
-pub mod Apart
 pub mod NamingClients
 pub mod FirstOf
 pub mod NamingProofs

@@ -15,6 +15,7 @@ use Rattle.rail_types.specs.Named.{IsId, IsNamed}
 use Rattle.rail_types.specs.declared.named_network.BlockName.{BlockName}
 use Rattle.rail_types.specs.declared.named_network.TrackPiece.{TrackPiece}
 use Rattle.rail_types.specs.declared.named_network.ZoneName.{ZoneName}
+use Rattle.rail_types.proofs.Elements.{all_one}
 use Rattle.demo_command.specs.Railways.{block_count, block_name_at, demo_network, demo_railway, demo_settings, demo_timetable, demo_train, first_block_names, first_blocks, first_zone_names, piece_at, zone_name_at}
 
 without_flaw : first_flaw demo_network ≡ None
@@ -43,10 +44,6 @@ is_text name all =
 id_of : (name : List ℕ) → 1 ≤ length name → length name ≤ MAX_ID_BYTES → list_all (λ byte. nat_lt byte 128) name ≡ true → IsId name
 id_of name least most text = record { least = least; most = most; text = is_text name text }
 
-pub one : {A : Type 0} (P : A → Type 0) (x : A) → P x → All P (x ∷ [])
-one P x holds zero d within = holds
-one P x holds (suc k) d within = absurd (omega arith)
-
 route_id : IsId (codes "W->E")
 route_id = id_of (codes "W->E") (omega arith) (omega arith) refl
 
@@ -61,7 +58,7 @@ stop_ids (suc (suc k)) d within = absurd (omega arith)
 block_ids : (count : ℕ) → All (λ block. IsId block.route) (first_block_names count)
 unfolding first_block_names
 block_ids zero = λ k d within. absurd (omega arith)
-block_ids (suc count) = All-append (λ (block : BlockName). IsId block.route) (first_block_names count) (block_name_at count ∷ []) (block_ids count) (one (λ (block : BlockName). IsId block.route) (block_name_at count) route_id)
+block_ids (suc count) = All-append (λ (block : BlockName). IsId block.route) (first_block_names count) (block_name_at count ∷ []) (block_ids count) (all_one (λ (block : BlockName). IsId block.route) (block_name_at count) route_id)
 
 abbrev HasIds : ZoneName → Type 0
 HasIds zone = All (λ piece. IsId piece.track) zone.pieces
@@ -69,7 +66,7 @@ HasIds zone = All (λ piece. IsId piece.track) zone.pieces
 zone_ids : (count : ℕ) → All HasIds (first_zone_names count)
 unfolding first_zone_names
 zone_ids zero = λ k d within. absurd (omega arith)
-zone_ids (suc count) = All-append HasIds (first_zone_names count) (zone_name_at count ∷ []) (zone_ids count) (one HasIds (zone_name_at count) (one (λ (piece : TrackPiece). IsId piece.track) (piece_at count) track_id))
+zone_ids (suc count) = All-append HasIds (first_zone_names count) (zone_name_at count ∷ []) (zone_ids count) (all_one HasIds (zone_name_at count) (all_one (λ (piece : TrackPiece). IsId piece.track) (piece_at count) track_id))
 
 pub is_named : IsNamed demo_railway
 is_named = record {
@@ -110,4 +107,4 @@ train_within = record {
 }
 
 pub trains_within : All IsTrainWithinLimits (demo_train ∷ [])
-trains_within = one IsTrainWithinLimits demo_train train_within
+trains_within = all_one IsTrainWithinLimits demo_train train_within

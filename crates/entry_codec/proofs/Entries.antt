@@ -1,6 +1,6 @@
 -- Entries are read where their bodies stand.
 use Rattle.std.proofs.Common.{◌≡◌, ◌≢◌, ℕ, zero, suc, ◌+◌, ◌-◌, ◌^◌, ◌<◌, ◌≤◌, Bool, true, false, cond, eqb, List, [], ◌∷◌, ◌++◌, length, take, Option, Some, All, Result, Ok, Err, refl, sym, ap, subst, ◌∙◌, append_assoc, arith, inl, inr}
-use Rattle.std.proofs.lemmas.Bool.{eqb-true}
+use Rattle.std.proofs.lemmas.Bool.{and_parts, eqb-true}
 use Rattle.std.proofs.Math.Dec.{eqb-suc-zero}
 use Rattle.std.proofs.lemmas.Bool.Decides.{nat_tests}
 use Rattle.std.specs.Prelude.{IfOk, IfErr}
@@ -33,7 +33,7 @@ use Rattle.entry_codec.specs.Within.{IsFourBytes, IsDeedOfItsTypes, HasBody}
 use Rattle.entry_codec.specs.Reading.{meant, any_bytes, before_all, reasoned_field, kind_of, byte_field, name_field, list_field, stop_field, run_field, asked_field, pinned_field, kind_field, deed_field, entry_field, whole, entry_at, after, Gives, GivesAll, Refuses}
 use Rattle.entry_codec.proofs.Readers.{IsBytes, Taken, joined, Spells, with_text, Reads, then_takes, then_spells, made_takes, made_spells, ok_is, under_limits, meant_reads}
 use Rattle.entry_codec.proofs.Items.{after_ok}
-use Rattle.entry_codec.proofs.Numbers.{both_true, taken_bytes, byte_reads, number_reads, name_reads, IsNameOf}
+use Rattle.entry_codec.proofs.Numbers.{taken_bytes, byte_reads, number_reads, name_reads, IsNameOf}
 use Rattle.entry_codec.proofs.Parts.{chosen, same_some, nothing_is, limited_reads, position_reads, window_reads, claim_reads, IsClaim, AreNext, claims_read, next_claims, next_apart, are_next, all_behind, train_reads, stop_reads, IsStop, run_reads, IsRun, IsListOf, list_reads}
 
 -- ---- the lists of a grant
@@ -312,7 +312,7 @@ name_byte_is byte h = grind (arith, nat_tests)
 
 name_bytes_pass : (name : List ℕ) → list_all is_name_byte name ≡ true → AllByRecursion IsNameByte name
 name_bytes_pass [] e = tt
-name_bytes_pass (x ∷ xs) e = let b = both_true (is_name_byte x) (list_all is_name_byte xs) e in (name_byte_passes x b.0, name_bytes_pass xs b.1)
+name_bytes_pass (x ∷ xs) e = let b = and_parts (is_name_byte x) (list_all is_name_byte xs) e in (name_byte_passes x b.0, name_bytes_pass xs b.1)
 
 pub name_bytes_are : (name : List ℕ) → AllByRecursion IsNameByte name → list_all is_name_byte name ≡ true
 name_bytes_are [] h = refl

@@ -2,7 +2,7 @@
 use Rattle.std.proofs.Common.{◌≡◌, ℕ, zero, suc, ◌<◌, true, List, [], ◌∷◌, ◌++◌, get_or, Ok, Err, refl, sym, arith}
 use Rattle.std.specs.Prelude.{nat_lt}
 use Rattle.std.specs.List.{list_all}
-use Rattle.std.proofs.lemmas.Bool.{ltb-true}
+use Rattle.std.proofs.lemmas.Bool.{and_parts, ltb-true}
 use Rattle.rail_types.specs.declared.entries.Entry.{Entry}
 use Rattle.entry_codec.specs.Body.{body_of}
 use Rattle.entry_codec.specs.Within.{HasBody}
@@ -16,14 +16,13 @@ use Rattle.entry_codec.specs.Places.{Field, fields_of}
 use Rattle.entry_codec.proofs.Stops.{AreRight}
 use Rattle.entry_codec.proofs.Wrongs.{RunForm, StopForm}
 use Rattle.entry_codec.proofs.Refusals.{full_is}
-use Rattle.entry_codec.proofs.Numbers.{both_true}
 use Rattle.entry_codec.proofs.Readers.{IsBytes}
 use Rattle.entry_codec.proofs.Entries.{body_is}
 
 bytes_by : (bytes : List ℕ) → list_all (λ byte. nat_lt byte 256) bytes ≡ true → IsBytes bytes
 bytes_by [] e i = omega arith
-bytes_by (byte ∷ bytes) e zero = ltb-true byte 256 (both_true (nat_lt byte 256) (list_all (λ byte. nat_lt byte 256) bytes) e).0
-bytes_by (byte ∷ bytes) e (suc i) = bytes_by bytes (both_true (nat_lt byte 256) (list_all (λ byte. nat_lt byte 256) bytes) e).1 i
+bytes_by (byte ∷ bytes) e zero = ltb-true byte 256 (and_parts (nat_lt byte 256) (list_all (λ byte. nat_lt byte 256) bytes) e).0
+bytes_by (byte ∷ bytes) e (suc i) = bytes_by bytes (and_parts (nat_lt byte 256) (list_all (λ byte. nat_lt byte 256) bytes) e).1 i
 
 read_is : (body : List ℕ) (e : Entry) → list_all (λ byte. nat_lt byte 256) body ≡ true → entry_at body ≡ Ok e → HasBody e × (body_of e ≡ body)
 read_is body e fits read = let found = body_is body e (bytes_by body fits) read in (found.0, sym found.1)

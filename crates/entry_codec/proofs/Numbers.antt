@@ -1,9 +1,9 @@
 -- Bytes, numbers and names are read where they are spelled.
-use Rattle.std.proofs.Common.{◌≡◌, ℕ, ◌+◌, ◌^◌, ◌<◌, ◌≤◌, Bool, true, false, cond, ltb, ◌&&◌, List, [], ◌∷◌, ◌++◌, length, get_or, take, drop, Ok, Err, refl, sym, ap, subst, ◌∙◌, arith}
+use Rattle.std.proofs.Common.{◌≡◌, ℕ, ◌+◌, ◌^◌, ◌<◌, ◌≤◌, Bool, true, false, cond, ltb, List, [], ◌∷◌, ◌++◌, length, get_or, take, drop, Ok, Err, refl, sym, ap, subst, ◌∙◌, arith}
 use Rattle.std.specs.Prelude.{ℤ, FitsSigned, nat_le}
 use Rattle.std.specs.Int.{Width, w32, w64, byte_len, to_be_bytes, from_be_bytes, cast_signed, cast_unsigned}
 use Rattle.std.proofs.Math.Facts.{Fits-lt-pow, Fits-of_z, Fits-of_lt, sfits_to_z}
-use Rattle.std.proofs.lemmas.Bool.{ltb-false, leb-true, le-leb}
+use Rattle.std.proofs.lemmas.Bool.{ltb-false, leb-true, le-leb, and_parts}
 use Rattle.std.proofs.lemmas.Int.{of_z-to_z, to_z-of_z}
 use Rattle.std.proofs.lemmas.List.{take_at, take-append-drop, length-take, length-take-le}
 use Rattle.std.proofs.lemmas.Nat.{be_bytes_4, be_bytes_8, from_be_bytes-to_be_bytes_4, from_be_bytes-to_be_bytes_8}
@@ -118,13 +118,8 @@ signed_reads = record { takes = signed_takes; again = signed_again }
 
 -- ---- names
 
-pub both_true : (a b : Bool) → (a && b) ≡ true → (a ≡ true) × (b ≡ true)
-both_true true true e = (refl, refl)
-both_true true false e = absurd cc
-both_true false b e = absurd cc
-
 pub between : (least most n : ℕ) → is_between least most n ≡ true → (least ≤ n) × (n ≤ most)
-between least most n e = let b = both_true (nat_le least n) (nat_le n most) e in (leb-true least n b.0, leb-true n most b.1)
+between least most n e = let b = and_parts (nat_le least n) (nat_le n most) e in (leb-true least n b.0, leb-true n most b.1)
 
 pub is_between-true : (least most n : ℕ) → (least ≤ n) × (n ≤ most) → is_between least most n ≡ true
 is_between-true least most n h = rw (le-leb least n h.0, le-leb n most h.1) refl

@@ -1,6 +1,6 @@
 -- Each part of an entry is read where it is spelled.
 use Rattle.std.proofs.Common.{◌≡◌, ℕ, zero, suc, ◌^◌, ◌<◌, ◌≤◌, Bool, true, false, cond, eqb, ◌&&◌, List, [], ◌∷◌, ◌++◌, length, Some, None, Ok, refl, sym, ap, subst, ◌∙◌, append_assoc, arith, ◌⊎◌, inl, inr, ◌||◌, All, AllPairs}
-use Rattle.std.proofs.lemmas.Bool.{eqb-true, leb-true, le-leb, ltb-true, lt-ltb, cases_lt}
+use Rattle.std.proofs.lemmas.Bool.{eqb-true, leb-true, le-leb, ltb-true, lt-ltb, cases_lt, and_parts}
 use Rattle.std.proofs.lemmas.List.Elements.{All-from_recursion}
 use Rattle.std.proofs.lemmas.List.Kept.{AllPairs-cons}
 use Rattle.rail_types.specs.Occupation.{HasTicks, EndsBefore}
@@ -23,7 +23,7 @@ use Rattle.entry_codec.specs.Body.{claim_text, window_text, train_text, name_tex
 use Rattle.entry_codec.specs.Within.{IsFourBytes}
 use Rattle.entry_codec.specs.Reading.{Reading, done, meant, is_behind, before_all, next_zone_field, begin_field, next_claim_field, claims_field, flag_of, byte_field, name_field, limited_field, position_field, tick_field, later_field, flag_field, claim_field, window_field, train_field, stop_field, run_field, items_field, list_field}
 use Rattle.entry_codec.proofs.Readers.{IsBytes, Taken, joined, Spells, with_text, Reads, then_takes, then_spells, made_takes, made_spells, under_limits, meant_reads, passing_reads}
-use Rattle.entry_codec.proofs.Numbers.{byte_reads, number_reads, long_number_reads, signed_reads, name_reads, IsNameOf, between, is_between-true, both_true}
+use Rattle.entry_codec.proofs.Numbers.{byte_reads, number_reads, long_number_reads, signed_reads, name_reads, IsNameOf, between, is_between-true}
 
 -- ---- numbers within limits
 
@@ -58,7 +58,7 @@ position_reads =
 -- ---- ticks
 
 pub tick_passes : (t : ℤ) → is_tick t ≡ true → IsTick t
-tick_passes t e = let b = both_true (int_le (neg_ℤ MAX_TICK) t) (int_le t MAX_TICK) e in (grind (arith, ints, b.0), grind (arith, ints, b.1))
+tick_passes t e = let b = and_parts (int_le (neg_ℤ MAX_TICK) t) (int_le t MAX_TICK) e in (grind (arith, ints, b.0), grind (arith, ints, b.1))
 
 pub tick_is : (t : ℤ) → IsTick t → is_tick t ≡ true
 tick_is t h = grind (arith, ints, h.0, h.1)
@@ -67,7 +67,7 @@ tick_fits : (t : ℤ) → IsTick t → FitsSigned w64 t
 tick_fits t h = omega (arith, ints, h.0, h.1)
 
 pub later_passes : (from t : ℤ) → (is_tick t && int_lt from t) ≡ true → IsTick t × (from <ℤ t)
-later_passes from t e = let b = both_true (is_tick t) (int_lt from t) e in (tick_passes t b.0, grind (arith, ints, b.1))
+later_passes from t e = let b = and_parts (is_tick t) (int_lt from t) e in (tick_passes t b.0, grind (arith, ints, b.1))
 
 pub later_is : (from t : ℤ) → IsTick t × (from <ℤ t) → (is_tick t && int_lt from t) ≡ true
 later_is from t h = let low = tick_is t h.0 in let high : int_lt from t ≡ true = grind (arith, ints, h.1) in rw (low, high) refl
@@ -235,7 +235,7 @@ or_right false b e = e
 
 pub behind_passes : (before : Claim) (zone : ℕ) (t : ℤ) → is_behind before zone t ≡ true → IsTick t × IsBehind before zone t
 behind_passes before zone t e =
-    let b = both_true (is_tick t) (nat_lt before.zone zone || int_lt before.span.to t) e in (
+    let b = and_parts (is_tick t) (nat_lt before.zone zone || int_lt before.span.to t) e in (
       tick_passes t b.0,
       elim (either_true (nat_lt before.zone zone) (int_lt before.span.to t) b.1) [
         | inl lt ↦ inl (ltb-true before.zone zone lt)

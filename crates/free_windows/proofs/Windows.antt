@@ -6,7 +6,7 @@ use Rattle.std.proofs.lemmas.List.Elements.{All-push, All-nil}
 use Rattle.std.proofs.lemmas.Int.{ints, by_lt_z}
 use Rattle.std.specs.Int.{int_gap}
 use Rattle.rail_types.specs.declared.paths.Window.{Window}
-use Rattle.free_windows.proofs.Anys.{any_left, any_push_cases}
+use Rattle.rail_types.proofs.Elements.{any_left, any_push_cases}
 use Rattle.free_windows.specs.Free.{Holds}
 use Rattle.free_windows.specs.Starts.{IsNextWindow, AreWindowsOf}
 

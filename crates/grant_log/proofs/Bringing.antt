@@ -3,7 +3,6 @@ use Rattle.std.proofs.Common.{◌≡◌, ◌≢◌, ◌⊎◌, ℕ, zero, suc, �
 use Rattle.std.proofs.lemmas.Bool.{cases_lt}
 use Rattle.std.proofs.lemmas.Int.{ints}
 use Rattle.std.proofs.Math.Seq.{get_or-append_seam}
-use Rattle.std.proofs.Math.ListN.{get_or-append}
 use Rattle.std.proofs.lemmas.Bool.Decides.{nat_tests}
 use Rattle.std.proofs.lemmas.List.Elements.{All-append, All-nil, All-cons, All-contains, All-map, Contains-append_left, Contains-append_right}
 use Rattle.std.proofs.lemmas.Option.{slice_get_within}
@@ -16,6 +15,7 @@ use Rattle.rail_types.specs.declared.entries.Owner.TheVariants.{Base as of_train
 use Rattle.rail_types.specs.Limits.{IsNear, IsNearSpan, IsTick}
 use Rattle.rail_types.specs.Occupation.{AreJoined, Clash, HasTicks, HeldClaim}
 use Rattle.rail_types.specs.Timetables.{IsTimetable, Timetable, base_claims}
+use Rattle.rail_types.proofs.Elements.{all_pairs_append, all_pairs_map, all_pairs_nil, any_left}
 use Rattle.occupation_book.specs.Held.{AreOnZonesOf, IsFree}
 use Rattle.grant_log.specs.Following.{AreLive, Gains}
 use Rattle.grant_log.specs.Legal.{IsInRange, IsLegal, NoneClash}
@@ -29,7 +29,6 @@ use Rattle.grant_log.specs.Rooms.{MayBeHeld}
 use Rattle.grant_log.specs.Since.{AreFreedBelow, IsFreedSince, brought_since, claims_at, claims_of_some}
 use Rattle.grant_log.specs.declared.copy_since.since.Freed.{Freed}
 use Rattle.grant_log.proofs.Elements.{all_by, no_element}
-use Rattle.grant_log.proofs.Pairs.{all_pairs_append, all_pairs_map, all_pairs_nil}
 use Rattle.grant_log.proofs.Gaining.{Left}
 
 train_is_no_entry : (train at : ℕ) → of_train train ≢ of_entry at
@@ -90,9 +89,6 @@ unfreed_is entries at none k entry later here deed =
 
 same_free : (a b : ℕ) → Free a ≡ Free b → a ≡ b
 same_free a b same = cc
-
-any_left : {X : Type 0} (P : X → Type 0) (xs ys : List X) → Any P xs → Any P (xs ++ ys)
-any_left P xs ys (k, x, within, is, holds) = (k, x, omega (arith, length-append xs ys), get_or-append xs ys x k within ∙ is, holds)
 
 any_last : {X : Type 0} (P : X → Type 0) (xs : List X) (x : X) → P x → Any P (xs ++ x ∷ [])
 any_last P xs x holds = (length xs, x, omega (arith, length-append xs (x ∷ [])), get_or-append_seam xs x [] x, holds)

@@ -10,6 +10,7 @@ use Rattle.rail_types.specs.declared.entries.Owner.TheVariants.{Entry as of_entr
 use Rattle.rail_types.specs.Limits.{IsNearSpan}
 use Rattle.rail_types.specs.Occupation.{AreJoined, Clash, HeldClaim}
 use Rattle.rail_types.specs.Timetables.{Timetable}
+use Rattle.rail_types.proofs.Elements.{all_pairs_map}
 use Rattle.occupation_book.specs.Held.{AreOnZonesOf, IsFree, claims_of_others}
 use Rattle.grant_log.specs.declared.verdicts.Verdict.{Verdict}
 use Rattle.grant_log.specs.declared.verdicts.Verdict.TheVariants.{Fresh}
@@ -21,7 +22,6 @@ use Rattle.grant_log.specs.Verdict.{breaks, takes}
 use Rattle.grant_log.specs.Rooms.{MayBeHeld}
 use Rattle.grant_log.specs.Since.{claims_at, claims_of_some}
 use Rattle.grant_log.proofs.Elements.{all_by, of_others}
-use Rattle.grant_log.proofs.Pairs.{all_pairs_map}
 
 -- an entry that may join breaks no rule
 joins_keeps : (timetable : Timetable) (entries : List Entry) (owner : List ℕ) (deed : Deed) → MayJoin timetable entries owner deed → breaks timetable deed ≡ None

@@ -1,10 +1,11 @@
 -- Elements of lists and of filtered lists.
 use Rattle.std.proofs.Common.{◌≡◌, ◌≢◌, ◌↔◌, ◌⊎◌, ℕ, zero, suc, Bool, true, false, not, nat_eq, List, [], ◌∷◌, filter, get_or, All, Contains, inl, inr, sym, ap, subst, refl, ◌∙◌, arith, cond}
 use Rattle.std.proofs.lemmas.Bool.Decides.{nat_tests}
-use Rattle.std.proofs.lemmas.List.Elements.{All-contains, All-contains_itself, All-filter, filter_passes}
+use Rattle.std.proofs.lemmas.List.Elements.{All-contains_itself}
 use Rattle.rail_types.specs.declared.entries.Owner.{Owner}
 use Rattle.rail_types.specs.declared.entries.Owner.TheVariants.{Base, Entry}
 use Rattle.rail_types.specs.Occupation.{HeldClaim}
+use Rattle.rail_types.proofs.Elements.{contains_from_filter}
 use Rattle.occupation_book.specs.Held.{claims_of_others, is_same_owner}
 
 -- what each element has all have
@@ -25,9 +26,6 @@ pub no_element : {X : Type 0} (x : X) → Contains [] x → ⊥
 no_element x (k, within, here) = absurd (omega arith)
 
 module _ {X : Type 0} (p : X → Bool) where
-  pub filter_from : (xs : List X) (x : X) → Contains (filter p xs) x → Contains xs x × (p x ≡ true)
-  filter_from xs x contains = (All-contains (Contains xs) (filter p xs) x (All-filter p (Contains xs) xs (All-contains_itself xs)) contains, All-contains (λ y. p y ≡ true) (filter p xs) x (filter_passes p xs) contains)
-
   pub filter_to : (xs : List X) (x : X) → Contains xs x → p x ≡ true → Contains (filter p xs) x
   filter_to [] x contains passes = contains
   filter_to (y ∷ xs) x contains passes = go (p y) refl (contains_cases y x xs contains) (λ other. filter_to xs x other passes)
@@ -65,7 +63,7 @@ not_same a b apart = go (is_same_owner a b) refl
 pub of_others : (owner : Owner) (held : List HeldClaim) (one : HeldClaim) → Contains (claims_of_others owner held) one ↔ (Contains held one × (one.1 ≢ owner))
 of_others owner held one = (
   (λ contains.
-      let found = filter_from (λ (it : HeldClaim). not (is_same_owner it.1 owner)) held one contains in
+      let found = contains_from_filter (λ (it : HeldClaim). not (is_same_owner it.1 owner)) held one contains in
       (found.0, λ same. absurd (let own : not (is_same_owner owner owner) ≡ true = subst (λ o. not (is_same_owner o owner) ≡ true) same found.1 in let wrong : false ≡ true = rw (is_own owner) at own in cc))),
   (λ both. filter_to (λ (it : HeldClaim). not (is_same_owner it.1 owner)) held one both.0 (not_same one.1 owner both.1)),
 )

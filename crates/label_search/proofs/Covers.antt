@@ -7,10 +7,10 @@ use Rattle.std.proofs.lemmas.Int.{ints, by_lt_z}
 use Rattle.std.proofs.lemmas.Bool.{cases_eq}
 use Rattle.std.proofs.lemmas.List.{get_or_default, get_or-set_same, get_or-set_other, length-set}
 use Rattle.rail_types.specs.declared.paths.Span.{Span}
+use Rattle.rail_types.proofs.Elements.{any_left}
 use Rattle.label_search.specs.declared.labels.Label.{Label}
 use Rattle.free_windows.specs.Free.{Holds}
 use Rattle.label_search.specs.Labels.{IsUnseen, IsReached, IsCovered, IsGrown, AreCovered}
-use Rattle.label_search.proofs.Anys.{any_left}
 
 pub grown_none : (IsSo : Label → Type 0) (old : List Label) → IsGrown IsSo old old
 grown_none IsSo old = ([], sym (append-nil old), All-nil IsSo)

@@ -4,6 +4,7 @@ use Rattle.std.specs.Prelude.{ℤ, ◌+ℤ◌, ◌≤ℤ◌, IsTrue}
 use Rattle.std.specs.Int.{int_max}
 use Rattle.std.proofs.lemmas.Int.{ints, clamps}
 use Rattle.std.proofs.lemmas.List.Elements.{Contains-get_or}
+use Rattle.rail_types.proofs.Elements.{any_of}
 use Rattle.label_search.specs.declared.plans.Plan.{Plan}
 use Rattle.label_search.specs.declared.plans.Trip.{Trip}
 use Rattle.label_search.specs.declared.labels.Label.{Label}
@@ -18,7 +19,6 @@ use Rattle.label_search.specs.Labels.{IsReached, as_front, label_at}
 use Rattle.label_search.specs.Search.{IsSearch, IsFrontOf}
 use Rattle.label_search.specs.Queues.{Pending}
 use Rattle.label_search.specs.Pending.{AreLongWaitsInHand, AreWaitsInHand, IsDone, IsMoveInHand, IsWaitInHand}
-use Rattle.label_search.proofs.Anys.{any_of}
 
 -- the ticks of a label are reached
 pub front_of_label : (plan : Plan) (trip : Trip) (book : Book) (search : Search) → IsSearch plan trip book search → (number : ℕ) → number < length search.labels.labels → IsFrontOf plan search (as_front (label_at search.labels.labels number))

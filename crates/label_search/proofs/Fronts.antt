@@ -8,11 +8,11 @@ use Rattle.std.proofs.lemmas.List.Quantifiers.{Any-push}
 use Rattle.std.proofs.lemmas.List.Elements.{Contains-get_or, All-push}
 use Rattle.std.proofs.lemmas.Bool.{cases_eq}
 use Rattle.std.proofs.lemmas.List.Sorted.{Contains-permutation}
+use Rattle.rail_types.proofs.Elements.{any_of, any_left, any_push_cases}
 use Rattle.label_search.specs.declared.labels.Label.{Label}
 use Rattle.label_search.specs.declared.labels.Front.{Front}
 use Rattle.free_windows.specs.Free.{Holds}
 use Rattle.label_search.specs.Labels.{IsReached, IsIn, IsOf, HasAllFrom, GoesOn, AreJoined, AreFronts, as_front, label_at}
-use Rattle.label_search.proofs.Anys.{any_of, any_left, any_push_cases}
 
 -- a window that goes on is joined: both have the ticks of the one
 module _ (current part new : Front) (on : GoesOn current part) (place_is : new.place ≡ current.place) (ready_is : new.ready ≡ current.ready) (from : new.ticks.from ≡ current.ticks.from) (to : new.ticks.to ≡ int_max current.ticks.to part.ticks.to) where

@@ -1,9 +1,7 @@
 pub mod Exclusion
 pub mod Limiting
 pub mod Zones
-pub mod Anys
 pub mod Gaps
-pub mod Pairs
 pub mod SeenTicks
 pub mod Covers
 pub mod Growth

@@ -3,12 +3,12 @@ use Rattle.std.proofs.Common.{◌≡◌, ◌⊎◌, ℕ, List, [], ◌∷◌, �
 use Rattle.std.specs.Prelude.{ℤ, ◌≤ℤ◌, All, Any}
 use Rattle.std.proofs.lemmas.List.Quantifiers.{Any-push}
 use Rattle.std.proofs.lemmas.List.Elements.{All-filter, All-map}
+use Rattle.rail_types.proofs.Elements.{any_left, any_right, any_push_cases, any_append_cases}
 use Rattle.label_search.specs.declared.plans.Member.{Member}
 use Rattle.label_search.specs.declared.labels.Front.{Front}
 use Rattle.free_windows.specs.Free.{Holds}
 use Rattle.label_search.specs.Labels.{IsIn, members_of, as_member}
 use Rattle.label_search.specs.Closed.{IsHeld}
-use Rattle.label_search.proofs.Anys.{any_left, any_right, any_push_cases, any_append_cases}
 
 module _ {X : Type 0} (P : X → Type 0) where
   any_here : (x : X) (xs : List X) → P x → Any P (x ∷ xs)

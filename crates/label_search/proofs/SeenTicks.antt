@@ -12,8 +12,8 @@ use Rattle.rail_types.specs.declared.limits.TheConstants.{FAR_TICK}
 use Rattle.free_windows.specs.Free.{Holds, moved}
 use Rattle.label_search.specs.Spans.{IsZone}
 use Rattle.rail_types.specs.Limits.{IsNear}
+use Rattle.rail_types.proofs.Elements.{all_pairs_insert}
 use Rattle.label_search.specs.Labels.{IsUnseen, one_tick}
-use Rattle.label_search.proofs.Pairs.{all_pairs_insert}
 
 module _ (spans : List Span) (ticks : Window) (span : Span) (at : ℕ) (zone : IsZone spans) (near : IsNear ticks.from × (ticks.to <ℤ FAR_TICK)) (some : ticks.from ≤ℤ ticks.to) (from : span.from ≡ ticks.from) (to : span.to ≡ (ticks.to +ℤ pos 1)) (unseen : (tick : ℤ) → Holds ticks tick → IsUnseen spans tick) (before : AllWithin (λ one. one.to ≤ℤ span.from) spans 0 at) (after : AllWithin (λ one. span.from <ℤ one.to) spans at (length spans)) where
   -- a span that ends after the new one begins begins when that has ended: else they would share a tick

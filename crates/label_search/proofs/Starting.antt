@@ -7,6 +7,7 @@ use Rattle.std.proofs.lemmas.Int.{ints, clamps}
 use Rattle.std.proofs.lemmas.List.{get_or_default}
 use Rattle.std.proofs.lemmas.List.Elements.{Contains-get_or}
 use Rattle.rail_types.specs.declared.paths.Window.{Window}
+use Rattle.rail_types.proofs.Elements.{any_of, any_push_cases}
 use Rattle.label_search.specs.declared.plans.Target.{Target}
 use Rattle.label_search.specs.declared.plans.Target.TheVariants.{Place as To, End}
 use Rattle.label_search.specs.declared.plans.Plan.{Plan}
@@ -26,7 +27,6 @@ use Rattle.label_search.specs.Limits.{IsBelow, IsLimits}
 use Rattle.label_search.specs.Labels.{HasAllFrom, IsIn, IsOf, IsReached, IsGrown, IsPartOf, label_at}
 use Rattle.label_search.specs.Search.{IsSound, IsSearch, IsStarted, IsExplored, IsExploredTo, IsBeaten, IsAdmitted, IsFurther, IsFrontOf}
 use Rattle.label_search.proofs.Growth.{search_more, explored_further, label_at_more, tick_within}
-use Rattle.label_search.proofs.Anys.{any_of, any_push_cases}
 
 pub started_search : (plan : Plan) (trip : Trip) (book : Book) (none some : Known) (ticks : Window) → 0 < length plan.places → none.labels ≡ [] → none.places ≡ length plan.places → ticks.from ≡ int_max trip.depart.from (pos 0) → ticks.to ≡ int_min trip.depart.to plan.horizon → some.places ≡ none.places → IsGrown (IsPartOf (record { place = 0; ready = true; ticks = ticks; origin = Start })) none.labels some.labels → (limits : Limits) → IsLimits limits → IsSearch plan trip book (record { labels = some; best = None; limits = limits })
 started_search plan trip book none some ticks within empty count first last places grown limits are =

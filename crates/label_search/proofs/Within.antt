@@ -3,6 +3,7 @@ use Rattle.std.proofs.Common.{◌≡◌, ◌∙◌, refl, sym, subst, ap, arith,
 use Rattle.std.specs.Prelude.{ℤ, ◌≤ℤ◌}
 use Rattle.std.proofs.lemmas.Int.{ints}
 use Rattle.std.proofs.lemmas.List.Elements.{Contains-get_or}
+use Rattle.rail_types.proofs.Elements.{any_of}
 use Rattle.label_search.specs.declared.plans.Plan.{Plan}
 use Rattle.label_search.specs.declared.plans.Trip.{Trip}
 use Rattle.label_search.specs.declared.plans.Member.{Member}
@@ -15,7 +16,6 @@ use Rattle.free_windows.specs.Free.{Holds}
 use Rattle.label_search.specs.Closed.{IsHeld, IsLedTo, IsMemberOf}
 use Rattle.label_search.specs.Labels.{IsReached}
 use Rattle.label_search.specs.Search.{IsCome, IsSearch, IsSound}
-use Rattle.label_search.proofs.Anys.{any_of}
 use Rattle.label_search.proofs.Growth.{tick_within}
 
 led_to : (plan : Plan) (trip : Trip) (book : Book) (labels : List Label) (origin : Origin) (place : ℕ) (ready : Bool) (tick : ℤ) → ready ≡ false → IsCome plan trip book labels origin place ready tick → IsLedTo plan place

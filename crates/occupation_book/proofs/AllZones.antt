@@ -11,10 +11,10 @@ use Rattle.rail_types.specs.declared.paths.Claim.{Claim}
 use Rattle.rail_types.specs.Limits.{IsNearSpan}
 use Rattle.rail_types.specs.Occupation.{Clash, Fits, HasTicks, HeldClaim}
 use Rattle.rail_types.specs.FirstClash.{AreApart, ClashesWith, first_clash, IsBefore, IsFirstClash}
+use Rattle.rail_types.proofs.Elements.{all_pairs_nil, all_pairs_append, all_pairs_weaker}
 use Rattle.occupation_book.specs.Zones.{Zone}
 use Rattle.occupation_book.specs.Held.{claims_by_zone, held, zone_at, AreInOrder, AreNear, IsBook, IsFree, HasEndedBefore}
 use Rattle.occupation_book.proofs.Orders.{order_of_none}
-use Rattle.occupation_book.proofs.Pairs.{all_pairs_nil, all_pairs_append, all_pairs_weaker}
 
 -- a zone that was read is the one of that number
 pub at_zone : (book : List Zone) (number : ℕ) (zone : Zone) → number < length book → zone ≡ get_or book number zone → zone ≡ zone_at book number

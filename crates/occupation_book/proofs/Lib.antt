@@ -1,4 +1,3 @@
-mod Pairs
 mod Clashes
 mod Orders
 mod AllZones

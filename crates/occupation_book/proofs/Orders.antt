@@ -3,13 +3,14 @@ use Rattle.std.proofs.Common.{◌≡◌, ℕ, ◌<ℤ◌, ◌≤ℤ◌, List, []
 use Rattle.std.specs.List.{AllWithin}
 use Rattle.std.proofs.lemmas.Int.{by_lt_z}
 use Rattle.std.proofs.lemmas.List.Elements.{All-nil, All-cons, All-filter}
+use Rattle.std.proofs.lemmas.List.Kept.{AllPairs-filter}
 use Rattle.std.proofs.lemmas.List.Sorted.{All-permutation, IsPermutation-insert}
 use Rattle.rail_types.specs.declared.paths.Claim.{Claim}
 use Rattle.rail_types.specs.declared.entries.Owner.{Owner}
 use Rattle.rail_types.specs.Limits.{IsNearSpan}
 use Rattle.rail_types.specs.Occupation.{HasTicks, HeldClaim}
+use Rattle.rail_types.proofs.Elements.{all_pairs_nil, all_pairs_insert}
 use Rattle.occupation_book.specs.Held.{AreInOrder, IsFree}
-use Rattle.occupation_book.proofs.Pairs.{all_pairs_nil, all_pairs_filter, all_pairs_insert}
 
 pub order_of_none : (number : ℕ) → AreInOrder number []
 order_of_none number = record { on_zone = All-nil _; ticks = All-nil _; near = All-nil _; sorted = all_pairs_nil (λ (one later : HeldClaim). one.0.span.to ≤ℤ later.0.span.from) }
@@ -19,7 +20,7 @@ order_of_some number keeps claims order = record {
   on_zone = All-filter keeps (λ one. one.0.zone ≡ number) claims order.on_zone;
   ticks = All-filter keeps (λ one. HasTicks one.0.span) claims order.ticks;
   near = All-filter keeps (λ one. IsNearSpan one.0.span) claims order.near;
-  sorted = all_pairs_filter (λ one later. one.0.span.to ≤ℤ later.0.span.from) keeps claims order.sorted;
+  sorted = AllPairs-filter (λ one later. one.0.span.to ≤ℤ later.0.span.from) keeps claims order.sorted;
 }
 
 module _ (claims : List HeldClaim) (claim : Claim) (owner : Owner) (at : ℕ) (order : AreInOrder claim.zone claims) (ticks : HasTicks claim.span) (near : IsNearSpan claim.span) (free : IsFree claims claim) (before : AllWithin (λ one. one.0.span.to ≤ℤ claim.span.from) claims 0 at) (after : AllWithin (λ one. claim.span.from <ℤ one.0.span.to) claims at (length claims)) where

@@ -2,9 +2,9 @@
 use Rattle.std.proofs.Common.{◌≡◌, ◌≢◌, ℕ, List, [], ◌∷◌, ◌++◌, All, AllPairs, Option, None, Some, arith, refl}
 use Rattle.std.proofs.lemmas.List.Elements.{All-cons, All-head, All-nil, All-tail, All-weaker}
 use Rattle.std.proofs.lemmas.List.Kept.{AllPairs-cons}
+use Rattle.rail_types.proofs.Elements.{all_pairs_head, all_pairs_tail}
 use Rattle.outside_io.specs.Openings.{Opening, sink_at, source_at}
 use Rattle.served_clients.specs.StreamClients.{AreDistinct, stream_calls}
-use Rattle.served_clients.proofs.StreamLists.{pairs_head, pairs_tail}
 use Rattle.command_line.specs.Clients.{AreApart as are_apart}
 use Rattle.command_line.specs.declared.client_words.clients.ClientWord.{ClientWord}
 use Rattle.command_line.specs.Proofs.{AreApart, IsNoStreamOf, proof_of}
@@ -63,7 +63,7 @@ pub calls_differ : (clients : List ClientWord) (proofs : List ProofWord) → All
 calls_differ [] proofs clients_apart own apart = λ i j d before within. absurd (omega arith)
 calls_differ (client ∷ clients) proofs clients_apart own apart =
     let rest = client_calls clients proofs in
-    let two : All (are_apart client) clients = pairs_head are_apart client clients clients_apart in
+    let two : All (are_apart client) clients = all_pairs_head are_apart client clients clients_apart in
     let free : (one : ClientWord) → List ℕ → Type 0 = λ one file. (file ≢ one.input) × (file ≢ one.output) in
     let mine : All (λ (proof : ProofWord). proof.file ≢ client.output) proofs =
     All-weaker (λ (proof : ProofWord). IsNoStreamOf (client ∷ clients) proof.file) (λ (proof : ProofWord). proof.file ≢ client.output)
@@ -87,4 +87,4 @@ calls_differ (client ∷ clients) proofs clients_apart own apart =
     λ file mine. differ_all (sink_at file) clients proofs (all_parted (NoInput (sink_at file)) (λ one parted e. cc))
     (All-weaker (λ (one : ClientWord). free one file) (NoOutput (sink_at file)) (λ one other e. let same : file ≡ one.output = cc in other.1 same) clients (free_of file mine))
     (all_parted (NoFile proofs (sink_at file)) (λ one parted name is e. let same : file ≡ name = cc in files_differ proofs client.client one.client file name apart parted.names mine is same)) in
-    first_by client (proof_of proofs client.client) rest source_apart sink_apart file_apart (no_output client.client) (calls_differ clients proofs (pairs_tail are_apart client clients clients_apart) theirs apart)
+    first_by client (proof_of proofs client.client) rest source_apart sink_apart file_apart (no_output client.client) (calls_differ clients proofs (all_pairs_tail are_apart client clients clients_apart) theirs apart)

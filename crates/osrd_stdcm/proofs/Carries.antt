@@ -1,7 +1,6 @@
 -- A journal that is carried, where nothing hinders it.
 use Rattle.std.proofs.Common.{◌≡◌, ◌≢◌, inl, inr, ℕ, IfSome, List, [], ◌∷◌, ◌++◌, Option, None, Some, Result, Ok, Err, is_some, slice_index_or, ap, sym, ◌∙◌, subst}
 use Rattle.std.proofs.lemmas.List.Elements.{All-head, All-tail}
-use Rattle.served_clients.proofs.StreamLists.{pairs_head, pairs_tail}
 use Rattle.outside_io.specs.Faults.{Rose}
 use Rattle.outside_io.specs.Openings.{Opening, source_at, sink_at, the_report, disk_at, Undisturbed}
 use Rattle.outside_io.specs.Places.{IsKeptAt, Place, Untouched, kept, place_once_opened, place_once_returned}
@@ -18,6 +17,7 @@ use Rattle.command_files.specs.declared.files.FileKind.TheVariants as file
 use Rattle.command_files.specs.declared.networks.NetworkFile.{NetworkFile}
 use Rattle.grant_log.specs.Legal.{Register}
 use Rattle.rail_types.specs.declared.entries.Entry.{Entry}
+use Rattle.rail_types.proofs.Elements.{all_pairs_head, all_pairs_tail}
 use Rattle.path_recover.specs.Beginning.{IsNotEmpty}
 use Rattle.path_recover.specs.Failing.{IsUnread}
 use Rattle.init_command.specs.Moves.{TellsFrom}
@@ -175,11 +175,11 @@ module _ {Src Snk Dsk : Type 0} (source : Sources Src) (sink : Sinks Snk) (disk 
   awaits_lent : (now out : Scene Src Snk Dsk) (name : List ℕ) (it : Dsk) (calls : List Opening)
       → Now now (disk_at name ∷ calls) → IsLent name it now out → Now out calls
   awaits_lent now out name it calls awaits taken =
-      let head = pairs_head (λ one other. one ≢ other) (disk_at name) calls awaits.apart in
+      let head = all_pairs_head (λ one other. one ≢ other) (disk_at name) calls awaits.apart in
       let same = All-tail (IsSame source sink disk old new now) (disk_at name) calls awaits.same in
       let ready = All-tail (λ call. IsReady (now.standing call)) (disk_at name) calls awaits.ready in
       record {
-        apart = pairs_tail (λ one other. one ≢ other) (disk_at name) calls awaits.apart;
+        apart = all_pairs_tail (λ one other. one ≢ other) (disk_at name) calls awaits.apart;
         ready = λ k d within.
             subst IsReady (sym (taken.ready.others (slice_index_or calls k d) (λ e. head k d within (sym e)))) (ready k d within);
         same = λ k d within. lent_keeps now out name it taken (slice_index_or calls k d) (head k d within) (same k d within);
@@ -339,7 +339,7 @@ module _ {Src Snk Dsk : Type 0} (source : Sources Src) (sink : Sinks Snk) (disk 
         → Good (λ next (told : List ℕ). Unit {0}) (FindsEmpty sink disk names network base before) now
     empties now awaits empty has =
         let parted = All-head (λ other. disk_at names.journal ≢ other) (disk_at names.from) (left_calls names.left ++ the_report ∷ [])
-        (pairs_head (λ one other. one ≢ other) (disk_at names.journal) old_calls awaits.apart) in
+        (all_pairs_head (λ one other. one ≢ other) (disk_at names.journal) old_calls awaits.apart) in
         follows source sink disk old new (λ next (done : Unit {0}). Found names.journal next × Now next old_calls)
         (λ next (told : List ℕ). Unit {0}) (EmptyStep disk names.journal)
         (λ (done : Unit {0}). ReadsOld sink disk names network base before) now

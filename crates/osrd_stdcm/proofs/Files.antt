@@ -3,9 +3,9 @@ use Rattle.std.proofs.Common.{◌≡◌, ◌≢◌, ◌∙◌, ℕ, Bool, true, 
 use Rattle.std.specs.Str.{bytes_eq}
 use Rattle.std.proofs.lemmas.List.Elements.{All-head, All-tail, All-weaker}
 use Rattle.std.proofs.lemmas.Slice.Eq.{bytes_eq-Decides}
+use Rattle.rail_types.proofs.Elements.{all_pairs_head, all_pairs_tail}
 use Rattle.command_line.specs.Proofs.{AreApart, proof_of}
 use Rattle.command_line.specs.declared.proof_words.proofs.ProofWord.{ProofWord}
-use Rattle.served_clients.proofs.StreamLists.{pairs_head, pairs_tail}
 
 -- what holds of the files of all proofs holds of a client's
 file_by : (Holds : List ℕ → Type 0) (hit : Bool) (first file : List ℕ) (others : Option (List ℕ)) → Holds first → (others ≡ Some file → Holds file) → (if hit then Some first else others) ≡ Some file → Holds file
@@ -31,9 +31,9 @@ pub files_differ : (proofs : List ProofWord) (a b f g : List ℕ) → AllPairs A
 files_differ [] a b f g apart names is is' = cc
 files_differ (first ∷ proofs) a b f g apart names is is' =
     let others : All (λ (proof : ProofWord). first.file ≢ proof.file) proofs =
-    All-weaker (AreApart first) (λ (proof : ProofWord). first.file ≢ proof.file) (λ (proof : ProofWord) two. two.files) proofs (pairs_head AreApart first proofs apart) in
+    All-weaker (AreApart first) (λ (proof : ProofWord). first.file ≢ proof.file) (λ (proof : ProofWord) two. two.files) proofs (all_pairs_head AreApart first proofs apart) in
     differ_by (bytes_eq first.client a) (bytes_eq first.client b) first.file f g (proof_of proofs a) (proof_of proofs b)
     (λ at_a at_b. names (sym ((bytes_eq-Decides first.client a).0 at_a) ∙ (bytes_eq-Decides first.client b).0 at_b))
     (λ behind. holds_of_file (λ file. first.file ≢ file) proofs b g others behind)
     (λ behind. holds_of_file (λ file. first.file ≢ file) proofs a f others behind)
-    (λ behind behind'. files_differ proofs a b f g (pairs_tail AreApart first proofs apart) names behind behind') is is'
+    (λ behind behind'. files_differ proofs a b f g (all_pairs_tail AreApart first proofs apart) names behind behind') is is'

@@ -4,7 +4,6 @@ use Rattle.std.proofs.lemmas.List.{append-nil}
 use Rattle.std.proofs.lemmas.List.Elements.{All-head, All-tail, All-weaker}
 use Rattle.std.specs.Io.KnownBytes.{Consumes, IsAtEnd}
 use mathlib.Core.Logic.{⊎_elim}
-use Rattle.served_clients.proofs.StreamLists.{pairs_head, pairs_tail}
 use Rattle.served_clients.specs.StreamClients.{AreDistinct}
 use Rattle.command_files.specs.Outs.{OutSays, OutStep}
 use Rattle.command_files.specs.Steps.{FileSays, FileStep}
@@ -38,6 +37,7 @@ use Rattle.outside_io.specs.declared.disks.Disk.{Ghosts as Disks}
 use Rattle.outside_io.specs.declared.sinks.Sink.{Ghosts as Sinks}
 use Rattle.outside_io.specs.declared.sources.Source.{Ghosts as Sources}
 use Rattle.rail_types.specs.declared.entries.Entry.{Entry}
+use Rattle.rail_types.proofs.Elements.{all_pairs_head, all_pairs_tail}
 use Rattle.osrd_stdcm.specs.Complete.{IsAnswered}
 use Rattle.osrd_stdcm.specs.Ready.{AreReady, HasJournal, IsEmptyDisk, IsQuietAt, IsRight, IsThere}
 
@@ -107,9 +107,9 @@ module _ {Src Snk Dsk : Type 0} (source : Sources Src) (sink : Sinks Snk) (disk 
       → ((other : Opening) → next.standing other ≡ now.standing other)
       → ((other : Opening) → call ≢ other → IsSame now other → IsSame next other) → Awaits next calls
   awaits_next now next call calls is standing keeps =
-      let head = pairs_head (λ one other. one ≢ other) call calls is.apart in
+      let head = all_pairs_head (λ one other. one ≢ other) call calls is.apart in
       let same = All-tail (IsSame now) call calls is.same in record {
-        apart = pairs_tail (λ one other. one ≢ other) call calls is.apart;
+        apart = all_pairs_tail (λ one other. one ≢ other) call calls is.apart;
         ready = All-weaker (λ other. IsReady (now.standing other)) (λ other. IsReady (next.standing other))
             (λ other so. subst IsReady (sym (standing other)) so) calls
             (All-tail (λ other. IsReady (now.standing other)) call calls is.ready);

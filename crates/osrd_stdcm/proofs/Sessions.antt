@@ -1,8 +1,9 @@
 -- Sessions that nothing hinders end with their input, or for want of memory.
-use Rattle.std.proofs.Common.{◌≡◌, ◌≢◌, ◌⊎◌, inl, inr, ℕ, ◌<◌, ◌||◌, true, false, Bool, All, List, [], ◌∷◌, ◌++◌, Option, None, Some, length, ap, sym, ◌∙◌, subst, refl, arith, append_assoc}
+use Rattle.std.proofs.Common.{◌≡◌, ◌≢◌, ◌⊎◌, inl, inr, ℕ, ◌<◌, true, false, Bool, All, List, [], ◌∷◌, ◌++◌, Option, None, Some, length, ap, ◌∙◌, subst, refl, arith, append_assoc}
 use Rattle.std.proofs.lemmas.List.{length-map}
 use Rattle.std.proofs.lemmas.List.Elements.{All-head, All-tail}
 use Rattle.std.specs.Io.KnownBytes.{Consumes, IsAtEnd}
+use Rattle.std.proofs.lemmas.Bool.{or_from}
 use Rattle.request_server.specs.PlannedClients.{client_calls, returned_of, sink_in, streams_of}
 use Rattle.served_clients.specs.ClientRuns.{AreMatched}
 use Rattle.served_clients.specs.Talks.{Talk}
@@ -266,9 +267,6 @@ module _ {Src Snk Dsk L : Type 0} (source : Sources Src) (sink : Sinks Snk) (dis
 
   -- ---- all sessions
 
-  both_false : (one other : Bool) → one ≡ false → other ≡ false → (one || other) ≡ false
-  both_false one other first second = subst (λ b. (b || other) ≡ false) (sym first) second
-
   pub none_faulty : (now between : Scene Src Snk Dsk) → Stays source sink disk old new between
       → (found left : List Entry) (proofs : List ProofWord) (clients : List ClientWord)
       (plans : List (Plan Src Snk NoBetween L)) (sessions : List (Session Src Snk L)) (talks : List Talk)
@@ -287,7 +285,7 @@ module _ {Src Snk Dsk L : Type 0} (source : Sources Src) (sink : Sinks Snk) (dis
       let rest = client_calls clients proofs in
       let behind_source = All-tail (Fine now) (source_at client.input) (sink_at client.output ∷ (file_calls file ++ rest)) fine in
       let behind_sink = All-tail (Fine now) (sink_at client.output) (file_calls file ++ rest) behind_source in
-      both_false (is_faulty session.ended.why) (has_faulty sessions)
+      or_from (is_faulty session.ended.why) (has_faulty sessions)
       (not_faulty now between stays found left client file plan session talk
       (All-head (HasLines source old) client clients lines)
       (All-head (Fine now) (source_at client.input) (sink_at client.output ∷ (file_calls file ++ rest)) fine)

@@ -19,7 +19,6 @@ use Rattle.check_command.specs.Works.{ReadsBase as CheckBase, ReadsJournal as Ch
 use Rattle.client_lines.specs.Names.{Names}
 use Rattle.request_server.specs.PlannedClients.{client_calls}
 use Rattle.admission_rules.specs.declared.client_rules.clients.ClientRules.{ClientRules}
-use Rattle.served_clients.proofs.StreamLists.{all_left, all_right, pairs_head}
 use Rattle.served_clients.specs.StreamClients.{pair_calls}
 use Rattle.served_clients.specs.Refusing.{AreMade, WhyStopped}
 use Rattle.command_line.specs.declared.client_words.clients.ClientWord.{ClientWord}
@@ -64,6 +63,7 @@ use Rattle.command_line.specs.declared.proof_words.proofs.ProofWord.{ProofWord}
 use Rattle.rail_types.specs.declared.entries.Entry.{Entry}
 use Rattle.rail_types.specs.declared.trains.Train.{Train}
 use Rattle.rail_types.specs.Timetables.{Timetable}
+use Rattle.rail_types.proofs.Elements.{all_left, all_pairs_head, all_right}
 use Rattle.request_server.specs.ServeJournals.{ServeSays, ServeStep}
 use Rattle.request_server.specs.ServeRuns.{EndsRun}
 use Rattle.request_server.specs.Clienteles.{clientele_of}
@@ -568,7 +568,7 @@ module _ {Src Snk Dsk : Type 0} (source : Sources Src) (sink : Sinks Snk) (disk 
         absurd (shut.unready (All-head (λ call. IsReady (now.standing call)) (disk_at journal) (disk_at from ∷ the_report ∷ []) awaits.ready))
     move_stops now between journal from awaits empty has stays refusal (inr (inl shut)) =
         let apart = All-head (λ other. disk_at journal ≢ other) (disk_at from) (the_report ∷ [])
-        (pairs_head (λ one other. one ≢ other) (disk_at journal) (disk_at from ∷ the_report ∷ []) awaits.apart) in
+        (all_pairs_head (λ one other. one ≢ other) (disk_at journal) (disk_at from ∷ the_report ∷ []) awaits.apart) in
         let ready = All-head (λ call. IsReady (now.standing call)) (disk_at from) (the_report ∷ [])
         (All-tail (λ call. IsReady (now.standing call)) (disk_at journal) (disk_at from ∷ the_report ∷ []) awaits.ready) in
         absurd (shut.unready (λ e. apart (ap disk_at (sym e))) ready)

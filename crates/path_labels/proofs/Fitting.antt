@@ -1,20 +1,16 @@
 -- Claims that fit beside those of a book, by either way in which they are moved.
-use Rattle.std.proofs.Common.{◌≡◌, sym, refl, subst, ℕ, ◌<◌, ℤ, pos, ◌+ℤ◌, ◌<ℤ◌, ◌≤ℤ◌, Bool, true, false, int_lt, if◌then◌else◌, List, [], map, get_or, All, arith}
+use Rattle.std.proofs.Common.{◌≡◌, sym, refl, ℕ, ℤ, pos, ◌+ℤ◌, ◌<ℤ◌, ◌≤ℤ◌, Bool, true, false, int_lt, if◌then◌else◌, List, [], map, get_or, All, arith}
 use Rattle.std.proofs.lemmas.Int.{ints, by_lt_z}
-use Rattle.std.proofs.lemmas.List.{get_or-map, length-map}
 use Rattle.std.proofs.lemmas.List.Elements.{All-nil, All-map}
 use Rattle.rail_types.specs.declared.paths.Claim.{Claim}
 use Rattle.rail_types.specs.Occupation.{Clash, Fits, HasTicks, HeldClaim}
+use Rattle.rail_types.proofs.Elements.{all_of_map}
 use Rattle.occupation_book.specs.Held.{held}
 use Rattle.free_windows.specs.Free.{Fits as FitsAmong, moved}
 use Rattle.stair_pieces.specs.Pieces.{later_by, kept}
 use Rattle.label_search.specs.Free.{Book}
 use Rattle.path_labels.specs.Answers.{claims_held}
 use Rattle.path_labels.specs.Joining.{HoldsTicks}
-
--- what holds of all that is mapped holds of what it is mapped from
-pub unmap : {X Y : Type 0} (P : Y → Type 0) (f : X → Y) (xs : List X) → All P (map f xs) → All (λ x. P (f x)) xs
-unmap P f xs all k x within = subst P (get_or-map f xs k x (f x) within) (all k (f x) (subst (λ n. k < n) (sym (length-map xs f)) within))
 
 clash_back : (a b : Claim) → Clash a b → Clash b a
 clash_back a b clash = (sym clash.0, (clash.1.1, clash.1.0))
@@ -42,14 +38,14 @@ module _ (book : Book) where
   clear_of claim free = All-map (λ other. ¬ Clash claim other) (λ (one : HeldClaim). one.0) (held book) free
 
   free_for : (claim : Claim) → IsClearOf claim → IsFreeFor claim
-  free_for claim clear = unmap (λ other. ¬ Clash claim other) (λ (one : HeldClaim). one.0) (held book) clear
+  free_for claim clear = all_of_map (λ other. ¬ Clash claim other) (λ (one : HeldClaim). one.0) (held book) clear
 
   pub fits_later : (pieces : List Claim) (tick : ℤ) → FitsAmong (held book) pieces tick → Fits (later_by tick pieces) (claims_held book)
   fits_later pieces tick fits = All-map IsClearOf (later tick) pieces (λ k piece within. clear_of (later tick (get_or pieces k piece)) (λ j one inside clash. fits k piece within j one inside (moved_of_later tick (get_or pieces k piece) (get_or (held book) j one).0 clash)))
 
   pub later_fits : (pieces : List Claim) (tick : ℤ) → Fits (later_by tick pieces) (claims_held book) → FitsAmong (held book) pieces tick
   later_fits pieces tick fits k piece within j one inside clash =
-      free_for (later tick (get_or pieces k piece)) (unmap IsClearOf (later tick) pieces fits k piece within) j one inside (later_of_moved tick (get_or pieces k piece) (get_or (held book) j one).0 clash)
+      free_for (later tick (get_or pieces k piece)) (all_of_map IsClearOf (later tick) pieces fits k piece within) j one inside (later_of_moved tick (get_or pieces k piece) (get_or (held book) j one).0 clash)
 
   -- zones that are free over a span, where that has ticks
   abbrev pub AreFreeOver : List ℕ → ℤ → ℤ → Type 0
@@ -59,7 +55,7 @@ module _ (book : Book) where
   over_of_kept zones from to fits some = go (int_lt from to) refl fits
     where
       go : (t : Bool) → int_lt from to ≡ t → Fits (if t then map (stay from to) zones else []) (claims_held book) → All (λ zone. IsFreeFor (stay from to zone)) zones
-      go true is fits = λ k zone within. free_for (stay from to (get_or zones k zone)) (unmap IsClearOf (stay from to) zones fits k zone within)
+      go true is fits = λ k zone within. free_for (stay from to (get_or zones k zone)) (all_of_map IsClearOf (stay from to) zones fits k zone within)
       go false is fits = absurd (omega (arith, ints))
 
   pub kept_of_over : (zones : List ℕ) (from to : ℤ) → AreFreeOver zones from to → Fits (kept zones from to) (claims_held book)
@@ -77,7 +73,7 @@ module _ (book : Book) where
   over_of_moved zones from to tick fits some = go (int_lt from to) refl fits
     where
       go : (t : Bool) → int_lt from to ≡ t → FitsAmong (held book) (if t then map (stay from to) zones else []) tick → All (λ zone. IsFreeFor (stay (tick +ℤ from) (tick +ℤ to) zone)) zones
-      go true is fits = λ k zone within j one inside clash. unmap (FreeAt tick) (stay from to) zones fits k zone within j one inside (clash_back (stay (tick +ℤ from) (tick +ℤ to) (get_or zones k zone)) (get_or (held book) j one).0 clash)
+      go true is fits = λ k zone within j one inside clash. all_of_map (FreeAt tick) (stay from to) zones fits k zone within j one inside (clash_back (stay (tick +ℤ from) (tick +ℤ to) (get_or zones k zone)) (get_or (held book) j one).0 clash)
       go false is fits = absurd (omega (arith, ints))
 
   pub moved_of_over : (zones : List ℕ) (from to tick : ℤ) → AreFreeOver zones (tick +ℤ from) (tick +ℤ to) → FitsAmong (held book) (kept zones from to) tick
@@ -96,7 +92,7 @@ module _ (book : Book) where
   pub over_all : HoldsTicks book → (zones : List ℕ) (from to : ℤ) → ((tick : ℤ) → from ≤ℤ tick → tick <ℤ to → FitsAmong (held book) (kept zones (pos 0) (pos 1)) tick) → AreFreeOver zones from to
   over_all ticks zones from to free some k zone within j one inside clash =
       let other = (get_or (held book) j one).0 in
-      let has : HasTicks other.span = unmap (λ claim. HasTicks claim.span) (λ (one : HeldClaim). one.0) (held book) ticks j one inside in
+      let has : HasTicks other.span = all_of_map (λ claim. HasTicks claim.span) (λ (one : HeldClaim). one.0) (held book) ticks j one inside in
       let left = clash.1.0 in let right = clash.1.1 in
       by_lt_z from other.span.from
       (λ later. over_of_moved zones (pos 0) (pos 1) other.span.from (free other.span.from (omega (arith, ints, later)) (omega (arith, ints, right))) (omega (arith, ints)) k zone within j one inside (clash.0, (omega (arith, ints, has), omega (arith, ints, has))))

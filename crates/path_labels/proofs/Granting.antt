@@ -1,14 +1,14 @@
 -- Planned paths that fit are paths that can be granted.
-use Rattle.std.proofs.Common.{◌≡◌, ◌∙◌, sym, ap, refl, subst, ℕ, suc, ◌+◌, ◌-◌, ◌<◌, ℤ, pos, ◌+ℤ◌, ◌≤ℤ◌, Bool, true, false, List, [], ◌∷◌, ◌++◌, length, length-append, get_or, All, arith}
+use Rattle.std.proofs.Common.{◌≡◌, ◌∙◌, sym, ap, refl, subst, ℕ, suc, ◌+◌, ◌-◌, ◌<◌, ℤ, pos, ◌+ℤ◌, ◌≤ℤ◌, Bool, true, false, List, [], ◌∷◌, length, get_or, arith}
 use Rattle.std.specs.Prelude.{IsTrue, slice_get}
 use Rattle.std.proofs.lemmas.Int.{ints}
-use Rattle.std.proofs.lemmas.List.{get_or_append_left, get_or-append_right}
 use Rattle.rail_types.specs.declared.tracks.Network.{Network}
 use Rattle.rail_types.specs.declared.trains.Request.{Request}
 use Rattle.rail_types.specs.declared.entries.Settings.{Settings}
 use Rattle.rail_types.specs.declared.entries.Wanted.TheVariants.{Asked}
 use Rattle.rail_types.specs.declared.paths.Run.{Run}
 use Rattle.rail_types.specs.Occupation.{Fits}
+use Rattle.rail_types.proofs.Elements.{all_left, all_right}
 use Rattle.occupation_book.specs.Held.{IsFree, held}
 use Rattle.free_windows.specs.Free.{Fits as FitsAmong, Holds, moved}
 use Rattle.running_time.specs.declared.edges.Edge.{Edge}
@@ -44,16 +44,6 @@ exit_same Rolling = refl
 step_same : (step : Step) → record { block = step.block; exit = exit_of (stands_after step.exit) } ≡ step
 step_same step = ap (λ (e : Edge). record { block = step.block; exit = e }) (exit_same step.exit)
 
-part_left : {X : Type 0} (P : X → Type 0) (xs ys : List X) → All P (xs ++ ys) → All P xs
-part_left P xs ys all k d within = subst P (get_or_append_left xs ys d k within) (all k d (let long = length-append xs ys in omega (arith, within, long)))
-
-part_right : {X : Type 0} (P : X → Type 0) (xs ys : List X) → All P (xs ++ ys) → All P ys
-part_right P xs ys all k d within =
-    subst P (get_or-append_right xs ys (length xs) (length xs + k) d refl (omega arith) ∙ ap (λ n. get_or ys n d) (less (length xs) k)) (all (length xs + k) d (let long = length-append xs ys in omega (arith, within, long)))
-  where
-    less : (n k : ℕ) → n + k - n ≡ k
-    less n k = omega arith
-
 module _ (net : Network) (settings : Settings) (request : Request) (listed : Listed) (plan : Plan) (all : IsPlannedFrom net settings request listed plan) (book : Book) (ticks : HoldsTicks book) where
   -- runs from a place that end at a tick are moves in their time, which are free
   pub record GoWell (place : Place) (last : ℤ) (runs : List Run) : Type 0 where
@@ -84,7 +74,7 @@ module _ (net : Network) (settings : Settings) (request : Request) (listed : Lis
 
     pieces : Fits (later_by step.enter (pieces_of net settings request.train place (step_of run))) (claims_held book)
     pieces = subst (λ s. Fits (later_by step.enter (pieces_of net settings request.train place s)) (claims_held book)) (sym (step_same the))
-        (fits_later book _ step.enter (part_left (λ piece. IsFree (held book) (moved step.enter piece)) (pieces_of net settings request.train place the) (kept_behind net settings request place the (move_of listed number step.number).next) both))
+        (fits_later book _ step.enter (all_left (λ piece. IsFree (held book) (moved step.enter piece)) (pieces_of net settings request.train place the) (kept_behind net settings request place the (move_of listed number step.number).next) both))
 
     leaves : leave_of plan number step ≡ leaves_at net settings request place (step_of run) step.enter
     leaves = leaves_alike net settings request listed plan all number place is step move ∙ ap (λ s. leaves_at net settings request place s step.enter) (sym (step_same the))
@@ -111,7 +101,7 @@ module _ (net : Network) (settings : Settings) (request : Request) (listed : Lis
 
       behind : FitsAmong (held book) (kept zones run_ticks_there (run_ticks_there +ℤ pos settings.release)) step.enter
       behind = subst (λ next. FitsAmong (held book) (kept_behind net settings request place the next) step.enter) next
-          (part_right (λ piece. IsFree (held book) (moved step.enter piece)) (pieces_of net settings request.train place the) (kept_behind net settings request place the (move_of listed number step.number).next) both)
+          (all_right (λ piece. IsFree (held book) (moved step.enter piece)) (pieces_of net settings request.train place the) (kept_behind net settings request place the (move_of listed number step.number).next) both)
 
       release : AreFreeOver book zones (leave_of plan number step) (leave_of plan number step +ℤ pos settings.release)
       release = subst (λ leave. AreFreeOver book zones leave (leave +ℤ pos settings.release)) run_is

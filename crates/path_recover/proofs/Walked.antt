@@ -1,5 +1,5 @@
 -- What has been read so far, and how one record more follows.
-use Rattle.std.proofs.Common.{◌≡◌, ◌≢◌, ◌⊎◌, inr, ℕ, ◌+◌, ◌<◌, ◌^◌, List, [], ◌∷◌, ◌++◌, length, refl, sym, ap, ◌∙◌, subst, arith, rules, append_assoc, length-append}
+use Rattle.std.proofs.Common.{◌≡◌, ◌≢◌, ◌⊎◌, inr, ℕ, ◌+◌, ◌<◌, ◌^◌, List, [], ◌∷◌, ◌++◌, length, refl, sym, ap, ◌∙◌, subst, arith, append_assoc, length-append}
 use Rattle.std.specs.Prelude.{All}
 use Rattle.std.specs.Int.{w32, to_be_bytes}
 use Rattle.std.proofs.lemmas.Grind.{flat_map-append}
@@ -7,6 +7,7 @@ use Rattle.std.proofs.lemmas.List.{append-nil}
 use Rattle.std.proofs.lemmas.List.Elements.{All-append}
 use Rattle.rail_types.specs.declared.entries.Entry.{Entry}
 use Rattle.rail_types.specs.Timetables.{Timetable}
+use Rattle.rail_types.proofs.Elements.{all_one}
 use Rattle.entry_codec.specs.Body.{body_of}
 use Rattle.occupation_book.specs.Zones.{Zone}
 use Rattle.occupation_book.specs.Held.{held}
@@ -27,9 +28,6 @@ pub record Walked (timetable : Timetable) (version : ℕ) (left : List ℕ) (his
   pub at : place.at ≡ length (opened (bodies_of history.entries))
   pub live : AreLive timetable (held book) history.entries
   pub zones : length book ≡ timetable.net.zones
-
-All-one : {X : Type 0} (P : X → Type 0) (x : X) → P x → All P (x ∷ [])
-All-one P x holds = search (holds, rules)
 
 one_body : (entry : Entry) → opened (bodies_of (entry ∷ [])) ≡ 1 ∷ counted (body_of entry)
 one_body entry = append-nil (1 ∷ counted (body_of entry))
@@ -61,9 +59,9 @@ module _ (timetable : Timetable) (version : ℕ) (left : List ℕ) (history : Re
   walked-more entry next after behind whole spelled at same entries live zones = record {
     same = same ∙ walked.same;
     split = split-more left place.left behind.left history.entries entry walked.split whole ∙ ap (λ all. opened (bodies_of all) ++ behind.left) (sym entries);
-    short = subst (λ all. All (λ body. length body < 2 ^ 32) (bodies_of all)) (sym entries) (subst (All (λ body. length body < 2 ^ 32)) (sym (bodies-more history.entries entry)) (All-append (λ body. length body < 2 ^ 32) (bodies_of history.entries) (body_of entry ∷ []) walked.short (All-one (λ body. length body < 2 ^ 32) (body_of entry) whole.short)));
+    short = subst (λ all. All (λ body. length body < 2 ^ 32) (bodies_of all)) (sym entries) (subst (All (λ body. length body < 2 ^ 32)) (sym (bodies-more history.entries entry)) (All-append (λ body. length body < 2 ^ 32) (bodies_of history.entries) (body_of entry ∷ []) walked.short (all_one (λ body. length body < 2 ^ 32) (body_of entry) whole.short)));
     next = inr whole.next;
-    spelled = subst (All (IsSpelledIn version)) (sym entries) (All-append (IsSpelledIn version) history.entries (entry ∷ []) walked.spelled (All-one (IsSpelledIn version) entry spelled));
+    spelled = subst (All (IsSpelledIn version)) (sym entries) (All-append (IsSpelledIn version) history.entries (entry ∷ []) walked.spelled (all_one (IsSpelledIn version) entry spelled));
     at = omega (arith, at, walked.at, ap (λ all. length (opened (bodies_of all))) entries, ap length (opened-more history.entries entry), length-append (opened (bodies_of history.entries)) (1 ∷ counted (body_of entry)), record_size (body_of entry));
     live = subst (λ t. AreLive t (held after) next.entries) walked.same live;
     zones = zones ∙ ap (λ t. t.net.zones) walked.same;

@@ -5,6 +5,7 @@ use Rattle.std.specs.Fmt.{digit_glyph, digits, digits_onto, signed_decimal}
 use Rattle.std.proofs.lemmas.Grind.{common_steps}
 use Rattle.std.proofs.lemmas.List.Elements.{All-append, All-cons, All-nil}
 use Rattle.std.proofs.lemmas.Bool.Decides.{nat_tests}
+use Rattle.std.proofs.lemmas.Bool.{and_parts}
 use Rattle.client_lines.specs.Cuts.{Lacks}
 use Rattle.json_fields.specs.Escapes.{escaped, escaped_byte, hex_digit, is_plain}
 use Rattle.client_lines.specs.Fields.{flag_field}
@@ -69,18 +70,13 @@ abbrev pub is_visible : List ℕ → Bool
 is_visible [] = true
 is_visible (byte ∷ bytes) = nat_le 33 byte && is_visible bytes
 
-both_true : (a b : Bool) → (a && b) ≡ true → (a ≡ true) × (b ≡ true)
-both_true true true is = (refl, refl)
-both_true true false is = absurd cc
-both_true false b is = absurd cc
-
 seen : (byte : ℕ) → nat_le 33 byte ≡ true → IsVisible byte
 seen byte is = grind (arith, nat_tests)
 
 pub word_visible : (bytes : List ℕ) → is_visible bytes ≡ true → AreVisible bytes
 word_visible [] is = All-nil IsVisible
 word_visible (byte ∷ bytes) is =
-    let both = both_true (nat_le 33 byte) (is_visible bytes) is in
+    let both = and_parts (nat_le 33 byte) (is_visible bytes) is in
     All-cons IsVisible byte bytes (seen byte both.0) (word_visible bytes both.1)
 
 -- ---- fields

@@ -4,8 +4,9 @@ use Rattle.std.specs.List.{list_all}
 use Rattle.std.proofs.lemmas.Bool.{and_parts, and_from}
 use Rattle.std.proofs.lemmas.Bool.Decides.{nat_tests}
 use Rattle.std.proofs.lemmas.List.Elements.{All-nil, All-cons, All-head, All-tail}
+use Rattle.std.proofs.lemmas.List.Kept.{AllPairs-cons}
 use Rattle.rail_types.specs.Flaws.{neighbours, ascends, climbs}
-use Rattle.rail_types.proofs.Pairs.{all_pairs_nil, all_pairs_head, all_pairs_tail, all_pairs_cons}
+use Rattle.rail_types.proofs.Elements.{all_pairs_nil, all_pairs_head, all_pairs_tail}
 
 -- no number is less than the one before it, the first not less than `least`, and none exceeds `most`
 abbrev pub ascends_from : ℕ → ℕ → List ℕ → Bool
@@ -90,7 +91,7 @@ ascend_from least most (n ∷ ns) test =
     record {
       low = All-cons (λ n. least ≤ n) n ns low (λ k d within. let more = rest.low k d within in omega arith);
       high = All-cons (λ n. n ≤ most) n ns (at_least n most both.1) rest.high;
-      pairs = all_pairs_cons (λ one later. one ≤ later) n ns rest.low rest.pairs;
+      pairs = AllPairs-cons (λ one later. one ≤ later) n ns rest.low rest.pairs;
     }
 
 from_ascend : (least most : ℕ) (ns : List ℕ) → Ascend least most ns → ascends_from least most ns ≡ true
@@ -122,7 +123,7 @@ climb_from least end (n ∷ ns) test =
     record {
       low = All-cons (λ n. least ≤ n) n ns low (λ k d within. let more = rest.low k d within in omega arith);
       high = All-cons (λ n. n < end) n ns (below n end both.1) rest.high;
-      pairs = all_pairs_cons (λ one later. one < later) n ns (λ k d within. let more = rest.low k d within in omega arith) rest.pairs;
+      pairs = AllPairs-cons (λ one later. one < later) n ns (λ k d within. let more = rest.low k d within in omega arith) rest.pairs;
     }
 
 from_climb : (least end : ℕ) (ns : List ℕ) → Climb least end ns → climbs_from least end ns ≡ true

@@ -4,14 +4,14 @@ use Rattle.std.specs.List.{list_all, list_any}
 use Rattle.std.proofs.lemmas.Bool.{cases_Bool, cases_order}
 use Rattle.std.proofs.lemmas.Int.{ints, by_lt_z}
 use Rattle.std.proofs.lemmas.List.{get_or_default}
-use Rattle.std.proofs.lemmas.List.Elements.{Contains-append_right, All-nil, All-cons, All-contains, All-filter, All-map, filter_passes, All-contains_itself, All-head, All-tail}
+use Rattle.std.proofs.lemmas.List.Elements.{Contains-append_right, All-nil, All-cons, All-contains, All-map, All-contains_itself, All-head, All-tail}
 use Rattle.std.proofs.lemmas.List.Folds.{Any-from_list_any, list_any-from_Any}
 use Rattle.rail_types.specs.declared.paths.Claim.{Claim}
 use Rattle.rail_types.specs.Occupation.{AreJoined, Clash, EndsBefore, Fits, HasTicks, HeldClaim}
 use Rattle.rail_types.specs.FirstClash.{AreApart, ClashesWith, HoldAlike, IsBefore, IsBeforeOthers, IsFirstClash, clashes, clashing, first_clash, is_before}
 use Rattle.rail_types.proofs.ClaimTests.{before_is, clash_back, clash_is, is_before_when, is_clash, false_when_not}
 use Rattle.rail_types.proofs.Firsts.{IsFirstOf, find_is_first, first_exists, none_when_no_first}
-use Rattle.rail_types.proofs.Pairs.{all_of_map, all_pairs_head}
+use Rattle.rail_types.proofs.Elements.{all_of_map, all_pairs_head, contains_from_filter}
 
 apart_tests : (b : Bool) → b ≡ true → b ≡ false → ⊥
 apart_tests b yields fails = let wrong : true ≡ false = cc in cc
@@ -23,10 +23,6 @@ filter_empty p (x ∷ xs) empty = elim (cases_Bool (p x)) [
   | inl passes ↦ let wrong : x ∷ filter p xs ≡ [] = rw passes at empty in cc
   | inr fails ↦ let rest : filter p xs ≡ [] = rw fails at empty in All-cons (λ y. p y ≡ false) x xs fails (filter_empty p xs rest)
 ]
-
--- what a filter keeps stood in the list
-filter_contains : {X : Type 0} (p : X → Bool) (xs : List X) (x : X) → Contains (filter p xs) x → Contains xs x × (p x ≡ true)
-filter_contains p xs x contains = (All-contains (Contains xs) (filter p xs) x (All-filter p (Contains xs) xs (All-contains_itself xs)) contains, All-contains (λ y. p y ≡ true) (filter p xs) x (filter_passes p xs) contains)
 
 -- what passes a test is kept by its filter
 kept_when : {X : Type 0} (p : X → Bool) (xs : List X) → All (λ x. p x ≡ true → Contains (filter p xs) x) xs
@@ -61,7 +57,7 @@ module _ (claims : List Claim) where
   module _ (held : List HeldClaim) where
     clashing_is : (one : HeldClaim) → Contains (clashing held claims) one → Contains held one × ClashesWith claims one
     clashing_is one contains =
-        let kept = filter_contains (λ one. list_any (clashes one.0) claims) held one contains in
+        let kept = contains_from_filter (λ one. list_any (clashes one.0) claims) held one contains in
         (kept.0, clash_test one kept.1)
 
     is_clashing : (one : HeldClaim) → Contains held one → ClashesWith claims one → Contains (clashing held claims) one

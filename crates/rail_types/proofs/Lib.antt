@@ -1,4 +1,4 @@
-mod Pairs
+pub mod Elements
 mod Ascents
 mod FlawKinds
 mod SoundNets

@@ -3,6 +3,7 @@ use Rattle.std.proofs.Common.{◌≡◌, ap, refl, ℕ, ◌<◌, ◌≤◌, Bool
 use Rattle.std.specs.List.{list_any}
 use Rattle.std.proofs.lemmas.Bool.Decides.{nat_tests}
 use Rattle.std.proofs.lemmas.List.Elements.{All-nil, All-cons, All-head, All-tail, All-map}
+use Rattle.std.proofs.lemmas.Bool.{or_from}
 use Rattle.rail_types.specs.declared.tracks.Cell.{Cell}
 use Rattle.rail_types.specs.declared.tracks.Block.{Block}
 use Rattle.rail_types.specs.declared.tracks.Network.{Network}
@@ -12,7 +13,7 @@ use Rattle.rail_types.specs.declared.limits.TheConstants.{MAX_OBJECTS, MAX_CELLS
 use Rattle.rail_types.specs.Flaws.{is_outside, is_empty, has_flaw, flaw_of_block, flaw_of_blocks, or_else, ascends, climbs, exceeds_limits, first_flaw}
 use Rattle.rail_types.specs.Limits.{IsBlockWithinLimits}
 use Rattle.rail_types.specs.Networks.{IsBlockOf, HasCountsWithinLimits}
-use Rattle.rail_types.proofs.Pairs.{all_of_map, all_pairs_of_map, all_pairs_map}
+use Rattle.rail_types.proofs.Elements.{all_of_map, all_pairs_of_map, all_pairs_map}
 use Rattle.rail_types.proofs.Ascents.{they_ascend, ascend_test, they_climb, climb_test}
 use Rattle.rail_types.proofs.FlawKinds.{first_none}
 
@@ -53,9 +54,6 @@ or_right : (a b : Bool) → (a || b) ≡ false → b ≡ false
 or_right true b e = cc
 or_right false b e = e
 
-neither : (a b : Bool) → a ≡ false → b ≡ false → (a || b) ≡ false
-neither a b p q = rw (p, q) refl
-
 not_le : (a b : ℕ) → b < a → nat_le a b ≡ false
 not_le a b lt = grind (arith, nat_tests)
 
@@ -76,7 +74,7 @@ inside least most number none =
     (lt_not number least (or_left (nat_lt number least) (nat_lt most number) none), lt_not most number (or_right (nat_lt number least) (nat_lt most number) none))
 
 not_outside : (least most number : ℕ) → (least ≤ number) × (number ≤ most) → is_outside least most number ≡ false
-not_outside least most number within = neither (nat_lt number least) (nat_lt most number) (not_lt number least within.0) (not_lt most number within.1)
+not_outside least most number within = or_from (nat_lt number least) (nat_lt most number) (not_lt number least within.0) (not_lt most number within.1)
 
 zones_below : (zones : ℕ) (cells : List Cell) → list_any (λ cell. nat_le zones cell.zone) cells ≡ false → All (λ cell. cell.zone < zones) cells
 zones_below zones [] none = All-nil (λ (cell : Cell). cell.zone < zones)
@@ -88,7 +86,7 @@ zones_below zones (cell ∷ cells) none =
 none_beyond : (zones : ℕ) (cells : List Cell) → All (λ cell. cell.zone < zones) cells → list_any (λ cell. nat_le zones cell.zone) cells ≡ false
 none_beyond zones [] all = refl
 none_beyond zones (cell ∷ cells) all =
-    neither (nat_le zones cell.zone) (list_any (λ cell. nat_le zones cell.zone) cells)
+    or_from (nat_le zones cell.zone) (list_any (λ cell. nat_le zones cell.zone) cells)
     (not_le zones cell.zone (All-head (λ cell. cell.zone < zones) cell cells all))
     (none_beyond zones cells (All-tail (λ cell. cell.zone < zones) cell cells all))
 
@@ -160,11 +158,11 @@ module _ (net : Network) (block : Block) where
   flawless within it = first_none (has_flaw net block)
       (none_beyond net.zones block.cells it.zones)
       (ap not (ascend_test block.length_m (map (λ cell. cell.release_m) block.cells) (All-map (λ n. n ≤ block.length_m) (λ cell. cell.release_m) block.cells within.releases) (all_pairs_map (λ one later. one ≤ later) (λ cell. cell.release_m) block.cells it.releases)))
-      (neither (nat_eq block.length_m 0) (is_empty block.cells) (not_zero block.length_m within.length_m.0) (not_empty block.cells it.some))
-      (neither (nat_le net.points block.from_point) (nat_le net.points block.to_point) (not_le net.points block.from_point it.begins) (not_le net.points block.to_point it.ends))
+      (or_from (nat_eq block.length_m 0) (is_empty block.cells) (not_zero block.length_m within.length_m.0) (not_empty block.cells it.some))
+      (or_from (nat_le net.points block.from_point) (nat_le net.points block.to_point) (not_le net.points block.from_point it.begins) (not_le net.points block.to_point it.ends))
       (ap not (climb_test net.stops block.serves it.served it.ascending))
-      (neither (is_outside 1 MAX_BLOCK_LENGTH_M block.length_m || is_outside 1 MAX_SPEED_MM_S block.speed) (nat_lt MAX_SIGHT_M block.sight_m)
-      (neither (is_outside 1 MAX_BLOCK_LENGTH_M block.length_m) (is_outside 1 MAX_SPEED_MM_S block.speed) (not_outside 1 MAX_BLOCK_LENGTH_M block.length_m within.length_m) (not_outside 1 MAX_SPEED_MM_S block.speed within.speed))
+      (or_from (is_outside 1 MAX_BLOCK_LENGTH_M block.length_m || is_outside 1 MAX_SPEED_MM_S block.speed) (nat_lt MAX_SIGHT_M block.sight_m)
+      (or_from (is_outside 1 MAX_BLOCK_LENGTH_M block.length_m) (is_outside 1 MAX_SPEED_MM_S block.speed) (not_outside 1 MAX_BLOCK_LENGTH_M block.length_m within.length_m) (not_outside 1 MAX_SPEED_MM_S block.speed within.speed))
       (not_lt MAX_SIGHT_M block.sight_m within.sight_m))
 
 module _ (net : Network) where
@@ -190,10 +188,10 @@ module _ (net : Network) where
 
   few : HasCountsWithinLimits net → exceeds_limits net ≡ false
   few counts =
-      neither (nat_lt MAX_OBJECTS net.zones) _ (not_lt MAX_OBJECTS net.zones counts.zones)
-      (neither (nat_lt MAX_OBJECTS net.points) _ (not_lt MAX_OBJECTS net.points counts.points)
-      (neither (nat_lt MAX_OBJECTS net.stops) _ (not_lt MAX_OBJECTS net.stops counts.stops)
-      (neither (nat_lt MAX_OBJECTS (length net.blocks)) _ (not_lt MAX_OBJECTS (length net.blocks) counts.blocks)
+      or_from (nat_lt MAX_OBJECTS net.zones) _ (not_lt MAX_OBJECTS net.zones counts.zones)
+      (or_from (nat_lt MAX_OBJECTS net.points) _ (not_lt MAX_OBJECTS net.points counts.points)
+      (or_from (nat_lt MAX_OBJECTS net.stops) _ (not_lt MAX_OBJECTS net.stops counts.stops)
+      (or_from (nat_lt MAX_OBJECTS (length net.blocks)) _ (not_lt MAX_OBJECTS (length net.blocks) counts.blocks)
       (not_lt MAX_CELLS (sum (map (λ block. length block.cells) net.blocks)) counts.cells))))
 
   pub sound : All IsBlockWithinLimits net.blocks → All (IsBlockOf net) net.blocks → HasCountsWithinLimits net → first_flaw net ≡ None

@@ -4,7 +4,7 @@ use Rattle.std.specs.Prelude.{slice_get, ◌↔◌, Contains}
 use Rattle.std.specs.Int.{int_max, int_min}
 use Rattle.std.proofs.lemmas.Int.{ints, clamps}
 use Rattle.std.proofs.lemmas.Bool.{cases_order}
-use Rattle.std.proofs.lemmas.List.{get_or-map, get_or_default, get_or_append_left, get_or-append-add, length-append, length-map, map-append, take_more}
+use Rattle.std.proofs.lemmas.List.{get_or-map, get_or_default, length-map, map-append, take_more}
 use Rattle.std.proofs.lemmas.List.Elements.{All-nil, All-append}
 use Rattle.std.specs.List.{AllPairs}
 use Rattle.std.specs.List.Sorted.{IsPermutation}
@@ -19,6 +19,7 @@ use Rattle.rail_types.specs.Occupation.{Fits, HeldClaim}
 use Rattle.occupation_book.specs.Zones.{Zone}
 use Rattle.occupation_book.specs.Held.{IsFree, held}
 use Rattle.rail_types.specs.Flaws.{first_flaw}
+use Rattle.rail_types.proofs.Elements.{all_left, all_of_map, all_right}
 use Rattle.stair_pieces.specs.Claiming.{PiecesAreClaims, StandingZonesAreOfTheNetwork, StepsLeadToPlaces}
 use Rattle.stair_pieces.specs.Steps.{IsPlaceIn}
 use Rattle.stair_pieces.specs.declared.places.Place.{Place}
@@ -38,13 +39,7 @@ use Rattle.refusal_proof.specs.declared.goings.Going.{Going}
 use Rattle.refusal_proof.specs.Proofs.{IsProof, claims_held}
 use Rattle.refusal_proof.specs.Inside.{AreFreeAt, AreGoings, AreGrown, AreLabels, AreLabelsOf, CanGoOn, CoverAlike, Goes, HoldAlike, IsClaimIn, IsCovered, LabelPasses, Leads, MovePasses, PassesIn, ReachesLess, StepsPass, claims_of, kept_behind, later, member_of, members_of, ticks_of_step}
 use Rattle.refusal_proof.proofs.Numbering.{grown_numbers, grown_some, moved_alike}
-use Rattle.refusal_proof.proofs.Staying.{AreFreeOver, at_of_over, fits_at, free_at, kept_far, kept_of_over, over_of_at, over_of_kept, unmap}
-
-all_left : {X : Type 0} (P : X → Type 0) (xs ys : List X) → All P (xs ++ ys) → All P xs
-all_left P xs ys all k d within = subst P (get_or_append_left xs ys d k within) (all k d (let n = length-append xs ys in omega (arith, within, n)))
-
-all_right : {X : Type 0} (P : X → Type 0) (xs ys : List X) → All P (xs ++ ys) → All P ys
-all_right P xs ys all k d within = subst P (get_or-append-add xs ys k d) (all (length xs + k) d (let n = length-append xs ys in omega (arith, within, n)))
+use Rattle.refusal_proof.proofs.Staying.{AreFreeOver, at_of_over, fits_at, free_at, kept_far, kept_of_over, over_of_at, over_of_kept}
 
 -- the part of a window within the horizon
 module _ (horizon : ℕ) (Free Leads' : ℤ → Type 0) (ticks : ℤ) (some : pos 0 ≤ℤ ticks) (window enters : Window) (from : enters.from ≡ int_max window.from (pos 0)) (to : enters.to ≡ int_min window.to (pos horizon -ℤ ticks)) where
@@ -208,7 +203,7 @@ pub labels_stand : (places : List Place) (members : List Member) (first sorted h
 labels_stand places members first sorted handed labels told numbers some moved same alike grown order =
     let grown_sorted : AreGrown sorted labels = subst (λ one. AreGrown one labels) same grown in
     let alike_sorted : CoverAlike sorted labels = subst (λ one. CoverAlike one labels) same alike in
-    let some_first : All (λ (label : Label). label.window.from ≤ℤ label.window.to) first = unmap (λ (member : Member). member.window.from ≤ℤ member.window.to) (member_of places) first (subst (All (λ (member : Member). member.window.from ≤ℤ member.window.to)) (sym told) some) in
+    let some_first : All (λ (label : Label). label.window.from ≤ℤ label.window.to) first = all_of_map (λ (member : Member). member.window.from ≤ℤ member.window.to) (member_of places) first (subst (All (λ (member : Member). member.window.from ≤ℤ member.window.to)) (sym told) some) in
     let moved_first = moved_alike first sorted moved in
     record {
       all = record {

@@ -4,7 +4,6 @@ use Rattle.std.specs.Prelude.{slice_get, ◌↔◌}
 use Rattle.std.specs.Int.{int_min}
 use Rattle.std.specs.List.{AllWithin}
 use Rattle.std.proofs.lemmas.Int.{ints, by_lt_z, clamps}
-use Rattle.std.proofs.lemmas.List.{get_or-map, length-map}
 use Rattle.std.proofs.lemmas.List.Elements.{All-nil, All-map, AllWithin-none, AllWithin-more, AllWithin-upto, All-from_all_within, AllWithin-from_all}
 use Rattle.rail_types.specs.declared.tracks.Network.{Network}
 use Rattle.rail_types.specs.declared.trains.Stop.{Stop}
@@ -13,6 +12,7 @@ use Rattle.rail_types.specs.declared.entries.Settings.{Settings}
 use Rattle.rail_types.specs.declared.paths.Claim.{Claim}
 use Rattle.rail_types.specs.declared.paths.Window.{Window}
 use Rattle.rail_types.specs.Occupation.{Clash, Fits, HeldClaim}
+use Rattle.rail_types.proofs.Elements.{all_of_map}
 use Rattle.occupation_book.specs.Zones.{Zone}
 use Rattle.occupation_book.specs.Held.{IsFree, held}
 use Rattle.running_time.specs.declared.edges.Edge.{Edge}
@@ -27,10 +27,6 @@ use Rattle.tail_states.specs.Closing.{GoesOn}
 use Rattle.refusal_proof.specs.declared.goings.Going.{Going}
 use Rattle.refusal_proof.specs.Proofs.{claims_held}
 use Rattle.refusal_proof.specs.Inside.{AreFreeAt, AreGoings, CanGoOn, Goes, IsClaimIn, IsFar, StaysUntil, later, stay}
-
--- what holds of all that is mapped holds of what it is mapped from
-pub unmap : {X Y : Type 0} (P : Y → Type 0) (f : X → Y) (xs : List X) → All P (map f xs) → All (λ x. P (f x)) xs
-unmap P f xs all k x within = subst P (get_or-map f xs k x (f x) within) (all k (f x) (subst (λ n. k < n) (sym (length-map xs f)) within))
 
 -- a train that stands at a place of the request has made a stop
 stop_made : (net : Network) (request : Request) (place : Place) (step : Step) (exit : Edge) → step.exit ≡ exit → IsMove net request place step → ¬ IsEnd request place step → stands_after exit ≡ true
@@ -61,13 +57,13 @@ module _ (book : List Zone) where
   clear_of claim free = All-map (λ other. ¬ Clash claim other) (λ (one : HeldClaim). one.0) (held book) (λ k one inside clash. free k one inside (clash_back claim (get_or (held book) k one).0 clash))
 
   free_of : (claim : Claim) → IsClearOf claim → IsFree (held book) claim
-  free_of claim clear k one inside clash = unmap (λ other. ¬ Clash claim other) (λ (one : HeldClaim). one.0) (held book) clear k one inside (clash_back (get_or (held book) k one).0 claim clash)
+  free_of claim clear k one inside clash = all_of_map (λ other. ¬ Clash claim other) (λ (one : HeldClaim). one.0) (held book) clear k one inside (clash_back (get_or (held book) k one).0 claim clash)
 
   pub fits_at : (claims : List Claim) (tick : ℤ) → AreFreeAt (held book) claims tick → Fits (later_by tick claims) (claims_held book)
   fits_at claims tick free = All-map IsClearOf (later tick) claims (λ k claim within. clear_of (later tick (get_or claims k claim)) (free k claim within))
 
   pub free_at : (claims : List Claim) (tick : ℤ) → Fits (later_by tick claims) (claims_held book) → AreFreeAt (held book) claims tick
-  free_at claims tick fits k claim within = free_of (later tick (get_or claims k claim)) (unmap IsClearOf (later tick) claims fits k claim within)
+  free_at claims tick fits k claim within = free_of (later tick (get_or claims k claim)) (all_of_map IsClearOf (later tick) claims fits k claim within)
 
   -- zones that are free over a span, where that has ticks
   abbrev pub AreFreeOver : List ℕ → ℤ → ℤ → Type 0
@@ -77,7 +73,7 @@ module _ (book : List Zone) where
   over_of_kept zones from to fits some = go (int_lt from to) refl fits
     where
       go : (t : Bool) → int_lt from to ≡ t → Fits (if t then map (stay from to) zones else []) (claims_held book) → All (λ zone. IsFree (held book) (stay from to zone)) zones
-      go true is fits = λ k zone within. free_of (stay from to (get_or zones k zone)) (unmap IsClearOf (stay from to) zones fits k zone within)
+      go true is fits = λ k zone within. free_of (stay from to (get_or zones k zone)) (all_of_map IsClearOf (stay from to) zones fits k zone within)
       go false is fits = absurd (omega (arith, ints))
 
   pub kept_of_over : (zones : List ℕ) (from to : ℤ) → AreFreeOver zones from to → Fits (kept zones from to) (claims_held book)
@@ -95,7 +91,7 @@ module _ (book : List Zone) where
   over_of_at zones from to tick free some = go (int_lt from to) refl free
     where
       go : (t : Bool) → int_lt from to ≡ t → AreFreeAt (held book) (if t then map (stay from to) zones else []) tick → All (λ zone. IsFree (held book) (stay (from +ℤ tick) (to +ℤ tick) zone)) zones
-      go true is free = unmap (IsFreeLater tick) (stay from to) zones free
+      go true is free = all_of_map (IsFreeLater tick) (stay from to) zones free
       go false is free = absurd (omega (arith, ints))
 
   pub at_of_over : (zones : List ℕ) (from to tick : ℤ) → AreFreeOver zones (from +ℤ tick) (to +ℤ tick) → AreFreeAt (held book) (kept zones from to) tick

@@ -1,9 +1,8 @@
 -- Lists that stand to one another place by place, and clients that are served and taken in one after another.
-use Rattle.std.proofs.Common.{◌≡◌, ◌≢◌, ℕ, suc, ◌+◌, ◌<◌, List, [], ◌∷◌, ◌++◌, All, AllPairs}
+use Rattle.std.proofs.Common.{◌≡◌, ℕ, suc, ◌+◌, ◌<◌, List, [], ◌∷◌, ◌++◌, All}
 use Rattle.std.proofs.Common.{get_or, length, map, reverse, ap, sym, ◌∙◌, subst, refl, arith}
 use Rattle.std.proofs.Common.{length-append}
-use Rattle.std.proofs.Math.ListN.{get_or-map}
-use Rattle.std.proofs.lemmas.List.{append-nil, append_assoc, get_or_default, length-map}
+use Rattle.std.proofs.lemmas.List.{append-nil, append_assoc}
 use Rattle.std.proofs.lemmas.List.{nil_from_length, reverse-append}
 use Rattle.std.proofs.lemmas.List.Elements.{All-cons, All-head, All-nil, All-tail}
 use Rattle.admission_rules.specs.declared.rules.Rule.{Ghosts as Rules}
@@ -115,31 +114,6 @@ snoc_same (a ∷ xs) (b ∷ ys) x y e =
     let rest = snoc_same xs ys x y tails in
     let r : xs ≡ ys = rest.0 in
     let all : a ∷ xs ≡ b ∷ ys = cc in (all, rest.1)
-
--- ---- names that differ
-
-AllPairs-map : {X Y : Type 0} (R : Y → Y → Type 0) (f : X → Y) (xs : List X) → AllPairs R (map f xs) → AllPairs (λ a b. R (f a) (f b)) xs
-AllPairs-map R f xs h i j d less below =
-    let there : j < length (map f xs) = omega (arith, length-map xs f) in
-    subst (λ y. R (f (get_or xs i d)) y) (get_or-map f xs j d)
-    (subst (λ y. R y (get_or (map f xs) j (f d))) (get_or-map f xs i d) (h i j (f d) less there))
-
-AllPairs-mapped : {X Y : Type 0} (R : Y → Y → Type 0) (f : X → Y) (xs : List X) → AllPairs (λ a b. R (f a) (f b)) xs → AllPairs R (map f xs)
-AllPairs-mapped R f [] h i j d less below = absurd (omega arith)
-AllPairs-mapped R f (x ∷ xs) h i j d less below =
-    let long = length-map (x ∷ xs) f in
-    let there : j < length (x ∷ xs) = omega arith in
-    let sooner : i < length (map f (x ∷ xs)) = omega arith in
-    let at = λ (k : ℕ) (within : k < length (map f (x ∷ xs))).
-    get_or_default (map f (x ∷ xs)) k d (f x) within ∙ get_or-map f (x ∷ xs) k x in
-    subst (λ y. R y (get_or (map f (x ∷ xs)) j d)) (sym (at i sooner))
-    (subst (λ y. R (f (get_or (x ∷ xs) i x)) y) (sym (at j below)) (h i j x less there))
-
--- lists with the same names have them apart alike
-pub apart_alike : {X Z N : Type 0} (f : X → N) (g : Z → N) (xs : List X) (zs : List Z) → map g zs ≡ map f xs
-    → AllPairs (λ a b. f a ≢ f b) xs → AllPairs (λ a b. g a ≢ g b) zs
-apart_alike f g xs zs same apart =
-    AllPairs-map (λ a b. a ≢ b) g zs (subst (AllPairs (λ a b. a ≢ b)) (sym same) (AllPairs-mapped (λ a b. a ≢ b) f xs apart))
 
 module _ {D Src Snk Btw L : Type 0} (kind : Rules L) (shared : Shared D) (streams : Streams Src Snk) where
   abbrev pub talk_in : (old new : Job D Src Snk Btw L) → WasServed kind streams old new → Talk

@@ -1,12 +1,13 @@
 -- The loans of clients, one client after another.
 use Rattle.std.proofs.Common.{◌≡◌, ◌≢◌, ◌≤◌, ◌∙◌, ◌++◌, ℕ, zero, suc, List, [], ◌∷◌, AllPairs, length, map, take, refl, sym, ap, subst, arith}
 use Rattle.std.proofs.lemmas.List.{append_assoc, append-nil, map-append}
+use Rattle.rail_types.proofs.Elements.{all_pairs_tail}
 use Rattle.outside_io.specs.Openings.{Opening}
 use Rattle.served_clients.specs.StreamClients.{AreDistinct, IsFit, stream_calls, stream_loans}
 use Rattle.served_clients.specs.Lending.{call_of, Loan}
 use Rattle.served_clients.specs.declared.client_streams.streams.ClientStreams.{ClientStreams}
 use Rattle.request_server.proofs.StreamedClients.{stream_calls_are}
-use Rattle.served_clients.proofs.StreamLists.{pairs_front, pairs_tail}
+use Rattle.served_clients.proofs.StreamLists.{pairs_front}
 use Rattle.command_line.specs.declared.client_words.clients.ClientWord.{ClientWord}
 use Rattle.request_server.specs.PlannedClients.{AreFit, client_calls, client_loans}
 use Rattle.command_line.specs.Proofs.{proof_of}
@@ -69,7 +70,7 @@ fit_long (c ∷ clients) proofs (s ∷ streams) fit = ap suc (fit_long clients p
 
 pairs_behind : {X : Type 0} (R : X → X → Type 0) (xs ys : List X) → AllPairs R (xs ++ ys) → AllPairs R ys
 pairs_behind R [] ys all = all
-pairs_behind R (x ∷ xs) ys all = pairs_behind R xs ys (pairs_tail R x (xs ++ ys) all)
+pairs_behind R (x ∷ xs) ys all = pairs_behind R xs ys (all_pairs_tail R x (xs ++ ys) all)
 
 -- the calls of one of the clients are distinct
 pub own_distinct : (front : List ClientWord) (client : ClientWord) (behind : List ClientWord) (proofs : List ProofWord) → AreDistinct (client_calls (front ++ client ∷ behind) proofs) → AreDistinct (stream_calls client (proof_of proofs client.client))

@@ -3,8 +3,8 @@ use Rattle.std.proofs.Common.{◌≡◌, ◌≢◌, ◌∙◌, ℕ, suc, List, [
 use Rattle.std.proofs.lemmas.List.{length-map}
 use Rattle.std.proofs.lemmas.List.Elements.{All-cons, All-head, All-nil, All-tail}
 use Rattle.std.proofs.lemmas.List.Kept.{AllPairs-cons}
+use Rattle.rail_types.proofs.Elements.{all_pairs_head, all_pairs_tail}
 use Rattle.served_clients.specs.ClientRuns.{AreMatched}
-use Rattle.served_clients.proofs.StreamLists.{pairs_head, pairs_tail}
 
 module _ {X Y : Type 0} (f : X → List ℕ) (g : Y → List ℕ) where
   -- what holds of the names of one list holds of those of the other
@@ -24,8 +24,8 @@ module _ {X Y : Type 0} (f : X → List ℕ) (g : Y → List ℕ) where
       let rest : map f xs ≡ map g ys = cc in
       let R : X → X → Type 0 = λ a b. f a ≢ f b in
       let Q : Y → Y → Type 0 = λ a b. g a ≢ g b in
-      let apart : All (λ b. f x ≢ f b) xs = all_alike (λ name. f x ≢ name) xs ys rest (subst (λ (name : List ℕ). All (λ b. name ≢ g b) ys) (sym here) (pairs_head Q y ys all)) in
-      AllPairs-cons R x xs apart (pairs_alike xs ys rest (pairs_tail Q y ys all))
+      let apart : All (λ b. f x ≢ f b) xs = all_alike (λ name. f x ≢ name) xs ys rest (subst (λ (name : List ℕ). All (λ b. name ≢ g b) ys) (sym here) (all_pairs_head Q y ys all)) in
+      AllPairs-cons R x xs apart (pairs_alike xs ys rest (all_pairs_tail Q y ys all))
 
   pub long_alike : (xs : List X) (ys : List Y) → map f xs ≡ map g ys → length xs ≡ length ys
   long_alike xs ys same = sym (length-map xs f) ∙ (ap length same ∙ length-map ys g)

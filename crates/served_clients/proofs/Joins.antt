@@ -15,21 +15,21 @@ use Rattle.line_answers.specs.turns.Turns.{Sight, timetable_at}
 use Rattle.line_answers.specs.Calls.{IsToldIn}
 use Rattle.line_answers.specs.turns.declared.shared.Shared.{Shared}
 use Rattle.rail_types.specs.declared.entries.Entry.{Entry}
+use Rattle.rail_types.proofs.Elements.{all_left, all_right}
 use Rattle.served_clients.specs.Joins.{AreJoined, AreProofsOf, IsTalkOf}
 use Rattle.served_clients.specs.Seats.{callers_at, found_at}
 use Rattle.served_clients.specs.Talks.{AreBelowEnd, AreSettledWithin, faults, IsWithinSettled}
 use Rattle.served_clients.specs.Talks.{printed, Talk, unsettled}
 use Rattle.served_clients.proofs.Histories.{talk_longer}
 use Rattle.served_clients.proofs.Proved.{all_longer}
-use Rattle.served_clients.proofs.Replies.{All-left, All-right}
 use Rattle.served_clients.proofs.Told.{told_more}
 
 -- what holds of the lists joined into a pass with another's holds of those joined before, and of what the other has seen
 pub joined_parts : (P : List Entry → Type 0) (v w new : Sight) → new ≡ joining v w → All P new.joined → All P v.joined × P w.seen
 joined_parts P v w new same all =
     let whole : All P ((v.joined ++ w.joined) ++ v.seen ∷ w.seen ∷ []) = subst (All P) (ap (λ (x : Sight). x.joined) same) all in (
-      All-left P v.joined w.joined (All-left P (v.joined ++ w.joined) (v.seen ∷ w.seen ∷ []) whole),
-      All-head P w.seen [] (All-tail P v.seen (w.seen ∷ []) (All-right P (v.joined ++ w.joined) (v.seen ∷ w.seen ∷ []) whole)),
+      all_left P v.joined w.joined (all_left P (v.joined ++ w.joined) (v.seen ∷ w.seen ∷ []) whole),
+      All-head P w.seen [] (All-tail P v.seen (w.seen ∷ []) (all_right P (v.joined ++ w.joined) (v.seen ∷ w.seen ∷ []) whole)),
     )
 
 module _ {D : Type 0} (shared : Shared D) where
@@ -69,8 +69,8 @@ module _ {D : Type 0} (shared : Shared D) where
     counts = λ below.
         let P : Turn → Type 0 = λ t. t.left.count < 2 ^ 64 - 1 in
         let both = All-permutation P new.turns (v.turns ++ w.turns) (IsPermutation-sym (v.turns ++ w.turns) new.turns turns) below in
-        let old = joined.counts (All-left P v.turns w.turns both) in
-        let its = counts (All-right P v.turns w.turns both) in
+        let old = joined.counts (all_left P v.turns w.turns both) in
+        let its = counts (all_right P v.turns w.turns both) in
         let sum = sum_by_push (λ (t : Talk). faults t.traffic.told) talks talk in
         omega arith;
     told_so =
@@ -85,7 +85,7 @@ module _ {D : Type 0} (shared : Shared D) where
         let P : Turn → Type 0 = λ t. t.left.settled ≤ most in
         let both = All-permutation P new.turns (v.turns ++ w.turns) (IsPermutation-sym (v.turns ++ w.turns) new.turns turns) within in
         All-push (λ (t : Talk). All (IsWithinSettled most) t.traffic.told) talks talk
-        (joined.settled most (All-left P v.turns w.turns both)) (settles most (All-right P v.turns w.turns both));
+        (joined.settled most (all_left P v.turns w.turns both)) (settles most (all_right P v.turns w.turns both));
   }
 
 -- an element moves from the end of a list to the front of the reversed one

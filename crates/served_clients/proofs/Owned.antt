@@ -15,6 +15,7 @@ use Rattle.admission_rules.specs.Wishes.{wish_of}
 use Rattle.rail_types.specs.declared.entries.Deed.{Deed}
 use Rattle.rail_types.specs.declared.entries.Deed.TheVariants.{Hold, Grant, Free}
 use Rattle.rail_types.specs.declared.entries.Entry.{Entry}
+use Rattle.rail_types.proofs.Elements.{slice_get_left}
 use Rattle.served_clients.specs.declared.client_seats.tellings.Telling.{Telling}
 use Rattle.served_clients.specs.declared.client_seats.tellings.Telling.TheVariants.{Granted, Freed}
 use Rattle.served_clients.specs.ClientRuns.{is_owned, owned, told_own}
@@ -27,11 +28,6 @@ told_at-append history (p ∷ ps) qs rules = told_at-append history ps qs (told_
 
 -- ---- longer histories
 
-pub slice_get-left : {X : Type 0} (xs ys : List X) (i : ℕ) → i < length xs → slice_get (xs ++ ys) i ≡ slice_get xs i
-slice_get-left [] ys i below = absurd (omega arith)
-slice_get-left (x ∷ xs) ys zero below = refl
-slice_get-left (x ∷ xs) ys (suc i) below = slice_get-left xs ys i (omega arith)
-
 -- the first entries of a longer history are those of the shorter one
 pub told_at-longer : (long short : List Entry) (ps : List ℕ) (rules : List Ruled) → StartsWith long short → All (λ p. p < length short) ps
     → told_at long ps rules ≡ told_at short ps rules
@@ -40,7 +36,7 @@ told_at-longer long short (p ∷ ps) rules more within =
     let below : p < length short = All-head (λ q. q < length short) p ps within in
     let least : p ≤ length short = omega arith in
     let front : take p long ≡ take p short = ap (take p) more.1 ∙ take-append-le p short more.0 least in
-    let here : slice_get long p ≡ slice_get short p = ap (λ l. slice_get l p) more.1 ∙ slice_get-left short more.0 p below in
+    let here : slice_get long p ≡ slice_get short p = ap (λ l. slice_get l p) more.1 ∙ slice_get_left short more.0 p below in
     ap (told_at long ps) (ap (λ l. told_of l (slice_get long p) rules) front ∙ ap (λ o. told_of (take p short) o rules) here)
     ∙ told_at-longer long short ps (told_of (take p short) (slice_get short p) rules) more (All-tail (λ q. q < length short) p ps within)
 
@@ -104,7 +100,7 @@ owned_longer long short name more =
     let alike : filter f (positions 0 (length short)) ≡ filter g (positions 0 (length short)) =
     filter-alike f g (positions 0 (length short)) (positions-all (λ p. f p ≡ g p) 0 (length short)
     (λ i below. let same : 0 + i ≡ i = omega arith in
-    subst (λ p. f p ≡ g p) (sym same) (ap (is_owned name) (ap (λ l. slice_get l i) more.1 ∙ slice_get-left short more.0 i below)))) in
+    subst (λ p. f p ≡ g p) (sym same) (ap (is_owned name) (ap (λ l. slice_get l i) more.1 ∙ slice_get_left short more.0 i below)))) in
     ap (λ n. filter f (positions 0 n)) whole ∙ ap (filter f) (positions-append 0 (length short) rest)
     ∙ filter-append f (positions 0 (length short)) (positions (0 + length short) rest)
     ∙ ap (λ l. l ++ filter f (positions (0 + length short) rest)) (alike ∙ ap (λ n. filter g (positions 0 n)) first)

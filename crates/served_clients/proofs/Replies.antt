@@ -5,7 +5,6 @@ use Rattle.std.proofs.Common.{length-append}
 use mathlib.Core.Logic.{⊎_elim}
 use Rattle.std.proofs.lemmas.Bool.{cases_lt}
 use Rattle.std.proofs.lemmas.List.{append-nil, length_push, get_or_append_left, get_or_push}
-use Rattle.std.proofs.lemmas.List.{get_or-append-add}
 use Rattle.std.proofs.lemmas.List.Concat.{flat_map-append}
 use Rattle.std.proofs.lemmas.List.Elements.{All-head, All-nil, All-push, All-weaker, All-append}
 use Rattle.std.proofs.lemmas.List.Elements.{Contains-append_left, Contains-append_right}
@@ -26,6 +25,7 @@ use Rattle.line_answers.specs.Rules.{told_by}
 use Rattle.line_answers.specs.turns.declared.shared.Shared.{Shared}
 use Rattle.line_sessions.specs.Told.{AreAnswered, Told}
 use Rattle.rail_types.specs.declared.entries.Entry.{Entry}
+use Rattle.rail_types.proofs.Elements.{all_left, all_right}
 use Rattle.client_lines.specs.declared.reply_texts.replies.Reply.{Reply}
 use Rattle.client_lines.specs.declared.reply_texts.replies.Reply.TheVariants as reply
 use Rattle.served_clients.specs.declared.client_seats.seats.Seat.{Seat}
@@ -40,12 +40,6 @@ use Rattle.served_clients.proofs.Rows.{point_left}
 use Rattle.served_clients.proofs.Settles.{reply_within}
 use Rattle.served_clients.proofs.Owned.{told_at-append, told_at-longer}
 use Rattle.served_clients.proofs.Told.{told_more}
-
-pub All-left : {X : Type 0} (P : X → Type 0) (xs ys : List X) → All P (xs ++ ys) → All P xs
-All-left P xs ys h = λ k d below. subst P (get_or_append_left xs ys d k below) (h k d (let both = length-append xs ys in omega arith))
-
-pub All-right : {X : Type 0} (P : X → Type 0) (xs ys : List X) → All P (xs ++ ys) → All P ys
-All-right P xs ys h = λ k d below. subst P (get_or-append-add xs ys k d) (h (length xs + k) d (let both = length-append xs ys in omega arith))
 
 -- a session so far, by what its pass has seen: its rules stood as the first ones, and stand as the last ones
 pub record Serving (v w : Sight) (callers : Callers) (first last : List Ruled) (told : List Told) : Type 0 where
@@ -66,7 +60,7 @@ in_fault turns f below =
     let t : Turn = f.last in let rose = f.rose in
     let all = subst AreBelowEnd f.turns_are below in
     let low : t.left.count < 2 ^ 64 - 1 =
-    All-head (λ (u : Turn). u.left.count < 2 ^ 64 - 1) t [] (All-right (λ (u : Turn). u.left.count < 2 ^ 64 - 1) f.before (t ∷ []) all) in
+    All-head (λ (u : Turn). u.left.count < 2 ^ 64 - 1) t [] (all_right (λ (u : Turn). u.left.count < 2 ^ 64 - 1) f.before (t ∷ []) all) in
     let sum : rises turns ≡ rises f.before + (t.left.count - t.found.count) =
     ap rises f.turns_are ∙ sum_by_push (λ (u : Turn). u.left.count - u.found.count) f.before t in
     omega arith
@@ -149,8 +143,8 @@ serving_more v u w callers first mid last one told number so is a ruled =
         counts = λ below.
             let P : Turn → Type 0 = λ t. t.left.count < 2 ^ 64 - 1 in
             let both = subst AreBelowEnd a.taken below in
-            let old = so.serves.counts (All-left P u.turns a.turns both) in
-            let its = fault_within r a.turns a.answers.settle (All-right P u.turns a.turns both) in
+            let old = so.serves.counts (all_left P u.turns a.turns both) in
+            let its = fault_within r a.turns a.answers.settle (all_right P u.turns a.turns both) in
             let sum : rises w.turns ≡ rises u.turns + rises a.turns = ap rises a.taken ∙ sum_by-append (λ (t : Turn). t.left.count - t.found.count) u.turns a.turns in
             let more = sum_by_push (λ (b : Told). fault b.reply) told one in
             omega arith;
@@ -165,8 +159,8 @@ serving_more v u w callers first mid last one told number so is a ruled =
         settled = λ most within.
             let P : Turn → Type 0 = λ t. t.left.settled ≤ most in
             let both = subst (λ ts. AreSettledWithin ts most) a.taken within in
-            All-push (IsWithinSettled most) told one (so.serves.settled most (All-left P u.turns a.turns both))
-            (λ k says. reply_within (callers number mid) one.line a.turns a.h a.g w.seen most (All-right P u.turns a.turns both) r k a.answers says);
+            All-push (IsWithinSettled most) told one (so.serves.settled most (all_left P u.turns a.turns both))
+            (λ k says. reply_within (callers number mid) one.line a.turns a.h a.g w.seen most (all_right P u.turns a.turns both) r k a.answers says);
       };
       given = given_more w.seen callers 1 (length v.seen) first told one number (given_longer w.seen u.seen callers 1 (length v.seen) first told longer so.given) is
           (subst (λ r. IsAnswer w.seen (callers number r) (least_behind (length v.seen) told) one) before record {

@@ -12,12 +12,12 @@ use Rattle.line_answers.specs.Points.{added, point}
 use Rattle.line_answers.specs.Rules.{told_by}
 use Rattle.line_sessions.specs.Told.{Told}
 use Rattle.rail_types.specs.declared.entries.Entry.{Entry}
+use Rattle.rail_types.proofs.Elements.{all_pairs_head, all_pairs_tail}
 use Rattle.client_lines.specs.declared.reply_texts.replies.Reply.{Reply}
 use Rattle.client_lines.specs.declared.reply_texts.replies.Reply.TheVariants as reply
 use Rattle.served_clients.specs.ClientRuns.{is_owned}
 use Rattle.served_clients.specs.Talks.{AreGiven, Callers, IsAnswer, IsNoOlder, next_least, printed}
 use Rattle.served_clients.proofs.Counts.{Ordered}
-use Rattle.served_clients.proofs.Shares.{AllPairs-head, AllPairs-tail}
 
 pub slice_get-push : (g : List Entry) (e : Entry) (rest : List Entry) → slice_get ((g ++ e ∷ []) ++ rest) (length g) ≡ Some e
 slice_get-push [] e rest = refl
@@ -180,9 +180,9 @@ module _ (history : List Entry) (name : List ℕ) (callers : Callers) (named : A
       → Ordered (printed told)
   printed_ordered number least rules [] given rise = tt
   printed_ordered number least rules (one ∷ told) given rise =
-      let later = AllPairs-head IsNoOlder one told rise in
+      let later = all_pairs_head IsNoOlder one told rise in
       let next = told_by history one.reply rules in
       ordered_front one.reply (printed told)
-      (printed_ordered (number + 1) (next_least least (point one.reply)) next told given.1 (AllPairs-tail IsNoOlder one told rise))
+      (printed_ordered (number + 1) (next_least least (point one.reply)) next told given.1 (all_pairs_tail IsNoOlder one told rise))
       (answer_are history name callers named (λ p. All (λ q. p ≤ q) (printed told)) number least rules one given.0 (λ p prints its.
       later_are history name callers named p (number + 1) (next_least least (point one.reply)) next told given.1 (λ k d below l says. later k d below (p + 1) l prints says)))

@@ -1,19 +1,14 @@
 -- A list of numbers that is cut into shares, one for each of some names: each share is what bears its name.
-use Rattle.std.proofs.Common.{◌≡◌, ◌≢◌, ℕ, suc, ◌<◌, Bool, true, false, List, [], ◌∷◌, All, AllPairs, IsPermutation, filter, flat_map, length, get_or, sum_by, sym, ◌∙◌, subst, refl, arith}
+use Rattle.std.proofs.Common.{◌≡◌, ◌≢◌, ℕ, ◌<◌, Bool, true, false, List, [], ◌∷◌, All, AllPairs, IsPermutation, filter, flat_map, length, get_or, sum_by, sym, ◌∙◌, subst, refl, arith}
 use Rattle.std.proofs.lemmas.Bool.{cases_Bool}
 use mathlib.Core.Logic.{⊎_elim}
 use Rattle.std.proofs.lemmas.List.Elements.{All-head, All-tail, All-weaker, All-nil, All-cons}
 use Rattle.std.proofs.lemmas.List.Sorted.{sum_by-IsPermutation}
 use Rattle.std.proofs.lemmas.List.Sums.{sum_by-cons, sum_by-append}
+use Rattle.rail_types.proofs.Elements.{all_pairs_head, all_pairs_tail}
 use Rattle.served_clients.proofs.Counts.{one, times, Ordered, times_none, ordered_same, times-filter_yes, times-filter_no, Ordered-filter}
 
 module _ {X : Type 0} where
-  pub AllPairs-head : (R : X → X → Type 0) (x : X) (xs : List X) → AllPairs R (x ∷ xs) → All (R x) xs
-  AllPairs-head R x xs h = λ k d below. h 0 (suc k) d (omega arith) (omega arith)
-
-  pub AllPairs-tail : (R : X → X → Type 0) (x : X) (xs : List X) → AllPairs R (x ∷ xs) → AllPairs R xs
-  AllPairs-tail R x xs h = λ i j d less below. h (suc i) (suc j) d (omega arith) (omega arith)
-
   sum_none : (c : X → ℕ) (xs : List X) → All (λ x. c x ≡ 0) xs → sum_by c xs ≡ 0
   sum_none c [] h = refl
   sum_none c (x ∷ xs) h = let here : c x ≡ 0 = All-head (λ y. c y ≡ 0) x xs h in let rest = sum_none c xs (All-tail (λ y. c y ≡ 0) x xs h) in omega (arith, sum_by-cons c x xs)
@@ -27,13 +22,13 @@ module _ {X N : Type 0} (name : X → N) where
   alone : (c : X → ℕ) (n : N) (xs : List X) → AllPairs (λ a b. name a ≢ name b) xs → All (λ x. name x ≢ n → c x ≡ 0) xs → All (λ x. name x ≡ n → sum_by c xs ≡ c x) xs
   alone c n [] apart others = All-nil (λ x. name x ≡ n → sum_by c [] ≡ c x)
   alone c n (x ∷ xs) apart others =
-      let from_x = AllPairs-head (λ a b. name a ≢ name b) x xs apart in
+      let from_x = all_pairs_head (λ a b. name a ≢ name b) x xs apart in
       let rest = All-tail (λ y. name y ≢ n → c y ≡ 0) x xs others in
       let sum = sum_by-cons c x xs in
       All-cons (λ y. name y ≡ n → sum_by c (x ∷ xs) ≡ c y) x xs
       (λ e. let none = sum_none c xs (λ k d below. rest k d below (λ f. from_x k d below (e ∙ sym f))) in omega arith)
       (λ k d below e. let none : c x ≡ 0 = All-head (λ y. name y ≢ n → c y ≡ 0) x xs others (λ f. from_x k d below (f ∙ sym e)) in
-      let mine = alone c n xs (AllPairs-tail (λ a b. name a ≢ name b) x xs apart) rest k d below e in omega arith)
+      let mine = alone c n xs (all_pairs_tail (λ a b. name a ≢ name b) x xs apart) rest k d below e in omega arith)
 
   module _ (share : X → List ℕ) (bears : N → ℕ → Bool) (one_bearer : (n m : N) (p : ℕ) → bears n p ≡ true → bears m p ≡ true → n ≡ m) where
     pub shares_are : (all : List ℕ) (xs : List X) → AllPairs (λ a b. name a ≢ name b) xs → IsPermutation (flat_map share xs) all → Ordered all

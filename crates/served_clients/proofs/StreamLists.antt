@@ -1,31 +1,17 @@
 -- Pairs of elements, and fronts of lists of calls.
 use Rattle.std.proofs.Common.{◌≡◌, ◌∙◌, ◌++◌, ℕ, zero, suc, List, [], ◌∷◌, All, AllPairs, Option, Some, None, get_or, take, drop, refl, ap, subst, arith}
 use Rattle.std.proofs.lemmas.List.{append_assoc, get_or_append_left, length-append}
-use Rattle.std.proofs.lemmas.List.Elements.{All-cons, All-head, All-nil, All-tail}
+use Rattle.std.proofs.lemmas.List.Elements.{All-cons, All-head, All-nil}
+use Rattle.rail_types.proofs.Elements.{all_right, all_pairs_head, all_pairs_tail}
 use Rattle.outside_io.specs.Openings.{Opening, Opens as CallsOf}
 use Rattle.command_reports.proofs.Steps.{opens_both as calls_both}
 use Rattle.command_reports.proofs.Steps.{take_front}
 
-module _ {X : Type 0} (P : X → Type 0) where
-  pub all_left : (xs ys : List X) → All P (xs ++ ys) → All P xs
-  all_left [] ys h = All-nil P
-  all_left (x ∷ xs) ys h = All-cons P x xs (All-head P x (xs ++ ys) h) (all_left xs ys (All-tail P x (xs ++ ys) h))
-
-  pub all_right : (xs ys : List X) → All P (xs ++ ys) → All P ys
-  all_right [] ys h = h
-  all_right (x ∷ xs) ys h = all_right xs ys (All-tail P x (xs ++ ys) h)
-
 module _ {X : Type 0} (R : X → X → Type 0) where
-  pub pairs_head : (x : X) (xs : List X) → AllPairs R (x ∷ xs) → All (R x) xs
-  pairs_head x xs h k d lt = h 0 (suc k) d (omega arith) (omega arith)
-
-  pub pairs_tail : (x : X) (xs : List X) → AllPairs R (x ∷ xs) → AllPairs R xs
-  pairs_tail x xs h i j d lt within = h (suc i) (suc j) d (omega arith) (omega arith)
-
   pub pairs_drop : (n : ℕ) (xs : List X) → AllPairs R xs → AllPairs R (drop n xs)
   pairs_drop zero xs h = h
   pairs_drop (suc n) [] h = h
-  pairs_drop (suc n) (x ∷ xs) h = pairs_drop n xs (pairs_tail x xs h)
+  pairs_drop (suc n) (x ∷ xs) h = pairs_drop n xs (all_pairs_tail R x xs h)
 
   pub pairs_front : (xs ys : List X) → AllPairs R (xs ++ ys) → AllPairs R xs
   pairs_front xs ys h i j d lt within =
@@ -38,8 +24,8 @@ module _ {X : Type 0} (R : X → X → Type 0) where
   pub pairs_last : (xs : List X) (y : X) (ys : List X) → AllPairs R (xs ++ y ∷ ys) → All (λ x. R x y) xs
   pairs_last [] y ys h = All-nil (λ x. R x y)
   pairs_last (x ∷ xs) y ys h =
-      All-cons (λ z. R z y) x xs (All-head (R x) y ys (all_right (R x) xs (y ∷ ys) (pairs_head x (xs ++ y ∷ ys) h)))
-      (pairs_last xs y ys (pairs_tail x (xs ++ y ∷ ys) h))
+      All-cons (λ z. R z y) x xs (All-head (R x) y ys (all_right (R x) xs (y ∷ ys) (all_pairs_head R x (xs ++ y ∷ ys) h)))
+      (pairs_last xs y ys (all_pairs_tail R x (xs ++ y ∷ ys) h))
 
 -- a front of a list of calls is so many of its first
 pub front_taken : (first next : List Opening) → (count : ℕ) × (take count (first ++ next) ≡ first)

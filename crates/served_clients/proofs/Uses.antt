@@ -1,13 +1,13 @@
 -- Sources and sinks that were used: what they were when they were handed out, and what they were when they were put back.
 use Rattle.std.proofs.Common.{◌≡◌, ◌≢◌, ◌∙◌, ◌++◌, ℕ, List, [], ◌∷◌, map, refl, sym, ap, subst}
 use Rattle.std.specs.Prelude.{⊤}
+use Rattle.rail_types.proofs.Elements.{all_pairs_head, all_pairs_tail}
 use Rattle.outside_io.specs.Openings.{Opening, source_at, sink_at, Undisturbed}
 use Rattle.outside_io.specs.Places.{Place, place_once_returned}
 use Rattle.command_reports.specs.Scenes.{Scene}
 use Rattle.command_reports.specs.Works.{Keeps, Misses}
 use Rattle.served_clients.specs.StreamClients.{AreDistinct, IsExchanged}
 use Rattle.served_clients.specs.Lending.{AreIn, AreOut, call_of, IsAsBefore, IsIn, IsOut, Loan, sink_of, source_of}
-use Rattle.served_clients.proofs.StreamLists.{pairs_head, pairs_tail}
 use Rattle.served_clients.proofs.StreamRounds.{stands_round}
 use Rattle.std.proofs.lemmas.List.Elements.{All-head, All-tail}
 use Rattle.std.proofs.Common.{All}
@@ -27,7 +27,7 @@ pub apart_of : (calls : List Opening) → AreDistinct calls → Apart calls
 apart_of [] all = tt
 apart_of (call ∷ calls) all =
     let R : Opening → Opening → Type 0 = λ one other. one ≢ other in
-    (misses_all call calls (pairs_head R call calls all), apart_of calls (pairs_tail R call calls all))
+    (misses_all call calls (all_pairs_head R call calls all), apart_of calls (all_pairs_tail R call calls all))
 
 pub apart_first : (first next : List Opening) → Apart (first ++ next) → Apart first
 apart_first [] next apart = tt

@@ -1,6 +1,7 @@
 -- A block of a sound walk has no flaw.
 use Rattle.std.proofs.Common.{◌≡◌, ℕ, zero, suc, ◌+◌, ◌-◌, ◌<◌, ◌≤◌, Bool, true, false, not, ◌||◌, cond, List, [], ◌∷◌, map, length, Option, Some, None, option_map, slice_index_or, nat_le, nat_lt, nat_eq, refl, sym, ap, ◌∙◌, arith}
 use Rattle.std.specs.List.{All, filter_map, range_with_len, cons_option, list_any}
+use Rattle.std.proofs.lemmas.Bool.{or_from}
 use Rattle.rail_types.specs.declared.limits.TheConstants.{MAX_BLOCK_LENGTH_M, MAX_SIGHT_M, MAX_SPEED_MM_S}
 use Rattle.rail_types.specs.declared.tracks.Block.{Block}
 use Rattle.rail_types.specs.declared.tracks.Cell.{Cell}
@@ -26,13 +27,10 @@ not_lt a b le = grind (arith, le)
 not_zero : (a : ℕ) → 0 < a → nat_eq a 0 ≡ false
 not_zero a lt = grind (arith, lt)
 
-neither : (a b : Bool) → a ≡ false → b ≡ false → (a || b) ≡ false
-neither a b p q = rw (p, q) refl
-
 zone_step : (zones release : ℕ) (zone : Option ℕ) (cells : List Cell) → ((z : ℕ) → zone ≡ Some z → z < zones) → list_any (λ cell. nat_le zones cell.zone) cells ≡ false
     → list_any (λ cell. nat_le zones cell.zone) (cons_option (option_map (λ zone. record { zone = zone; release_m = release }) zone) cells) ≡ false
 zone_step zones release None cells below rest = rest
-zone_step zones release (Some z) cells below rest = neither (nat_le zones z) (list_any (λ cell. nat_le zones cell.zone) cells) (not_le zones z (below z refl)) rest
+zone_step zones release (Some z) cells below rest = or_from (nat_le zones z) (list_any (λ cell. nat_le zones cell.zone) cells) (not_le zones z (below z refl)) rest
 
 zones_below : (zones : ℕ) (walk : Walk) (from to a n : ℕ) → ((k z : ℕ) → slice_index_or walk.zones k None ≡ Some z → z < zones) → list_any (λ cell. nat_le zones cell.zone) (filter_map (cell_at walk from to) (range_with_len a n)) ≡ false
 zones_below zones walk from to a zero below = refl
@@ -76,11 +74,11 @@ no_flaw net lines walk from to block is within order end short apart it =
     none_of (has_flaw net block Range) (has_flaw net block CellOrder) (has_flaw net block EmptyBlock) (has_flaw net block Point) (has_flaw net block Serves) (has_flaw net block Limit)
     range
     (ap not cells)
-    (neither _ _ long_enough filled)
-    (neither _ _ (not_le net.points block.from_point begin) (not_le net.points block.to_point finish))
+    (or_from _ _ long_enough filled)
+    (or_from _ _ (not_le net.points block.from_point begin) (not_le net.points block.to_point finish))
     (ap not served)
-    (neither (is_outside 1 MAX_BLOCK_LENGTH_M block.length_m || is_outside 1 MAX_SPEED_MM_S block.speed) (nat_lt MAX_SIGHT_M block.sight_m)
-    (neither (is_outside 1 MAX_BLOCK_LENGTH_M block.length_m) (is_outside 1 MAX_SPEED_MM_S block.speed)
-    (neither (nat_lt block.length_m 1) (nat_lt MAX_BLOCK_LENGTH_M block.length_m) (not_lt block.length_m 1 some) (not_lt MAX_BLOCK_LENGTH_M block.length_m fits))
-    (neither (nat_lt block.speed 1) (nat_lt MAX_SPEED_MM_S block.speed) (not_lt block.speed 1 speeds.0) (not_lt MAX_SPEED_MM_S block.speed speeds.1)))
+    (or_from (is_outside 1 MAX_BLOCK_LENGTH_M block.length_m || is_outside 1 MAX_SPEED_MM_S block.speed) (nat_lt MAX_SIGHT_M block.sight_m)
+    (or_from (is_outside 1 MAX_BLOCK_LENGTH_M block.length_m) (is_outside 1 MAX_SPEED_MM_S block.speed)
+    (or_from (nat_lt block.length_m 1) (nat_lt MAX_BLOCK_LENGTH_M block.length_m) (not_lt block.length_m 1 some) (not_lt MAX_BLOCK_LENGTH_M block.length_m fits))
+    (or_from (nat_lt block.speed 1) (nat_lt MAX_SPEED_MM_S block.speed) (not_lt block.speed 1 speeds.0) (not_lt MAX_SPEED_MM_S block.speed speeds.1)))
     (not_lt MAX_SIGHT_M block.sight_m sight))

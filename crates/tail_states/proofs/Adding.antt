@@ -6,6 +6,7 @@ use Rattle.std.proofs.lemmas.List.Elements.{All-nil, All-cons, All-append, All-c
 use Rattle.std.proofs.Math.Seq.{take-suc}
 use Rattle.rail_types.specs.declared.tracks.Network.{Network}
 use Rattle.rail_types.specs.declared.trains.Request.{Request}
+use Rattle.rail_types.proofs.Elements.{slice_get_left}
 use Rattle.running_time.specs.declared.edges.Edge.{Edge}
 use Rattle.running_time.specs.declared.edges.Edge.TheVariants.{Still as Halted, Rolling}
 use Rattle.blocking_time.specs.Runs.{block_at}
@@ -121,11 +122,6 @@ get_push [] y (suc i) x got = absurd (cc)
 get_push (first ∷ xs) y zero x got = inl got
 get_push (first ∷ xs) y (suc i) x got = elim (get_push xs y i x got) [ inl before ↦ inl before | inr last ↦ inr (ap suc last.0, last.1) ]
 
-get_same : {X : Type 0} (xs ys : List X) (i : ℕ) → i < length xs → slice_get (xs ++ ys) i ≡ slice_get xs i
-get_same [] ys i within = absurd (omega (arith, within))
-get_same (first ∷ xs) ys zero within = refl
-get_same (first ∷ xs) ys (suc i) within = get_same xs ys i (omega arith)
-
 pub same_some : {X : Type 0} {x y : X} → Some x ≡ Some y → x ≡ y
 same_some is = cc
 
@@ -144,7 +140,7 @@ module _ (net : Network) (request : Request) where
     moves_are = λ number other its is got. elim (get_push moves own number its got) [
       | inl before ↦
           let within = slice_get_within moves number its before in
-          let was = sym (get_same old grows.0 number (omega (arith, within, firsts.count))) ∙ (ap (λ l. slice_get l number) (sym grows.1) ∙ is) in
+          let was = sym (slice_get_left old grows.0 number (omega (arith, within, firsts.count))) ∙ (ap (λ l. slice_get l number) (sym grows.1) ∙ is) in
           moves_still net request other old new grows its (firsts.moves_are number other its was before)
       | inr last ↦
           let there : slice_get new (length moves) ≡ Some place = subst (λ l. slice_get l (length moves) ≡ Some place) (sym grows.1) (get_before old grows.0 (length moves) place here) in

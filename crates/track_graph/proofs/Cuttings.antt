@@ -13,7 +13,8 @@ use Rattle.std.specs.List.Retain.{IsFiltered, DiffersFromLast}
 use Rattle.std.specs.List.Sorted.{IsPermutation, IsSorted}
 use Rattle.std.specs.Ordering.{nat_cmp}
 use Rattle.rail_types.specs.declared.infra_types.tracks.Track.{Track}
-use Rattle.track_graph.proofs.Maps.{contains_map, contains_from_map}
+use Rattle.rail_types.proofs.Elements.{contains_map}
+use Rattle.track_graph.proofs.Maps.{contains_from_map}
 use Rattle.track_graph.specs.declared.pieces.Piece.{Piece}
 use Rattle.track_graph.specs.declared.stands.Stand.{Stand}
 use Rattle.track_graph.specs.Pieces.{AreCuts, ArePieceRows, ArePieces, length_of, metres_of, pieces_from, pieces_of}

@@ -1,5 +1,5 @@
 -- Detectors by position, and by track.
-use Rattle.std.proofs.Common.{◌≡◌, ℕ, zero, suc, ◌+◌, ◌<◌, Bool, true, false, cond, List, [], ◌∷◌, ◌++◌, length, take, get_or, set, filter, nat_eq, refl, sym, ap, subst, ◌∙◌, arith}
+use Rattle.std.proofs.Common.{◌≡◌, ℕ, zero, suc, ◌+◌, ◌<◌, Bool, true, false, cond, List, [], ◌∷◌, ◌++◌, length, take, get_or, set, filter, nat_eq, sym, ap, subst, ◌∙◌, arith}
 use native.Mathlib.Decide.{ℕ_discrete}
 use Rattle.std.proofs.lemmas.List.{get_or-set_same, get_or-set_other, length-set, length-append, length-take, append-nil}
 use Rattle.std.proofs.lemmas.List.Sums.{sum_by-set}
@@ -8,6 +8,7 @@ use Rattle.std.proofs.lemmas.List.Kept.{AllPairs-filter}
 use Rattle.std.proofs.lemmas.Option.{get_or_from_slice_get, slice_get_within}
 use Rattle.std.specs.List.{All, Contains}
 use Rattle.rail_types.specs.declared.infra_types.tracks.Placed.{Placed}
+use Rattle.rail_types.proofs.Elements.{contains_from_filter}
 use Rattle.track_graph.proofs.Maps.{contains_next}
 use Rattle.track_graph.specs.declared.stands.Stand.{Stand}
 use Rattle.track_graph.specs.Stands.{AreOnRows, AreStands, ComesBefore, stands_of}
@@ -48,15 +49,6 @@ contains_filter {X} p (y ∷ xs) x (zero, h, e) pass = rw (ap p e ∙ pass) (zer
 contains_filter {X} p (y ∷ xs) x (suc k, h, e) pass =
     let rest = contains_filter p xs x (k, omega arith, e) pass in
     elim (p y) as (λ b. Contains (cond b (y ∷ filter p xs) (filter p xs)) x) [ true ↦ contains_next y x (filter p xs) rest | false ↦ rest ]
-
-from_passed : {X : Type 0} (p : X → Bool) (x y : X) (xs ys : List X) → (Contains ys x → Contains xs x × (p x ≡ true)) → (b : Bool) → p y ≡ b → Contains (cond b (y ∷ ys) ys) x → Contains (y ∷ xs) x × (p x ≡ true)
-from_passed {X} p x y xs ys rest true e (zero, k, same) = ((zero, omega arith, same), ap p (sym same) ∙ e)
-from_passed {X} p x y xs ys rest true e (suc n, k, same) = let it = rest (n, omega arith, same) in (contains_next y x xs it.0, it.1)
-from_passed {X} p x y xs ys rest false e i = let it = rest i in (contains_next y x xs it.0, it.1)
-
-pub contains_from_filter : {X : Type 0} (p : X → Bool) (xs : List X) (x : X) → Contains (filter p xs) x → Contains xs x × (p x ≡ true)
-contains_from_filter {X} p [] x (k, h, e) = absurd (omega arith)
-contains_from_filter {X} p (y ∷ xs) x h = from_passed p x y xs (filter p xs) (contains_from_filter p xs x) (p y) refl h
 
 same_from_eq : (a b : ℕ) → nat_eq a b ≡ true → a ≡ b
 same_from_eq a b e = grind arith

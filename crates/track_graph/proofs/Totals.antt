@@ -10,8 +10,9 @@ use Rattle.rail_types.specs.declared.infra_types.ends.End.TheVariants as ends
 use Rattle.rail_types.specs.declared.infra_types.ends.TrackEnd.{TrackEnd}
 use Rattle.rail_types.specs.declared.infra_types.switches.Switch.{Switch}
 use Rattle.rail_types.specs.declared.infra_types.tracks.Track.{Track}
+use Rattle.rail_types.proofs.Elements.{contains_map}
 use Rattle.track_graph.proofs.Links.{link_there}
-use Rattle.track_graph.proofs.Maps.{contains_flat, contains_from_flat, contains_from_map, contains_map}
+use Rattle.track_graph.proofs.Maps.{contains_flat, contains_from_flat, contains_from_map}
 use Rattle.track_graph.specs.declared.neighbours.Join.{Join}
 use Rattle.track_graph.specs.declared.pieces.Piece.{Piece}
 use Rattle.track_graph.specs.declared.stands.Stand.{Stand}

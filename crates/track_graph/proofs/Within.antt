@@ -7,11 +7,11 @@ use Rattle.std.specs.List.{Contains}
 use Rattle.std.specs.Prelude.{slice_get}
 use Rattle.rail_types.specs.declared.infra_types.infras.Infra.{Infra}
 use Rattle.rail_types.specs.declared.infra_types.tracks.Placed.{Placed}
+use Rattle.rail_types.proofs.Elements.{contains_map}
 use Rattle.track_graph.specs.declared.stands.Stand.{Stand}
 use Rattle.track_graph.specs.Faults.{Located, all_located, first_off, is_off, placed_at, signals_at, points_at}
 use Rattle.track_graph.specs.Pieces.{AreOn, length_of}
 use Rattle.track_graph.specs.Stands.{AreStands}
-use Rattle.track_graph.proofs.Maps.{contains_map}
 
 no_name : {X : Type 0} (f : X → List ℕ) (o : Option X) → option_map f o ≡ None → o ≡ None
 no_name {X} f None e = refl

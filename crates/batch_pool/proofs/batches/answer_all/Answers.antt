@@ -1,24 +1,24 @@
 use Rattle.std.proofs.Common.{◌-◌, ◌≤◌, [], All, length, map, ap, sym, ◌∙◌, subst, arith}
 use Rattle.std.proofs.lemmas.List.{length-map}
+use Rattle.rail_types.proofs.Elements.{all_of_map}
 use Rattle.batch_pool.specs.Batches.{AreMatched, IsServed}
 use Rattle.batch_pool.specs.Hands.{hand}
 use Rattle.batch_pool.specs.Shifts.{served_of}
 use Rattle.batch_pool.specs.declared.jobs.Job.{Job}
 use Rattle.batch_pool.specs.declared.workers.Served.{Served}
-use Rattle.batch_pool.proofs.Ends.{all_mapped}
 use Rattle.batch_pool.proofs.Once.{answered_once}
 use Rattle.batch_pool.proofs.batches.answer_all.Goals as goal
 
 pub work_all-jobs-requires-clause-sound : goal.work_all-jobs-requires-clause-sound
 work_all-jobs-requires-clause-sound g c _ _ =
     let W = g.row.W.Denot in let R = g.row.W-Reply.Denot in let f : Job W R → W = λ j. j.shift.worker in
-    all_mapped g.W.Worker.is_sound f c.split_all-jobs.result.items (subst (All g.W.Worker.is_sound) (sym c.split_all-jobs.ensures.workers) c.requires.sound)
+    all_of_map g.W.Worker.is_sound f c.split_all-jobs.result.items (subst (All g.W.Worker.is_sound) (sym c.split_all-jobs.ensures.workers) c.requires.sound)
 
 pub work_all-jobs-requires-clause-left : goal.work_all-jobs-requires-clause-left
 work_all-jobs-requires-clause-left g c _ _ =
     let W = g.row.W.Denot in let R = g.row.W-Reply.Denot in let f : Job W R → W = λ j. j.shift.worker in
     let P : W → Type 0 = λ w. length c.args.todo.now ≤ g.W.Worker.left w in
-    all_mapped P f c.split_all-jobs.result.items (subst (All P) (sym c.split_all-jobs.ensures.workers) c.requires.left)
+    all_of_map P f c.split_all-jobs.result.items (subst (All P) (sym c.split_all-jobs.ensures.workers) c.requires.left)
 
 pub finish-served-requires-clause-parts : goal.finish-served-requires-clause-parts
 finish-served-requires-clause-parts g c _ _ =

@@ -2,11 +2,12 @@ use Rattle.std.proofs.Common.{◌≡◌, ◌++◌, [], List, All, length, map, r
 use Rattle.std.specs.Prelude.{slice_index_or}
 use Rattle.std.proofs.lemmas.List.{length-reverse, reverse-reverse}
 use Rattle.std.proofs.lemmas.List.Elements.{All-nil, All-push}
+use Rattle.rail_types.proofs.Elements.{all_of_map}
 use Rattle.batch_pool.specs.Batches.{AreMatched, IsServed, Leads}
 use Rattle.batch_pool.specs.Hands.{weigh}
 use Rattle.batch_pool.specs.declared.workers.Served.{Served}
 use Rattle.batch_pool.proofs.Counts.{weigh_all_none}
-use Rattle.batch_pool.proofs.Ends.{all_mapped, ended, turned_map}
+use Rattle.batch_pool.proofs.Ends.{ended, turned_map}
 use Rattle.batch_pool.proofs.Matched.{matched_self}
 use Rattle.batch_pool.proofs.Once.{answered_once}
 use Rattle.batch_pool.proofs.Steps.{length_snoc}
@@ -61,4 +62,4 @@ returns-clause-sound g c =
     let W = g.row.W.Denot in let R = g.row.W-Reply.Denot in
     let f : Served W R → W = λ s. s.worker in let all : List (Served W R) = c.loop-worker.served.items in
     let is : map f all ≡ c.args.workers.items = ended (map f all) c.loop-worker.workers.items c.args.workers.items (omega (arith, c.in_default.ensures.cases.0)) c.loop-worker.invariant.workers in
-    all_mapped g.W.Worker.is_sound f all (subst (All g.W.Worker.is_sound) (sym is) c.requires.sound)
+    all_of_map g.W.Worker.is_sound f all (subst (All g.W.Worker.is_sound) (sym is) c.requires.sound)

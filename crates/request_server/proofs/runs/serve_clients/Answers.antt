@@ -1,5 +1,6 @@
 use Rattle.std.proofs.Common.{◌≡◌, List, All, length, map, reverse, sym, ◌∙◌, subst, arith}
 use Rattle.std.proofs.lemmas.List.{reverse-reverse}
+use Rattle.rail_types.proofs.Elements.{apart_alike}
 use Rattle.served_clients.specs.gate.Passes.{opened}
 use Rattle.served_clients.specs.gate.Views.{StartsWith}
 use Rattle.served_clients.specs.Gates.{IsNewcomer}
@@ -13,7 +14,7 @@ use Rattle.request_server.specs.declared.jobs.Job.{Job}
 use Rattle.served_clients.specs.declared.plans.Plan.{Plan}
 use Rattle.served_clients.specs.declared.plans.Session.{Session}
 use Rattle.request_server.specs.Jobs.{Begun, begun, HasPassed, IsDoneJob}
-use Rattle.request_server.proofs.Matched.{all_served, apart_alike, matched_map, matched_reverse}
+use Rattle.request_server.proofs.Matched.{all_served, matched_map, matched_reverse}
 use Rattle.request_server.proofs.Matched.{names_begun}
 use Rattle.request_server.proofs.runs.serve_clients.Goals as goal
 

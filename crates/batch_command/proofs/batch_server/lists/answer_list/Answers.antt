@@ -1,5 +1,6 @@
 use Rattle.std.proofs.Common.{◌≡◌, ◌<◌, List, All, IfSome, length, option_map, sym, ◌∙◌, subst}
 use Rattle.std.proofs.Common.{arith}
+use Rattle.rail_types.proofs.Elements.{apart_alike}
 use Rattle.batch_pool.specs.Batches.{AreMatched}
 use Rattle.batch_command.specs.Batches.{HasWorked}
 use Rattle.batch_command.specs.Clerks.{IsFresh}
@@ -15,7 +16,7 @@ use Rattle.served_clients.specs.Talks.{Talk}
 use Rattle.served_clients.specs.declared.client_seats.newcomers.Newcomer.{Newcomer}
 use Rattle.served_clients.specs.turns.declared.shared.Shared.{Shared}
 use Rattle.served_clients.specs.book.Ledgers.{Ledger}
-use Rattle.batch_command.proofs.Matched.{apart_alike, matched_all, matched_length}
+use Rattle.batch_command.proofs.Matched.{matched_all, matched_length}
 use Rattle.batch_command.proofs.batch_server.lists.answer_list.Goals as goal
 
 pub seat_all-clerks-requires-clause-newcomers : goal.seat_all-clerks-requires-clause-newcomers

@@ -1,13 +1,14 @@
 use Rattle.std.proofs.Common.{◌<◌, ◌∙◌, ◌+◌, ◌++◌, ℕ, List, ap, drop, flat_map, length, sym}
+use Rattle.rail_types.proofs.Elements.{all_left, all_right}
 use Rattle.batch_command.specs.Tables.{filled, texts_by}
-use Rattle.batch_command.proofs.Tables.{all_back, all_front, all_of_part, filled_twice}
+use Rattle.batch_command.proofs.Tables.{all_of_part, filled_twice}
 use Rattle.batch_command.proofs.Tables.{length_filled, parts_more}
 use Rattle.batch_command.proofs.list_replies.texts.put_all.Goals as goal
 use Rattle.served_clients.specs.lines.declared.reply_texts.replies.Reply.{Reply}
 
 pub put_texts-requires : goal.put_texts-requires
 put_texts-requires c =
-    all_front (λ a. a.0 < length c.args.texts.now) c.args.first.now
+    all_left (λ a. a.0 < length c.args.texts.now) c.args.first.now
     (flat_map (λ part. part) c.args.parts.now) c.requires
 
 pub loop-part-init : goal.loop-part-init
@@ -26,7 +27,7 @@ put_texts-requires-in-loop-part c =
     let size = c.loop-part.invariant.long in
     let parts = c.args.parts.now in
     let part = c.part-item.result in
-    let all = all_back (λ a. a.0 < length c.args.texts.now) c.args.first.now
+    let all = all_right (λ a. a.0 < length c.args.texts.now) c.args.first.now
     (flat_map (λ p. p) parts) c.requires in
     let here = all_of_part (λ a. a.0 < length c.args.texts.now) parts c.loop-part.part-index part c.loop-part-test.true all in
     rw (c.as_slice.ensures, c.part-item.is, size) here

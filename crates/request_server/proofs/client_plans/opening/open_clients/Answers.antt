@@ -1,6 +1,7 @@
 use Rattle.std.proofs.Common.{◌≡◌, ◌≢◌, ◌+◌, ◌∙◌, ◌++◌, ◌∷◌, [], ℕ, suc, List, All, AllPairs, get_or, drop, drop-cons, length, map, take, ap, sym, subst, arith, length-append}
 use Rattle.std.proofs.lemmas.List.{length-map, map-append, take_more}
 use Rattle.std.proofs.lemmas.List.Elements.{All-head, All-tail}
+use Rattle.rail_types.proofs.Elements.{all_pairs_head}
 use Rattle.admission_rules.specs.Clients.{rules_named}
 use Rattle.admission_rules.specs.declared.client_rules.clients.ClientRules.{ClientRules}
 use Rattle.std.proofs.Math.Seq.{split_at}
@@ -13,7 +14,7 @@ use Rattle.served_clients.specs.declared.client_streams.streams.ClientStreams.{C
 use Rattle.served_clients.proofs.StreamLoans.{out_both}
 use Rattle.served_clients.specs.Refusing.{IsStopped}
 use Rattle.command_line.specs.declared.client_words.clients.ClientWord.{ClientWord}
-use Rattle.served_clients.proofs.StreamLists.{pairs_drop, pairs_head}
+use Rattle.served_clients.proofs.StreamLists.{pairs_drop}
 use Rattle.request_server.proofs.PlanLoans.{all_taken, fit_more, loans_front, loans_more, own_distinct}
 use Rattle.request_server.proofs.PlanStops.{stops_there}
 use Rattle.command_line.specs.Proofs.{proof_of}
@@ -76,7 +77,7 @@ loop-client-preserved g c =
     let its : plan.rules.items ≡ w client = c.in-Ok-open_client.ensures.rules ∙ All-head (Left before) client (drop (suc i) clients) left in
     let next : suc i ≡ i + 1 = omega arith in
     let apart : All (λ (other : ClientWord). client.client ≢ other.client) (drop (suc i) clients) =
-    pairs_head (λ (one other : ClientWord). one.client ≢ other.client) client (drop (suc i) clients)
+    all_pairs_head (λ (one other : ClientWord). one.client ≢ other.client) client (drop (suc i) clients)
     (subst (AllPairs (λ (one other : ClientWord). one.client ≢ other.client)) behind (pairs_drop (λ (one other : ClientWord). one.client ≢ other.client) i clients c.requires.clients.names)) in
     let pushed : c.push_reserved.new.self.items ≡ plans ++ plan ∷ [] = c.push_reserved.ensures.items in
     let more : take (i + 1) clients ≡ take i clients ++ client ∷ [] =
