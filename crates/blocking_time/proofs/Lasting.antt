@@ -19,7 +19,7 @@ enters_on left enter true keeps = by_lt_z enter left (λ early. absurd (keeps ea
 enters_on left enter false keeps = let same = same_ticks enter left keeps in omega (arith, ints)
 
 module _ (net : Network) (settings : Settings) (path : Path) (keep : KeepsRunRules net settings path) where
-  enters_late : (k : ℕ) → k + 1 < length path.runs → (run_at path k).leave ≤ℤ (run_at path (k + 1)).enter
+  pub enters_late : (k : ℕ) → k + 1 < length path.runs → (run_at path k).leave ≤ℤ (run_at path (k + 1)).enter
   enters_late k within =
       let less : k + 1 - 1 ≡ k = omega arith in
       let on = enters_on (run_at path (k + 1 - 1)).leave (run_at path (k + 1)).enter (run_at path (k + 1 - 1)).stops (λ wrong. keep (k + 1) rule_3 within (omega arith, wrong)) in

@@ -132,6 +132,11 @@ told_is_first net settings path (Asked request) at is = go (broken_run net setti
     go None none told = inr (none_of_runs net settings path none, told_of_request net request path at told)
     go (Some first) some told = let same : first ≡ at = cc in inl (told_of_runs net settings path at (some ∙ ap Some same))
 
+-- what a path is held to has the rules of runs in it
+pub run_rules_kept : (net : Network) (settings : Settings) (path : Path) (wanted : Wanted) → Keeps net settings path wanted → KeepsRunRules net settings path
+run_rules_kept net settings path Pinned keeps = keeps
+run_rules_kept net settings path (Asked request) keeps = keeps.0
+
 pub none_where_kept : (net : Network) (settings : Settings) (path : Path) (wanted : Wanted) → broken net settings path wanted ≡ None → Keeps net settings path wanted
 none_where_kept net settings path Pinned is = none_of_runs net settings path is
 none_where_kept net settings path (Asked request) is = go (broken_run net settings path) refl is

@@ -2,14 +2,14 @@ mod Suffixes
 mod Pairs
 mod Unions
 mod Finding
-mod Telling
+pub mod Telling
 mod Ranks
-mod Leading
+pub mod Leading
 mod Searching
 mod Passing
-mod Horizons
+pub mod Horizons
 mod Hulls
-mod Sharing
-mod Lasting
+pub mod Sharing
+pub mod Lasting
 mod Legging
 mod Nearing

@@ -9,7 +9,7 @@ use Rattle.blocking_time.specs.Ticks.{Takes, Covers}
 use Rattle.blocking_time.specs.Laws.{JoinedFitAlike}
 use Rattle.blocking_time.proofs.Hulls.{are_joined, cover_the_same}
 
-abbrev HaveTicks : List Claim → Type 0
+abbrev pub HaveTicks : List Claim → Type 0
 HaveTicks claims = All (λ claim. HasTicks claim.span) claims
 
 -- a tick that a claim of the list takes
@@ -23,7 +23,7 @@ shared : (a b : Span) → HasTicks a → HasTicks b → Overlap a b → (tick : 
 shared a b some others (left, right) = by_lt_z a.from b.from (λ earlier. (b.from, (omega (arith, ints), right), (omega (arith, ints), others))) (λ later. (a.from, (omega (arith, ints), some), (later, left)))
 
 -- claims that are free of ticks that others take
-abbrev Apart : List Claim → List Claim → Type 0
+abbrev pub Apart : List Claim → List Claim → Type 0
 Apart claims live = (zone : ℕ) (tick : ℤ) → Covers claims zone tick → ¬ Covers live zone tick
 
 clash_by_tick : (zone : ℕ) (tick : ℤ) (a b : Claim) → Takes a zone tick → Takes b zone tick → Clash a b
@@ -34,12 +34,12 @@ one_apart claim [] free zone tick takes none = none
 one_apart claim (other ∷ live) free zone tick takes (inl one) = All-head (λ other. ¬ Clash claim other) other live free (clash_by_tick zone tick claim other takes one)
 one_apart claim (other ∷ live) free zone tick takes (inr others) = one_apart claim live (All-tail (λ other. ¬ Clash claim other) other live free) zone tick takes others
 
-apart_where_fits : (claims live : List Claim) → Fits claims live → Apart claims live
+pub apart_where_fits : (claims live : List Claim) → Fits claims live → Apart claims live
 apart_where_fits [] live fits zone tick none taken = none
 apart_where_fits (claim ∷ claims) live fits zone tick (inl one) taken = one_apart claim live (All-head (λ claim. All (λ other. ¬ Clash claim other) live) claim claims fits) zone tick one taken
 apart_where_fits (claim ∷ claims) live fits zone tick (inr others) taken = apart_where_fits claims live (All-tail (λ claim. All (λ other. ¬ Clash claim other) live) claim claims fits) zone tick others taken
 
-fits_where_apart : (claims live : List Claim) → HaveTicks claims → HaveTicks live → Apart claims live → Fits claims live
+pub fits_where_apart : (claims live : List Claim) → HaveTicks claims → HaveTicks live → Apart claims live → Fits claims live
 fits_where_apart claims live some others apart k claim within j other inside clash =
     let a = get_or claims k claim in
     let b = get_or live j other in

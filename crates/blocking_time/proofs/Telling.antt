@@ -54,7 +54,7 @@ served_on : (x : ℕ) (xs : List ℕ) (stop : ℕ) → (x ≡ stop) ⊎ Contains
 served_on x xs stop (inl is) = (0, omega arith, is)
 served_on x xs stop (inr (k, within, is)) = (suc k, omega arith, is)
 
-serves_in : (xs : List ℕ) (stop : ℕ) → Decides (list_any (λ served. nat_eq served stop) xs) (Contains xs stop)
+pub serves_in : (xs : List ℕ) (stop : ℕ) → Decides (list_any (λ served. nat_eq served stop) xs) (Contains xs stop)
 serves_in [] stop = (λ e. cc, λ h. absurd (let within = h.1 in omega arith))
 serves_in (x ∷ xs) stop = Decides-like _ (served_on x xs stop) (served_first x xs stop) (Decides-or _ _ (Decides-eqb x stop) (serves_in xs stop))
 

@@ -18,14 +18,13 @@ use Rattle.rail_types.specs.Limits.{IsBlockWithinLimits, IsClaimWithinLimits, Is
 use Rattle.rail_types.specs.Networks.{IsBlockOf}
 use Rattle.rail_types.specs.Occupation.{AreJoined, HasTicks}
 use Rattle.rail_types.specs.Timetables.{IsTimetable, Timetable}
-use Rattle.blocking_time.specs.Firsts.{Keeps}
 use Rattle.blocking_time.specs.Joined.{blocked, joined_claims}
 use Rattle.blocking_time.specs.Laws.{JoinedClaimsAreOne, StairwaysAreNear, TheFirstIsTold}
 use Rattle.blocking_time.specs.Paths.{IsPathOf}
-use Rattle.blocking_time.specs.Rules.{KeepsRunRules}
 use Rattle.blocking_time.specs.Runs.{block_at, block_of, run_at, run_numbers}
 use Rattle.blocking_time.specs.Stairway.{claim_at, claims_of_path, claims_of_run}
 use Rattle.blocking_time.specs.Ticks.{Covers, Takes}
+use Rattle.blocking_time.proofs.Leading.{run_rules_kept}
 use Rattle.grant_log.specs.Inside.{HasStairway}
 use Rattle.grant_log.specs.Legal.{IsDeedOn}
 use Rattle.grant_log.specs.Live.{claims_of}
@@ -47,10 +46,6 @@ pub runs_within : (wanted : Wanted) (path : Path) → IsGrantWithinLimits wanted
 runs_within Pinned path within = within.runs
 runs_within (Asked request) path within = within.runs.runs
 
-keeps_runs : (net : Network) (settings : Settings) (path : Path) (wanted : Wanted) → Keeps net settings path wanted → KeepsRunRules net settings path
-keeps_runs net settings path Pinned keeps = keeps
-keeps_runs net settings path (Asked request) keeps = keeps.0
-
 pub path_of : SoundHasLimits → (timetable : Timetable) (wanted : Wanted) (path : Path) → IsTimetable timetable → IsGrantWithinLimits wanted path → IsDeedOn timetable.net (Grant wanted path) → IsPathOf timetable.net timetable.settings path
 path_of sound timetable wanted path planned within on_net = record {
   blocks = sound timetable.net planned.sound;
@@ -63,7 +58,7 @@ path_of sound timetable wanted path planned within on_net = record {
 pub stairway_of : SoundHasLimits → TheFirstIsTold → (timetable : Timetable) (deed : Deed) → IsTimetable timetable → IsDeedWithinLimits deed → IsDeedOn timetable.net deed → breaks timetable deed ≡ None → HasStairway timetable deed
 stairway_of sound told timetable (Hold claims reason) planned within on_net none = tt
 stairway_of sound told timetable (Free at) planned within on_net none = tt
-stairway_of sound told timetable (Grant wanted path) planned within on_net none = (path_of sound timetable wanted path planned within on_net, keeps_runs timetable.net timetable.settings path wanted ((told.keeps timetable.net timetable.settings path wanted).0 none))
+stairway_of sound told timetable (Grant wanted path) planned within on_net none = (path_of sound timetable wanted path planned within on_net, run_rules_kept timetable.net timetable.settings path wanted ((told.keeps timetable.net timetable.settings path wanted).0 none))
 
 -- a list of lists, each of which has it
 all_of_each : {X Y : Type 0} (P : Y → Type 0) (f : X → List Y) → ((x : X) → All P (f x)) → (xs : List X) → All P (flat_map f xs)

@@ -16,6 +16,7 @@ use Rattle.stair_pieces.specs.declared.places.Step.{Step}
 use Rattle.stair_pieces.specs.Places.{start_place, place_after, standing_zones}
 use Rattle.stair_pieces.specs.Pieces.{pieces_of, kept}
 use Rattle.stair_pieces.specs.Moves.{IsEnd, IsPlace}
+use Rattle.stair_pieces.proofs.Stops.{stands_at_a_stop}
 use Rattle.tail_states.specs.declared.moves.Next.TheVariants.{End as Ends}
 use Rattle.tail_states.specs.Alike.{WindowsChangeNoPlaces}
 use Rattle.tail_states.specs.Closing.{GoesOn, IsAdmitted, IsClosed, IsFreeMove, IsHeld, leaves_at}
@@ -36,7 +37,7 @@ use Rattle.path_labels.specs.Answers.{before, claims_held}
 use Rattle.path_labels.specs.Joining.{AreClosedAlike, IsPlannedFrom, IsBehindTheStart, member_in, members_in, move_of, moves_of, trip_of}
 use Rattle.path_labels.proofs.Alike.{planned_alike}
 use Rattle.path_labels.proofs.Fitting.{AreFreeOver, later_fits, moved_of_over, over_at, over_of_kept}
-use Rattle.path_labels.proofs.Standing.{IsAt, IsMoveAs, at_listed, at_start, ends_by, goes_to, leaves_alike, move_is, numbered, stands_at_a_stop}
+use Rattle.path_labels.proofs.Standing.{IsAt, IsMoveAs, at_listed, at_start, ends_by, goes_to, leaves_alike, move_is, numbered}
 
 module _ (net : Network) (settings : Settings) (request : Request) (listed : Listed) (plan : Plan) (all : IsPlannedFrom net settings request listed plan) (book : Book) where
   abbrev At' : ℕ → Place → Type 0

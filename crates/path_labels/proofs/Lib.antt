@@ -10,4 +10,3 @@ pub mod PlanningPlaces
 pub mod Searching
 pub mod Keeping
 pub mod Narrow
-pub use Rattle.running_time.proofs as running_lemmas

@@ -1,21 +1,19 @@
 -- The planned places and moves are those of the request.
-use Rattle.std.proofs.Common.{◌≡◌, ◌∙◌, inl, inr, sym, ap, refl, subst, ℕ, suc, ◌+◌, ◌-◌, ◌<◌, min, ℤ, pos, ◌+ℤ◌, ◌≤ℤ◌, true, false, [], length, get_or, Some, arith}
+use Rattle.std.proofs.Common.{◌≡◌, ◌∙◌, sym, ap, refl, subst, ℕ, suc, ◌+◌, ◌<◌, min, ℤ, pos, ◌+ℤ◌, ◌≤ℤ◌, [], length, get_or, Some, arith}
 use Rattle.std.specs.Prelude.{slice_get}
 use Rattle.std.proofs.lemmas.Int.{ints}
 use Rattle.std.proofs.lemmas.List.{get_or-map, get_or_default, length-map}
 use Rattle.std.proofs.lemmas.Option.{slice_get_within, slice_get-get_or}
 use Rattle.rail_types.specs.declared.tracks.Network.{Network}
-use Rattle.rail_types.specs.declared.trains.Stop.{Stop}
 use Rattle.rail_types.specs.declared.trains.Request.{Request}
 use Rattle.rail_types.specs.declared.entries.Settings.{Settings}
-use Rattle.running_time.specs.declared.edges.Edge.{Edge}
-use Rattle.running_time.specs.declared.edges.Edge.TheVariants.{Still as Halted, Rolling}
+use Rattle.running_time.specs.declared.edges.Edge.TheVariants.{Still as Halted}
 use Rattle.running_time.specs.Times.{run_ticks}
 use Rattle.blocking_time.specs.Runs.{block_at}
 use Rattle.stair_pieces.specs.declared.places.Place.{Place}
 use Rattle.stair_pieces.specs.declared.places.Step.{Step}
-use Rattle.stair_pieces.specs.Places.{start_place, entry_of, place_after, stands_after, made_after}
-use Rattle.stair_pieces.specs.Moves.{IsMove, IsEnd, IsPlace, MayLeave, begun, gone_on}
+use Rattle.stair_pieces.specs.Places.{start_place, entry_of, place_after}
+use Rattle.stair_pieces.specs.Moves.{IsMove, IsEnd}
 use Rattle.tail_states.specs.declared.moves.Move.{Move}
 use Rattle.tail_states.specs.declared.moves.Next.{Next}
 use Rattle.tail_states.specs.declared.moves.Next.TheVariants.{End as Ends, At}
@@ -27,24 +25,6 @@ use Rattle.label_search.specs.declared.plans.Step.{Step as PlannedStep}
 use Rattle.label_search.specs.Paths.{place_at, move_at, leave_of, IsMove as IsPlannedMove}
 use Rattle.path_labels.specs.Plans.{move_in, place_in, ticks_of_step, target_of as target_in}
 use Rattle.path_labels.specs.Joining.{IsPlannedFrom, move_of, moves_of}
-
--- a train that stands at a place of the request has made a stop
-stop_made : (net : Network) (request : Request) (place : Place) (step : Step) (exit : Edge) → step.exit ≡ exit → IsMove net request place step → ¬ IsEnd request place step → stands_after exit ≡ true
-    → (stop : Stop) × (slice_get request.stops (made_after place.made exit - 1) ≡ Some stop)
-stop_made net request place step Rolling is move no_end stands = absurd (let no : false ≡ true = stands in cc)
-stop_made net request place step Halted is move no_end stands =
-    let leaves : MayLeave request place.made (block_at net step.block) Halted = subst (MayLeave request place.made (block_at net step.block)) is move.leaves in
-    elim leaves [
-      | inl makes ↦ (makes.0, subst (λ n. slice_get request.stops n ≡ Some makes.0) (back place.made) makes.1)
-      | inr arrives ↦ absurd (no_end (is, arrives.0))
-    ]
-  where
-    back : (n : ℕ) → n ≡ n + 1 - 1
-    back n = omega arith
-
-pub stands_at_a_stop : (net : Network) (request : Request) (place : Place) → IsPlace net request place → place.standing ≡ true → (stop : Stop) × (slice_get request.stops (place.made - 1) ≡ Some stop)
-stands_at_a_stop net request place (begun step move no_end) stands = stop_made net request start_place step step.exit refl move no_end stands
-stands_at_a_stop net request place (gone_on before step among move no_end) stands = stop_made net request before step step.exit refl move no_end stands
 
 -- a run that ends by the horizon takes its ticks
 whole_ticks : (enter : ℤ) (ticks horizon : ℕ) → pos 0 ≤ℤ enter → (enter +ℤ pos (min ticks (horizon + 1))) ≤ℤ pos horizon → min ticks (horizon + 1) ≡ ticks

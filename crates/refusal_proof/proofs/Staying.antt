@@ -15,36 +15,14 @@ use Rattle.rail_types.specs.Occupation.{Clash, Fits, HeldClaim}
 use Rattle.rail_types.proofs.Elements.{all_of_map}
 use Rattle.occupation_book.specs.Zones.{Zone}
 use Rattle.occupation_book.specs.Held.{IsFree, held}
-use Rattle.running_time.specs.declared.edges.Edge.{Edge}
-use Rattle.running_time.specs.declared.edges.Edge.TheVariants.{Still as Halted, Rolling}
-use Rattle.blocking_time.specs.Runs.{block_at}
 use Rattle.stair_pieces.specs.declared.places.Place.{Place}
-use Rattle.stair_pieces.specs.declared.places.Step.{Step}
-use Rattle.stair_pieces.specs.Places.{start_place, standing_zones, stands_after, made_after}
+use Rattle.stair_pieces.specs.Places.{standing_zones}
 use Rattle.stair_pieces.specs.Pieces.{kept, later_by}
-use Rattle.stair_pieces.specs.Moves.{IsEnd, IsInside, IsMove, IsPlace, MayLeave, begun, gone_on}
+use Rattle.stair_pieces.specs.Moves.{IsInside}
 use Rattle.tail_states.specs.Closing.{GoesOn}
 use Rattle.refusal_proof.specs.declared.goings.Going.{Going}
 use Rattle.refusal_proof.specs.Proofs.{claims_held}
 use Rattle.refusal_proof.specs.Inside.{AreFreeAt, AreGoings, CanGoOn, Goes, IsClaimIn, IsFar, StaysUntil, later, stay}
-
--- a train that stands at a place of the request has made a stop
-stop_made : (net : Network) (request : Request) (place : Place) (step : Step) (exit : Edge) → step.exit ≡ exit → IsMove net request place step → ¬ IsEnd request place step → stands_after exit ≡ true
-    → (stop : Stop) × (slice_get request.stops (made_after place.made exit - 1) ≡ Some stop)
-stop_made net request place step Rolling is move no_end stands = absurd (let no : false ≡ true = stands in cc)
-stop_made net request place step Halted is move no_end stands =
-    let leaves : MayLeave request place.made (block_at net step.block) Halted = subst (MayLeave request place.made (block_at net step.block)) is move.leaves in
-    elim leaves [
-      | inl makes ↦ (makes.0, subst (λ n. slice_get request.stops n ≡ Some makes.0) (back place.made) makes.1)
-      | inr arrives ↦ absurd (no_end (is, arrives.0))
-    ]
-  where
-    back : (n : ℕ) → n ≡ n + 1 - 1
-    back n = omega arith
-
-pub stands_at_a_stop : (net : Network) (request : Request) (place : Place) → IsPlace net request place → place.standing ≡ true → (stop : Stop) × (slice_get request.stops (place.made - 1) ≡ Some stop)
-stands_at_a_stop net request place (begun step move no_end) stands = stop_made net request start_place step step.exit refl move no_end stands
-stands_at_a_stop net request place (gone_on before step among move no_end) stands = stop_made net request before step step.exit refl move no_end stands
 
 clash_back : (a b : Claim) → Clash a b → Clash b a
 clash_back a b clash = (sym clash.0, (clash.1.1, clash.1.0))

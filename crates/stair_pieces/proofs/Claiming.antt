@@ -53,16 +53,16 @@ module _ (net : Network) (train : Train) (of : All (IsBlockOf net) net.blocks) w
       (uncleared_on blocks (All-tail (λ b. b < length net.blocks) block blocks all))
       (left_on (metres_of net (block ∷ blocks)) _ (passages_on block (All-head (λ b. b < length net.blocks) block blocks all)))
 
-head_in : (most : ℕ) (tail : List ℕ) → (tail ≡ [] → ⊥) → All (λ block. block < most) tail → head_block tail < most
-head_in most [] gone all = absurd (gone refl)
-head_in most (first ∷ tail) gone all = all (length (first ∷ tail) - 1) _ (omega arith)
+pub head_within : (most : ℕ) (tail : List ℕ) → (tail ≡ [] → ⊥) → All (λ block. block < most) tail → head_block tail < most
+head_within most [] gone all = absurd (gone refl)
+head_within most (first ∷ tail) gone all = all (length (first ∷ tail) - 1) _ (omega arith)
 
 module _ (net : Network) (settings : Settings) (train : Train) (place : Place) (here : IsPlaceIn net settings train place) where
   abbrev Head : Block
   Head = block_at net (head_block place.tail)
 
   head_has : place.standing ≡ false → IsBlockWithinLimits (block_at net (head_block place.tail))
-  head_has rolls = here.under.blocks _ _ (head_in (length net.blocks) place.tail (λ none. true≢false (sym (here.begins none) ∙ rolls)) here.under.numbers)
+  head_has rolls = here.under.blocks _ _ (head_within (length net.blocks) place.tail (λ none. true≢false (sym (here.begins none) ∙ rolls)) here.under.numbers)
 
   entry_has : IsEnterWithinLimits (entry_of net train place)
   entry_has = go place.standing refl

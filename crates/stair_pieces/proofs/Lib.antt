@@ -2,15 +2,16 @@ mod Covering
 mod Tails
 mod Moments
 mod Joining
-mod Walks
+pub mod Walks
 mod Fitting
 mod Sound
 mod Runs
 mod Stairs
 mod Keeping
-mod Asked
+pub mod Asked
 mod Made
 mod Requests
 mod Paths
 mod Bounding
-mod Claiming
+pub mod Claiming
+pub mod Stops

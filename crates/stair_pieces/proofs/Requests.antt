@@ -1,9 +1,7 @@
 -- The rules of a request by the numbers of runs, and run by run.
-use Rattle.std.proofs.Common.{◌≡◌, ◌⊎◌, inl, inr, sym, ap, refl, subst, ℕ, zero, suc, ◌+◌, ◌<◌, ◌≤◌, ℤ, pos, ◌+ℤ◌, ◌≤ℤ◌, ◌<ℤ◌, Bool, true, false, cond, nat_eq, List, [], ◌∷◌, length, drop, take, get_or, Contains, Decides, arith, length-drop, add-one}
-use Rattle.std.specs.List.{list_any}
+use Rattle.std.proofs.Common.{◌≡◌, ◌⊎◌, inl, inr, sym, ap, refl, subst, ℕ, zero, suc, ◌+◌, ◌<◌, ◌≤◌, ℤ, pos, ◌+ℤ◌, ◌≤ℤ◌, ◌<ℤ◌, Bool, true, false, cond, List, [], ◌∷◌, length, drop, take, get_or, Contains, Decides, arith, length-drop, add-one}
 use Rattle.std.proofs.lemmas.Int.{ints, by_lt_z}
-use Rattle.std.proofs.lemmas.Bool.Decides.{leb_tells, Decides-and, Decides-or, Decides-eqb, Decides-like}
-use Rattle.std.proofs.lemmas.Slice.Eq.{bytes_eq-Decides}
+use Rattle.std.proofs.lemmas.Bool.Decides.{leb_tells}
 use Rattle.std.proofs.lemmas.List.Sums.{sum_by-append}
 use Rattle.rail_types.specs.declared.tracks.Network.{Network}
 use Rattle.rail_types.specs.declared.trains.Train.{Train}
@@ -12,9 +10,9 @@ use Rattle.rail_types.specs.declared.trains.Request.{Request}
 use Rattle.rail_types.specs.declared.paths.Run.{Run}
 use Rattle.rail_types.specs.declared.paths.Path.{Path}
 use Rattle.rail_types.specs.declared.paths.Window.{Window}
-use Rattle.blocking_time.specs.Broken.{is_same_train}
 use Rattle.blocking_time.specs.Runs.{block_at, run_at}
 use Rattle.blocking_time.specs.Rules.{IsOutside, KeepsRequestRules, StopsWrongly, named_stop, stops_before, rule_7, rule_8, rule_9, rule_10, rule_11, rule_12}
+use Rattle.blocking_time.proofs.Telling.{same_train_tells, serves_in}
 use Rattle.stair_pieces.specs.Moves.{IsInside, OfFirst, OfLast}
 use Rattle.stair_pieces.proofs.Keeping.{KeepsRequest, StopsAsNamed, StopsOn}
 
@@ -23,30 +21,8 @@ stable : {P : Type 0} (b : Bool) → Decides b P → ¬ (¬ P) → P
 stable true decides dn = decides.0 refl
 stable false decides dn = absurd (dn (λ p. let e = decides.1 p in cc))
 
-served_first : (x : ℕ) (xs : List ℕ) (stop : ℕ) → Contains (x ∷ xs) stop → (x ≡ stop) ⊎ Contains xs stop
-served_first x xs stop (zero, within, is) = inl is
-served_first x xs stop (suc k, within, is) = inr (k, omega arith, is)
-
-served_on : (x : ℕ) (xs : List ℕ) (stop : ℕ) → (x ≡ stop) ⊎ Contains xs stop → Contains (x ∷ xs) stop
-served_on x xs stop (inl is) = (0, omega arith, is)
-served_on x xs stop (inr (k, within, is)) = (suc k, omega arith, is)
-
-serves_in : (xs : List ℕ) (stop : ℕ) → Decides (list_any (λ served. nat_eq served stop) xs) (Contains xs stop)
-serves_in [] stop = (λ e. cc, λ h. absurd (let within = h.1 in omega arith))
-serves_in (x ∷ xs) stop = Decides-like _ (served_on x xs stop) (served_first x xs stop) (Decides-or _ _ (Decides-eqb x stop) (serves_in xs stop))
-
 serves_so : (xs : List ℕ) (stop : ℕ) → ¬ (¬ Contains xs stop) → Contains xs stop
 serves_so xs stop = stable _ (serves_in xs stop)
-
-same_train : (a b : Train) → Decides (is_same_train a b) (a ≡ b)
-same_train a b =
-    Decides-like _
-    (λ h. fields h.0.0.0.0.0 h.0.0.0.0.1 h.0.0.0.1 h.0.0.1 h.0.1 h.1)
-    (λ e. (((((ap (λ t. t.name) e, ap (λ t. t.length_m) e), ap (λ t. t.speed) e), ap (λ t. t.accel) e), ap (λ t. t.brake) e), ap (λ t. t.allowance) e))
-    (Decides-and _ _ (Decides-and _ _ (Decides-and _ _ (Decides-and _ _ (Decides-and _ _ (bytes_eq-Decides a.name b.name) (Decides-eqb a.length_m b.length_m)) (Decides-eqb a.speed b.speed)) (Decides-eqb a.accel b.accel)) (Decides-eqb a.brake b.brake)) (Decides-eqb a.allowance b.allowance))
-  where
-    fields : a.name ≡ b.name → a.length_m ≡ b.length_m → a.speed ≡ b.speed → a.accel ≡ b.accel → a.brake ≡ b.brake → a.allowance ≡ b.allowance → a ≡ b
-    fields n l s c d e = λ i. record { name = n i; length_m = l i; speed = s i; accel = c i; brake = d i; allowance = e i }
 
 inside : (window : Window) (tick : ℤ) → ¬ IsOutside window tick → IsInside window tick
 inside window tick not_out = by_lt_z tick window.from
@@ -229,7 +205,7 @@ from_none n = omega arith
 
 pub request_kept : (net : Network) (request : Request) (path : Path) → 1 ≤ length path.runs → KeepsRequestRules net request path → KeepsRequest net request path
 request_kept net request path some keeps = record {
-  train_is = stable _ (same_train path.train request.train) (λ other. keeps 0 rule_12 (omega arith) (refl, other));
+  train_is = stable _ (same_train_tells path.train request.train) (λ other. keeps 0 rule_12 (omega arith) (refl, other));
   origin = first_of net request path.train (λ run. Contains (block_at net run.block).serves request.origin) path.runs some
       (serves_so _ request.origin (λ not_served. keeps 0 rule_7 (omega arith) (refl, not_served)));
   destination = last_of net request path.train (λ run. Contains (block_at net run.block).serves request.destination) path.runs some

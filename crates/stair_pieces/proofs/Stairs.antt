@@ -3,16 +3,15 @@ use Rattle.std.proofs.Common.{◌≡◌, ◌≤◌, All, None, sym, subst}
 use Rattle.rail_types.specs.declared.tracks.Network.{Network}
 use Rattle.rail_types.specs.declared.entries.Settings.{Settings}
 use Rattle.rail_types.specs.declared.entries.Wanted.{Wanted}
-use Rattle.rail_types.specs.declared.entries.Wanted.TheVariants.{Asked, Pinned}
 use Rattle.rail_types.specs.declared.paths.Path.{Path}
 use Rattle.rail_types.specs.Flaws.{first_flaw}
 use Rattle.rail_types.specs.Limits.{IsBlockWithinLimits}
 use Rattle.blocking_time.specs.Broken.{broken}
-use Rattle.blocking_time.specs.Firsts.{Keeps}
 use Rattle.blocking_time.specs.Joined.{CoverTheSame}
 use Rattle.blocking_time.specs.Laws.{JoinedClaimsAreOne, JoinedFitAlike, LegsAreTheRuns, StairwaysHaveTicks, TheFirstIsTold}
 use Rattle.blocking_time.specs.Rules.{KeepsRunRules}
 use Rattle.blocking_time.specs.Stairway.{claims_of_path}
+use Rattle.blocking_time.proofs.Leading.{run_rules_kept}
 use Rattle.stair_pieces.specs.Places.{start_place}
 use Rattle.stair_pieces.specs.Pieces.{steps_of_path}
 use Rattle.stair_pieces.specs.Joining.{StepsAreTheStairway}
@@ -21,11 +20,6 @@ use Rattle.stair_pieces.proofs.Sound.{releases_within}
 use Rattle.stair_pieces.proofs.Joining.{steps_cover_legs}
 use Rattle.stair_pieces.proofs.Fitting.{fits_by_its_steps}
 use Rattle.stair_pieces.proofs.Runs.{free_runs}
-
--- what a path is held to has the rules of runs in it
-run_rules_kept : (net : Network) (settings : Settings) (path : Path) (wanted : Wanted) → Keeps net settings path wanted → KeepsRunRules net settings path
-run_rules_kept net settings path Pinned keeps = keeps
-run_rules_kept net settings path (Asked request) keeps = keeps.0
 
 module _ (within : (net : Network) → first_flaw net ≡ None → All IsBlockWithinLimits net.blocks) (legs : LegsAreTheRuns) (told : TheFirstIsTold) where
   keeps_rules : (net : Network) (settings : Settings) (path : Path) (wanted : Wanted) → broken net settings path wanted ≡ None → KeepsRunRules net settings path

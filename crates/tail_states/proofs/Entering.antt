@@ -11,8 +11,8 @@ use Rattle.blocking_time.specs.Runs.{block_at, entry_behind}
 use Rattle.stair_pieces.specs.declared.places.Place.{Place}
 use Rattle.stair_pieces.specs.Places.{head_block, entry_of}
 use Rattle.stair_pieces.specs.Moves.{IsPlace, begun, gone_on}
+use Rattle.stair_pieces.proofs.Claiming.{head_within}
 use Rattle.tail_states.specs.Asked.{IsAsked, MayBeCut, PlacesMayBeCut}
-use Rattle.tail_states.proofs.Firsts.{head_within}
 use Rattle.tail_states.proofs.Moving.{from_start, from_place, gone_from}
 
 enters_behind : (train : Train) (block : Block) (standing : Bool) → IsTrainWithinLimits train → IsBlockWithinLimits block → IsEnterWithinLimits (entry_behind train block standing)

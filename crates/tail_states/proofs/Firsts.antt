@@ -1,5 +1,5 @@
 -- The blocks that a train may enter.
-use Rattle.std.proofs.Common.{◌≡◌, ◌⊎◌, inl, inr, ◌∙◌, sym, ap, refl, subst, arith, ℕ, zero, suc, ◌+◌, ◌-◌, ◌<◌, List, [], ◌∷◌, ◌++◌, length, get_or, Some, All, Contains}
+use Rattle.std.proofs.Common.{◌≡◌, ◌⊎◌, inl, inr, ◌∙◌, sym, ap, refl, subst, arith, ℕ, zero, suc, ◌+◌, ◌<◌, List, [], ◌∷◌, ◌++◌, length, get_or, Some, All, Contains}
 use Rattle.std.specs.Prelude.{slice_get, slice_set}
 use Rattle.std.proofs.lemmas.Option.{slice_get_within, slice_get-get_or, get_or_from_slice_get}
 use Rattle.std.proofs.lemmas.List.{length-set, get_or-set_other, get_or_past}
@@ -36,10 +36,6 @@ module _ (net : Network) (request : Request) where
     sound = λ block has. are.sound (block_at net (head_block (first ∷ tail))).to_point block blocks got has;
     whole = λ block within reaches. are.whole block blocks within (subst (λ point. slice_get lists point ≡ Some blocks) (sym reaches) got);
   }
-
-pub head_within : (most : ℕ) (tail : List ℕ) → (tail ≡ [] → ⊥) → All (λ block. block < most) tail → head_block tail < most
-head_within most [] gone all = absurd (gone refl)
-head_within most (first ∷ tail) gone all = all (length (first ∷ tail) - 1) _ (omega arith)
 
 module _ (net : Network) (points : HasPoints net) (lists : List (List ℕ)) (long : length lists ≡ net.points) (n : ℕ) (within : n < length net.blocks) where
   pub begins_within : (block_at net n).from_point < length lists

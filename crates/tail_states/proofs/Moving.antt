@@ -1,41 +1,23 @@
 -- What moves of a request lead to.
-use Rattle.std.proofs.Common.{◌≡◌, inl, inr, ◌∙◌, sym, ap, refl, subst, arith, ℕ, suc, ◌<◌, ◌≤◌, List, [], ◌∷◌, ◌++◌, length, Some, All, length-append}
+use Rattle.std.proofs.Common.{◌≡◌, inl, inr, ◌∙◌, sym, ap, refl, subst, arith, ℕ, ◌<◌, ◌≤◌, List, [], ◌∷◌, ◌++◌, length, Some, All, length-append}
 use Rattle.std.specs.Prelude.{slice_get}
-use Rattle.std.proofs.lemmas.Bool.Decides.{leb_tells}
 use Rattle.std.proofs.lemmas.Option.{slice_get_within}
-use Rattle.std.proofs.lemmas.List.Elements.{All-nil, All-cons, All-tail, All-append, All-contains}
+use Rattle.std.proofs.lemmas.List.Elements.{All-nil, All-cons, All-append, All-contains}
 use Rattle.rail_types.specs.declared.tracks.Network.{Network}
-use Rattle.rail_types.specs.declared.trains.Train.{Train}
 use Rattle.rail_types.specs.declared.trains.Request.{Request}
 use Rattle.running_time.specs.declared.edges.Edge.{Edge}
 use Rattle.running_time.specs.declared.edges.Edge.TheVariants.{Still as Halted, Rolling}
 use Rattle.blocking_time.specs.Runs.{block_at}
 use Rattle.stair_pieces.specs.declared.places.Place.{Place}
 use Rattle.stair_pieces.specs.declared.places.Step.{Step}
-use Rattle.stair_pieces.specs.Places.{start_place, metres_of, under_train, place_after, made_after}
+use Rattle.stair_pieces.specs.Places.{start_place, place_after, made_after}
 use Rattle.stair_pieces.specs.Moves.{IsMove, IsEnd, IsPlace, begun, gone_on, MayLeave}
+use Rattle.stair_pieces.proofs.Walks.{all_under}
+use Rattle.stair_pieces.proofs.Asked.{under_some}
 use Rattle.tail_states.specs.Asked.{IsAsked}
 use Rattle.tail_states.specs.Listed.{HasNoneTwice, HasMoreThan, Interns}
 use Rattle.tail_states.specs.Inside.{IsPlaceFrom, AreFound}
 use Rattle.tail_states.proofs.Numbers.{contains_at}
-
--- an end of a list of blocks that are under a train
-all_under : (net : Network) (train : Train) (P : ℕ → Type 0) (blocks : List ℕ) → All P blocks → All P (under_train net train blocks)
-all_under net train P [] all = all
-all_under net train P (block ∷ blocks) all = elim (leb_tells (suc (metres_of net blocks)) train.length_m) [
-  | inl tells ↦ rw (tells.0) all
-  | inr tells ↦ rw (tells.0) (all_under net train P blocks (All-tail P block blocks all))
-]
-
-some_under : (net : Network) (train : Train) → 1 ≤ train.length_m → (blocks : List ℕ) (block : ℕ) → under_train net train (blocks ++ block ∷ []) ≡ [] → ⊥
-some_under net train long [] block = elim (leb_tells 1 train.length_m) [
-  | inl tells ↦ rw (tells.0) (λ is. cc)
-  | inr tells ↦ absurd (omega (arith, tells.1, long))
-]
-some_under net train long (first ∷ blocks) block = elim (leb_tells (suc (metres_of net (blocks ++ block ∷ []))) train.length_m) [
-  | inl tells ↦ rw (tells.0) (λ is. cc)
-  | inr tells ↦ rw (tells.0) (some_under net train long blocks block)
-]
 
 module _ (net : Network) (request : Request) where
   -- a move that is no end leads to a place
@@ -62,7 +44,7 @@ module _ (net : Network) (request : Request) where
     fits_after : (place : Place) (step : Step) → All (λ block. block < length net.blocks) place.tail → place.made ≤ length request.stops → IsMove net request place step → ¬ IsEnd request place step → Fits (place_after net request.train place step)
     fits_after place step numbers few move no_end = record {
       numbers = all_under net request.train (λ block. block < length net.blocks) (place.tail ++ step.block ∷ []) (All-append (λ block. block < length net.blocks) place.tail (step.block ∷ []) numbers (All-cons (λ block. block < length net.blocks) step.block [] move.within (All-nil (λ block. block < length net.blocks))));
-      gone = some_under net request.train long place.tail step.block;
+      gone = under_some net request.train long place.tail step.block;
       made = made_on place.made step.block step.exit few move.leaves no_end;
     }
 

@@ -3,8 +3,9 @@ use Rattle.std.proofs.lemmas.Int.{ints}
 use Rattle.occupation_book.specs.Held.{held}
 use Rattle.stair_pieces.specs.Pieces.{kept}
 use Rattle.stair_pieces.specs.Places.{standing_zones}
+use Rattle.stair_pieces.proofs.Stops.{stands_at_a_stop}
 use Rattle.refusal_proof.specs.Inside.{IsClaimIn, StaysUntil}
-use Rattle.refusal_proof.proofs.Staying.{kept_claims_in, stands_at_a_stop, stands_goings}
+use Rattle.refusal_proof.proofs.Staying.{kept_claims_in, stands_goings}
 use Rattle.refusal_proof.proofs.goings.going_on_from_stand.Goals as goal
 
 pub stay-stay-requires : goal.stay-stay-requires

@@ -2,7 +2,8 @@ use Rattle.std.proofs.Common.{◌≡◌, ◌∙◌, ◌<◌, sym, subst, ap, len
 use Rattle.std.specs.Prelude.{slice_get}
 use Rattle.blocking_time.specs.Runs.{block_at}
 use Rattle.stair_pieces.specs.Places.{head_block}
-use Rattle.tail_states.proofs.Firsts.{following, ends_within, head_within}
+use Rattle.stair_pieces.proofs.Claiming.{head_within}
+use Rattle.tail_states.proofs.Firsts.{following, ends_within}
 use Rattle.tail_states.proofs.searches.next_blocks.Goals as goal
 
 pub beginning_at-requires : goal.beginning_at-requires
