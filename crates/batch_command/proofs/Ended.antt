@@ -1,7 +1,7 @@
 -- What a run of `batch` comes to.
 use Rattle.std.proofs.Common.{◌≡◌, ◌≢◌, ◌∙◌, ℕ, false, List, ◌∷◌, Result, Ok, Err, inl, inr, refl}
-use Rattle.std.proofs.Common.{sym, ap}
-use Rattle.outside_io.specs.Openings.{disk_at, Opening, Standing}
+use Rattle.std.proofs.Common.{sym}
+use Rattle.outside_io.specs.Openings.{disk_at}
 use Rattle.outside_io.specs.Places.{Untouched}
 use Rattle.outside_io.specs.declared.sinks.Sink.{Ghosts as Sinks}
 use Rattle.command_reports.specs.declared.exit_status.Status.{Status}
@@ -19,7 +19,7 @@ use Rattle.batch_command.specs.declared.list_lines.lists.ListFault.{ListFault}
 use Rattle.batch_command.specs.declared.list_lines.lists.ListFault.TheVariants.{ReadFault, LongLine}
 use Rattle.batch_command.specs.declared.list_lines.lists.ListFault.TheVariants.{LineCount}
 use Rattle.batch_command.specs.declared.list_lines.lists.ListFault.TheVariants.{Memory as of_list}
-use Rattle.command_reports.specs.Refusals.{IsTold, status_of}
+use Rattle.command_reports.specs.Refusals.{status_of}
 use Rattle.command_reports.specs.declared.refusals.Refusal.{Refusal}
 use Rattle.command_reports.proofs.Steps.{follows_clean}
 use Rattle.command_files.specs.Files.{BaseStep, HasBaseFault, HasNetworkFault, HasTrainFault}
@@ -28,14 +28,14 @@ use Rattle.command_files.specs.Files.{TrainStep}
 use Rattle.command_files.specs.declared.bases.BaseFile.{BaseFile}
 use Rattle.command_files.specs.declared.files.FileKind.TheVariants as kind
 use Rattle.command_files.specs.declared.networks.NetworkFile.{NetworkFile}
-use Rattle.command_files.proofs.Refused.{file_other, memory_other, told_other}
+use Rattle.command_files.proofs.Refused.{file_other, memory_other, told_no, told_other}
 use Rattle.rail_types.specs.declared.trains.Train.{Train}
 use Rattle.served_clients.specs.admission.declared.rules.Rule.{Ghosts as Rules}
 use Rattle.batch_command.specs.Ends.{IsEnds, report_text}
 use Rattle.batch_command.specs.Flaws.{TellsStop}
 use Rattle.batch_command.specs.declared.batch_server.members.Worked.{Worked}
 use Rattle.served_clients.specs.StreamClients.{pair_calls}
-use Rattle.served_clients.specs.Refusing.{AreMade, WhyStopped}
+use Rattle.served_clients.specs.Refusing.{AreMade}
 use Rattle.served_clients.specs.Ends.{EndsSay, is_faulty, is_wanting}
 use Rattle.served_clients.specs.declared.serve_reports.ends.Ends.{Ends}
 use Rattle.served_clients.proofs.ReportStatuses.{AtEnd, other_end, said_at, said_done}
@@ -43,7 +43,7 @@ use Rattle.served_clients.specs.Files.{files_of, known_by}
 use Rattle.served_clients.specs.GivenNames.{GivenNames}
 use Rattle.served_clients.specs.RunGhosts.{RunGhosts}
 use Rattle.served_clients.specs.declared.served_journals.files.Files.{Files}
-use Rattle.served_clients.proofs.JournalStatuses.{IsNoJournals, open_other}
+use Rattle.served_clients.proofs.JournalStatuses.{IsNoJournals, open_other, stopped_other}
 use Rattle.batch_command.specs.Asked.{HasFlaw}
 use Rattle.batch_command.specs.GivenBatches.{Batch}
 use Rattle.batch_command.specs.Journals.{BatchSays, BatchStep, Refuses, Stops}
@@ -77,19 +77,11 @@ no_other = record { opening = λ e. cc; network = λ e. cc; trains = λ e. cc; b
 journals_other : (other : Status) → IsOther other → IsNoJournals other
 journals_other other is = record { journal = is.journal; disk = is.disk; memory = is.memory }
 
-stopped_other : (calls : List Opening) (made : List Opening → Type 0) (standing : Opening → Standing) (faults faults' : ℕ) (refusal : Refusal) (other : Status) → IsOther other → WhyStopped calls made standing faults faults' refusal → status_of refusal ≢ other
-stopped_other calls made standing faults faults' refusal other is (inl cannot) = told_other not_opened other _ refusal cannot.told is.opening is.memory
-stopped_other calls made standing faults faults' refusal other is (inr memory) = memory_other other refusal memory is.memory
-
 stop_other : (batch : List ℕ) (fault : ListFault) (refusal : Refusal) (other : Status) → IsOther other → TellsStop batch fault refusal → status_of refusal ≢ other
 stop_other batch ReadFault refusal other is told = told_other ClientEnd other _ refusal told is.client is.memory
 stop_other batch LongLine refusal other is told = told_other ClientEnd other _ refusal told is.client is.memory
 stop_other batch LineCount refusal other is told = told_other ClientEnd other _ refusal told is.client is.memory
 stop_other batch of_list refusal other is told = memory_other other refusal told is.memory
-
-told_no : (other : Status) (line : List ℕ) (refusal : Refusal) → IsTold No line refusal → Memory ≢ other → status_of refusal ≡ other → No ≡ other
-told_no other line refusal (inl is) memory same = sym (ap status_of is) ∙ same
-told_no other line refusal (inr is) memory same = absurd (memory (sym (ap status_of is) ∙ same))
 
 -- where a work ends with this status, if it refuses
 abbrev Ending : Status → Result Ends Refusal → Type 0
@@ -120,7 +112,7 @@ module _ {Src Snk Dsk L : Type 0} (ghosts : RunGhosts Src Snk Dsk L) (names : Gi
   stops_other files old new refusal other is stops = elim stops.why [
     | inl unopened ↦ told_other not_opened other _ refusal unopened.told is.opening is.memory
     | inr (inl refused) ↦ open_other names.journal refused.fault refusal other (journals_other other is) refused.told
-    | inr (inr halted) ↦ stopped_other (pair_calls batch.client) (λ calls. AreMade old new (disk_at names.journal ∷ calls)) old.standing old.faults new.faults refusal other is halted.why
+    | inr (inr halted) ↦ stopped_other (pair_calls batch.client) (λ calls. AreMade old new (disk_at names.journal ∷ calls)) old.standing old.faults new.faults refusal other halted.why is.opening is.memory
   ]
 
   -- the files were read, and then the list was to be answered

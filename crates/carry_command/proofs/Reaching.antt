@@ -1,5 +1,6 @@
 -- How far a run came: it was refused before anything was worked out, or all was read.
 use Rattle.std.proofs.Common.{◌≡◌, ◌≢◌, ◌⊎◌, ◌∙◌, ℕ, List, Result, Ok, Err, inl, inr, sym, ap, subst}
+use Rattle.init_command.proofs.Ended.{from_other}
 use Rattle.outside_io.specs.Places.{Place, Replaces, Untouched}
 use Rattle.outside_io.specs.declared.failures.Failed.{Failed}
 use Rattle.outside_io.specs.declared.disks.Disk.{Ghosts as Disks}
@@ -27,7 +28,7 @@ use Rattle.carry_command.specs.Olds.{GoesOver, LentSays}
 use Rattle.carry_command.specs.Runs.{HasRead}
 use Rattle.carry_command.specs.Works.{CarriesOver, FindsEmpty, ReadsBase, ReadsBefore, ReadsNetwork, ReadsOld}
 use Rattle.print_commands.proofs.Printed.{replaces_more}
-use Rattle.carry_command.proofs.Refused.{before_other, disk_other, from_other, IsOther}
+use Rattle.carry_command.proofs.Refused.{before_other, disk_other, IsOther, no_inits}
 
 module _ {Src Snk Dsk : Type 0} (source : Sources Src) (sink : Sinks Snk) (disk : Disks Dsk) (names : Names) where
   -- something was refused before anything was worked out
@@ -131,7 +132,7 @@ module _ {Src Snk Dsk : Type 0} (source : Sources Src) (sink : Sinks Snk) (disk 
       → LentSays disk front.files.network front.files.before names.from (CarriesOver sink disk names front.files.network front.files.base) before after out done result → Reaches old new result
   held_reaches old fourth out done new front before after (Ok told) lent returned goes = inr (arrived old fourth out done new front before after (Ok told) lent returned goes)
   held_reaches old fourth out done new front before after (Err refusal) lent returned (inl refused) = inl (record {
-    other = λ status is. from_other names.from refused.fault refusal status is refused.told;
+    other = λ status is. from_other names.from refused.fault refusal status (no_inits status is) refused.told;
     sinks = λ name. returned.sinks name ∙ (ap (λ (s : Scene Src Snk Dsk). s.sinks name) refused.same ∙ (lent.sinks name ∙ (found_of old fourth front).sinks name));
     journal = λ differs. inr (looked old fourth new front (
         returned.object.others names.journal (λ same. differs (sym same))

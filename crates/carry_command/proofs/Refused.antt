@@ -9,16 +9,11 @@ use Rattle.command_reports.specs.Scenes.{Scene}
 use Rattle.command_reports.specs.Refusals.{status_of}
 use Rattle.command_reports.specs.declared.refusals.Refusal.{Refusal}
 use Rattle.path_recover.specs.declared.journal_reading.beginning.InitFault.{InitFault}
-use Rattle.path_recover.specs.declared.journal_reading.beginning.InitFault.TheVariants.{NotEmpty, Fault}
-use Rattle.path_recover.specs.declared.journal_reading.faults.OpenFault.{OpenFault}
-use Rattle.path_recover.specs.declared.journal_reading.faults.OpenFault.TheVariants.{ReadFault, Empty, OldVersion, NotAJournal, OtherNetwork, OtherBase, Damaged, Illegal, Memory as of_open}
-use Rattle.path_recover.specs.Texts.{fault_text}
 use Rattle.command_files.specs.Files.{BaseStep, HasBaseFault, IsBaseFile}
 use Rattle.command_files.specs.declared.bases.BaseFile.{BaseFile}
 use Rattle.command_files.specs.declared.files.FileKind.TheVariants as kind
-use Rattle.command_files.proofs.Refused.{file_other, memory_other, told_other}
-use Rattle.init_command.specs.Begins.{TellsInit}
-use Rattle.init_command.specs.Moves.{TellsFrom, TellsText}
+use Rattle.command_files.proofs.Refused.{file_other, told_other}
+use Rattle.init_command.proofs.Ended.{IsOther as IsNoInits, init_other}
 use Rattle.carry_command.specs.Before.{Renames}
 use Rattle.carry_command.specs.Disks.{DiskSays, IsNotWritten, IsWritten}
 use Rattle.carry_command.specs.Names.{Names}
@@ -44,28 +39,12 @@ words_other = record { opening = λ e. cc; network = λ e. cc; base = λ e. cc; 
 pub no_other : IsOther No
 no_other = record { opening = λ e. cc; network = λ e. cc; base = λ e. cc; journal = λ e. cc; disk = λ e. cc; report = λ e. cc; memory = λ e. cc }
 
-text_other : (from : List ℕ) (text : Option (List ℕ)) (refusal : Refusal) (other : Status) → IsOther other → TellsText from text refusal → status_of refusal ≢ other
-text_other from None refusal other is told = memory_other other refusal told is.memory
-text_other from (Some text) refusal other is told = told_other Journal other _ refusal told is.journal is.memory
-
-pub from_other : (from : List ℕ) (fault : OpenFault) (refusal : Refusal) (other : Status) → IsOther other → TellsFrom from fault refusal → status_of refusal ≢ other
-from_other from ReadFault refusal other is told = told_other DiskFault other _ refusal told is.disk is.memory
-from_other from Empty refusal other is told = text_other from (fault_text Empty) refusal other is told
-from_other from OldVersion refusal other is told = text_other from (fault_text OldVersion) refusal other is told
-from_other from (NotAJournal at) refusal other is told = text_other from (fault_text (NotAJournal at)) refusal other is told
-from_other from (OtherNetwork had found) refusal other is told = text_other from (fault_text (OtherNetwork had found)) refusal other is told
-from_other from (OtherBase had found) refusal other is told = text_other from (fault_text (OtherBase had found)) refusal other is told
-from_other from (Damaged at) refusal other is told = text_other from (fault_text (Damaged at)) refusal other is told
-from_other from (Illegal entry) refusal other is told = text_other from (fault_text (Illegal entry)) refusal other is told
-from_other from of_open refusal other is told = text_other from (fault_text of_open) refusal other is told
-
-init_other : (name : List ℕ) (fault : InitFault) (refusal : Refusal) (other : Status) → IsOther other → TellsInit name fault refusal → status_of refusal ≢ other
-init_other name (NotEmpty len) refusal other is told = told_other Journal other _ refusal told is.journal is.memory
-init_other name Fault refusal other is told = told_other DiskFault other _ refusal told is.disk is.memory
+pub no_inits : (other : Status) → IsOther other → IsNoInits other
+no_inits other is = record { opening = is.opening; network = is.network; base = is.base; journal = is.journal; disk = is.disk; memory = is.memory }
 
 pub disk_other : {Src Snk Dsk : Type 0} (Does : Dsk → Dsk → Type 0) (Fails : InitFault → Dsk → Dsk → Type 0) (name : List ℕ) (old new : Scene Src Snk Dsk) (refusal : Refusal) (other : Status) → IsOther other → DiskSays Does Fails name old new (Err refusal) → status_of refusal ≢ other
 disk_other Does Fails name old new refusal other is (inl unopened) = told_other not_opened other _ refusal unopened.told is.opening is.memory
-disk_other Does Fails name old new refusal other is (inr refused) = init_other name refused.fault refusal other is refused.told
+disk_other Does Fails name old new refusal other is (inr refused) = init_other name refused.fault refusal other (no_inits other is) refused.told
 
 pub before_other : {Src Snk Dsk : Type 0} (source : Sources Src) (zones : ℕ) (name : List ℕ) (old new : Scene Src Snk Dsk) (read : Result BaseFile Refusal) (refusal : Refusal) (other : Status) → IsOther other → BaseStep source zones name old new read → Renames read (Err refusal) → status_of refusal ≢ other
 before_other source zones name old new (Ok file) refusal other is step renames = λ same. let wrong : ◌≡◌ {A = Result BaseFile Refusal} (Err refusal) (Ok file) = renames in absurd cc

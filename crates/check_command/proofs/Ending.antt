@@ -1,5 +1,5 @@
 -- What the command comes to, by its status.
-use Rattle.std.proofs.Common.{◌≡◌, ◌≢◌, ◌∙◌, ℕ, List, Option, None, Some, Vec, Result, Ok, Err, inl, inr, sym, ap, subst}
+use Rattle.std.proofs.Common.{◌≡◌, ◌≢◌, ◌∙◌, ℕ, List, Vec, Result, Ok, Err, inl, inr, sym, subst}
 use Rattle.std.specs.Global.{Global}
 use Rattle.outside_io.specs.declared.disks.Disk.{Ghosts as Disks}
 use Rattle.outside_io.specs.declared.sinks.Sink.{Ghosts as Sinks}
@@ -9,18 +9,16 @@ use Rattle.command_reports.specs.declared.exit_status.Status.TheVariants.{Done, 
 use Rattle.command_reports.specs.Scenes.{Scene}
 use Rattle.command_reports.specs.Writing.{ReportSays}
 use Rattle.command_reports.specs.declared.file_rounds.writing.OutFault.{OutFault}
-use Rattle.path_recover.specs.declared.journal_reading.faults.OpenFault.{OpenFault}
-use Rattle.path_recover.specs.declared.journal_reading.faults.OpenFault.TheVariants.{ReadFault, Empty, OldVersion, NotAJournal, OtherNetwork, OtherBase, Damaged, Illegal, Memory as of_open}
-use Rattle.path_recover.specs.Texts.{fault_text}
-use Rattle.command_reports.specs.Refusals.{IsTold, status_of}
+use Rattle.command_reports.specs.Refusals.{status_of}
 use Rattle.command_reports.specs.declared.refusals.Refusal.{Refusal}
 use Rattle.command_reports.proofs.Ends.{IsLeft}
 use Rattle.command_files.specs.Files.{BaseStep, HasBaseFault, HasNetworkFault, HasTrainFault, IsBaseFile, IsNetworkFile, IsTrainFile, NetworkStep, TrainStep}
 use Rattle.command_files.specs.declared.bases.BaseFile.{BaseFile}
 use Rattle.command_files.specs.declared.files.FileKind.TheVariants as kind
 use Rattle.command_files.specs.declared.networks.NetworkFile.{NetworkFile}
-use Rattle.command_files.proofs.Refused.{file_other, memory_other, told_other}
-use Rattle.print_commands.specs.Journals.{JournalSays, TellsOpen, TellsText}
+use Rattle.command_files.proofs.Refused.{file_other, memory_other, told_no, told_other}
+use Rattle.print_commands.specs.Journals.{JournalSays}
+use Rattle.print_commands.proofs.Printed.{IsOther as IsNoFiles, open_other}
 use Rattle.rail_types.specs.declared.trains.Train.{Train}
 use Rattle.check_command.specs.Checks.{TellsProofs}
 use Rattle.check_command.specs.Files.{ProofFileSays, ProofFileStep}
@@ -54,24 +52,8 @@ words_other = record { opening = λ e. cc; network = λ e. cc; trains = λ e. cc
 pub no_other : IsOther No
 no_other = record { opening = λ e. cc; network = λ e. cc; trains = λ e. cc; base = λ e. cc; journal = λ e. cc; disk = λ e. cc; memory = λ e. cc }
 
-text_other : (text : Option (List ℕ)) (refusal : Refusal) (other : Status) → IsOther other → TellsText text refusal → status_of refusal ≢ other
-text_other None refusal other is told = memory_other other refusal told is.memory
-text_other (Some text) refusal other is told = told_other Journal other _ refusal told is.journal is.memory
-
-open_other : (name : List ℕ) (fault : OpenFault) (refusal : Refusal) (other : Status) → IsOther other → TellsOpen name fault refusal → status_of refusal ≢ other
-open_other name ReadFault refusal other is told = told_other DiskFault other _ refusal told is.disk is.memory
-open_other name Empty refusal other is told = text_other (fault_text Empty) refusal other is told
-open_other name OldVersion refusal other is told = text_other (fault_text OldVersion) refusal other is told
-open_other name (NotAJournal at) refusal other is told = text_other (fault_text (NotAJournal at)) refusal other is told
-open_other name (OtherNetwork had found) refusal other is told = text_other (fault_text (OtherNetwork had found)) refusal other is told
-open_other name (OtherBase had found) refusal other is told = text_other (fault_text (OtherBase had found)) refusal other is told
-open_other name (Damaged at) refusal other is told = text_other (fault_text (Damaged at)) refusal other is told
-open_other name (Illegal entry) refusal other is told = text_other (fault_text (Illegal entry)) refusal other is told
-open_other name of_open refusal other is told = text_other (fault_text of_open) refusal other is told
-
-told_no : (other : Status) (line : List ℕ) (refusal : Refusal) → IsTold No line refusal → Memory ≢ other → status_of refusal ≡ other → No ≡ other
-told_no other line refusal (inl is) memory same = sym (ap status_of is) ∙ same
-told_no other line refusal (inr is) memory same = absurd (memory (sym (ap status_of is) ∙ same))
+no_files : (other : Status) → IsOther other → IsNoFiles other
+no_files other is = record { opening = is.opening; network = is.network; base = is.base; journal = is.journal; disk = is.disk; memory = is.memory }
 
 -- where a work ends with this status, if it refuses
 abbrev pub Ends : Status → Result (List ℕ) Refusal → Type 0
@@ -81,7 +63,7 @@ Ends other (Err refusal) = status_of refusal ≡ other
 module _ {Src Snk Dsk : Type 0} (source : Sources Src) (disk : Disks Dsk) where
   journal_other : (network : NetworkFile) (base : BaseFile) (name : List ℕ) (old new : Scene Src Snk Dsk) (refusal : Refusal) (other : Status) → IsOther other → JournalSays disk network base name old new (Err refusal) → status_of refusal ≢ other
   journal_other network base name old new refusal other is (inl unopened) = told_other not_opened other _ refusal unopened.told is.opening is.memory
-  journal_other network base name old new refusal other is (inr refused) = open_other name refused.fault refusal other is refused.told
+  journal_other network base name old new refusal other is (inr refused) = open_other name refused.fault refusal other (no_files other is) refused.told
 
   module _ (network trains base journal proof : List ℕ) (other : Status) (is_other : IsOther other) where
     -- the files and the journal were read, and then the proofs

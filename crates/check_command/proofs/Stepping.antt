@@ -1,15 +1,13 @@
 -- The steps of the command keep to its opening calls, and only read the journal.
-use Rattle.std.proofs.Common.{◌≡◌, ℕ, List, [], ◌∷◌, Vec, Result, Ok, Err, inl, inr, sym, ap, subst}
+use Rattle.std.proofs.Common.{ℕ, List, [], ◌∷◌, Vec, Result, Ok, Err, inl, inr, ap}
 use Rattle.std.proofs.Common.{zero}
 use Rattle.std.specs.Global.{Global}
 use Rattle.outside_io.specs.Openings.{source_at, disk_at}
-use Rattle.outside_io.specs.Places.{Place, hidden, kept, lent, empty, Replaces}
 use Rattle.outside_io.specs.declared.disks.Disk.{Ghosts as Disks}
 use Rattle.outside_io.specs.declared.sources.Source.{Ghosts as Sources}
 use Rattle.command_reports.specs.Scenes.{ChangesOnlySource, Scene}
 use Rattle.proof_texts.specs.lines.Names.{Names}
 use Rattle.path_recover.specs.history.Legal.{Register}
-use Rattle.path_recover.specs.Failing.{IsOnlyRead}
 use Rattle.command_reports.specs.Works.{Keeps, KeepsTo}
 use Rattle.command_reports.specs.declared.refusals.Refusal.{Refusal}
 use Rattle.command_reports.proofs.Steps.{alone, follows_keep, silent}
@@ -20,7 +18,7 @@ use Rattle.command_files.specs.declared.bases.BaseFile.{BaseFile}
 use Rattle.command_files.specs.declared.files.FileKind.TheVariants as kind
 use Rattle.command_files.specs.declared.networks.NetworkFile.{NetworkFile}
 use Rattle.command_files.proofs.Kept.{file_keeps}
-use Rattle.print_commands.specs.Journals.{IsHistoryOn, IsRefusedOn, JournalSays, JournalStep}
+use Rattle.print_commands.specs.Journals.{JournalStep}
 use Rattle.print_commands.specs.Steps.{Tells, WasOnlyRead}
 use Rattle.print_commands.proofs.Printed.{journal_keeps}
 use Rattle.rail_types.specs.declared.trains.Train.{Train}
@@ -29,7 +27,7 @@ use Rattle.check_command.specs.Files.{ProofFileStep}
 use Rattle.check_command.specs.Works.{check_calls, names_of, plain_of, ReadsBase, ReadsJournal}
 use Rattle.check_command.specs.Works.{ReadsNetwork, ReadsProofs, ReadsTrains}
 use Rattle.command_files.proofs.Kept.{one_source}
-use Rattle.print_commands.proofs.Printed.{tells_keep}
+use Rattle.print_commands.proofs.Printed.{journal_read as said_read, read_then_still, still_then_read, tells_keep}
 
 -- ---- opening calls
 
@@ -38,18 +36,6 @@ proof_keeps source name old new (Ok bytes) step = record { keeps = one_source na
 proof_keeps source name old new (Err refusal) step = record { keeps = one_source name old new step.only; opens = (1, step.only.opened) }
 
 -- ---- places of disks
-
-replaces_more : {Dsk : Type 0} (P Q : Dsk → Dsk → Type 0) → ((before after : Dsk) → P before after → Q before after) → (old new : Place Dsk) → Replaces P old new → Replaces Q old new
-replaces_more P Q more hidden new replaced = replaced
-replaces_more P Q more (kept before) new replaced = (replaced.0, replaced.1, more before replaced.0 replaced.2)
-replaces_more P Q more lent new replaced = absurd replaced
-replaces_more P Q more empty new replaced = absurd replaced
-
-still_then_read : {Dsk : Type 0} (disk : Disks Dsk) (old between new : Place Dsk) → between ≡ old → WasOnlyRead disk between new → WasOnlyRead disk old new
-still_then_read {Dsk} disk old between new still read = subst (λ (place : Place Dsk). WasOnlyRead disk place new) still read
-
-pub read_then_still : {Dsk : Type 0} (disk : Disks Dsk) (old between new : Place Dsk) → WasOnlyRead disk old between → new ≡ between → WasOnlyRead disk old new
-read_then_still {Dsk} disk old between new read still = subst (λ (place : Place Dsk). WasOnlyRead disk old place) (sym still) read
 
 module _ {Src Snk Dsk : Type 0} (source : Sources Src) (disk : Disks Dsk) where
   proofs_keep : (proof : List ℕ) (known : Names) (history : Register) (old new : Scene Src Snk Dsk) (result : Result (List ℕ) Refusal) → ReadsProofs source proof known history old new result → KeepsTo (source_at proof ∷ []) old new result
@@ -83,19 +69,12 @@ module _ {Src Snk Dsk : Type 0} (source : Sources Src) (disk : Disks Dsk) where
 
   -- ---- the disk of the journal
 
-  said_read : (network : NetworkFile) (base : BaseFile) (name : List ℕ) (old new : Scene Src Snk Dsk) (result : Result Register Refusal) → JournalSays disk network base name old new result → WasOnlyRead disk (old.disks name) (new.disks name)
-  said_read network base name old new (Ok history) says =
-      inr (replaces_more (IsHistoryOn disk network base history.entries) (IsOnlyRead disk) (λ before after on. on.read) (old.disks name) (new.disks name) says.read)
-  said_read network base name old new (Err refusal) (inl unopened) = inl (unopened.same name)
-  said_read network base name old new (Err refusal) (inr refused) =
-      inr (replaces_more (IsRefusedOn disk network base refused.fault) (IsOnlyRead disk) (λ before after on. on.read) (old.disks name) (new.disks name) refused.left)
-
   journal_read : (journal proof : List ℕ) (network : NetworkFile) (trains : List Train) (base : BaseFile) (old new : Scene Src Snk Dsk) (result : Result (List ℕ) Refusal) → ReadsJournal source disk journal proof network trains base old new result
       → WasOnlyRead disk (old.disks journal) (new.disks journal)
   journal_read journal proof network trains base old new (Ok line) (inl stopped) = absurd stopped
-  journal_read journal proof network trains base old new (Err refusal) (inl stopped) = said_read (plain_of network) base journal old new (Err refusal) stopped.says
+  journal_read journal proof network trains base old new (Err refusal) (inl stopped) = said_read disk (plain_of network) base journal old new (Err refusal) stopped.says
   journal_read journal proof network trains base old new result (inr goes) =
-      read_then_still disk (old.disks journal) (goes.between.disks journal) (new.disks journal) (said_read (plain_of network) base journal old goes.between (Ok goes.given) goes.first.says)
+      read_then_still disk (old.disks journal) (goes.between.disks journal) (new.disks journal) (said_read disk (plain_of network) base journal old goes.between (Ok goes.given) goes.first.says)
       ((proofs_keep proof (names_of network trains) goes.given goes.between new result goes.next).keeps.disks journal ((λ e. cc), tt))
 
   base_read : (base journal proof : List ℕ) (network : NetworkFile) (trains : List Train) (old new : Scene Src Snk Dsk) (result : Result (List ℕ) Refusal) → ReadsBase source disk base journal proof network trains old new result

@@ -1,7 +1,7 @@
 -- Which statuses a refusal cannot have.
 use Rattle.std.proofs.Common.{◌≡◌, ◌≢◌, ◌∙◌, ℕ, List, Err, inl, inr, sym, ap}
 use Rattle.command_reports.specs.declared.exit_status.Status.{Status}
-use Rattle.command_reports.specs.declared.exit_status.Status.TheVariants.{Opening, Memory as wants_memory}
+use Rattle.command_reports.specs.declared.exit_status.Status.TheVariants.{No, Opening, Memory as wants_memory}
 use Rattle.outside_io.specs.declared.sinks.Sink.{Ghosts as Sinks}
 use Rattle.outside_io.specs.declared.sources.Source.{Ghosts as Sources}
 use Rattle.command_reports.specs.Scenes.{Scene}
@@ -16,6 +16,10 @@ use Rattle.command_files.specs.declared.files.FileKind.{FileKind}
 pub told_other : (status other : Status) (line : List ℕ) (refusal : Refusal) → IsTold status line refusal → status ≢ other → wants_memory ≢ other → status_of refusal ≢ other
 told_other status other line refusal (inl is) differs memory same = differs (sym (ap status_of is) ∙ same)
 told_other status other line refusal (inr is) differs memory same = memory (sym (ap status_of is) ∙ same)
+
+pub told_no : (other : Status) (line : List ℕ) (refusal : Refusal) → IsTold No line refusal → wants_memory ≢ other → status_of refusal ≡ other → No ≡ other
+told_no other line refusal (inl is) memory same = sym (ap status_of is) ∙ same
+told_no other line refusal (inr is) memory same = absurd (memory (sym (ap status_of is) ∙ same))
 
 pub memory_other : (other : Status) (refusal : Refusal) → refusal ≡ Memory → wants_memory ≢ other → status_of refusal ≢ other
 memory_other other refusal is memory same = memory (sym (ap status_of is) ∙ same)

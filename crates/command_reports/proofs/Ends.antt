@@ -1,9 +1,10 @@
--- What the end of a command leaves alone.
-use Rattle.std.proofs.Common.{◌≡◌, ◌≢◌, ◌∙◌, ℕ, List, Result, Ok, Err, refl, sym, subst}
+-- What the end of a command leaves alone, and what holds behind it.
+use Rattle.std.proofs.Common.{◌≡◌, ◌≢◌, ◌∙◌, ◌⊎◌, ℕ, List, Result, Ok, Err, inl, inr, refl, sym, subst}
 use Rattle.outside_io.specs.Openings.{Opening, Undisturbed, sink_at, disk_at}
 use Rattle.outside_io.specs.Places.{Untouched}
 use Rattle.outside_io.specs.declared.sinks.Sink.{Ghosts}
 use Rattle.command_reports.specs.declared.exit_status.Status.{Status}
+use Rattle.command_reports.specs.declared.exit_status.Status.TheVariants.{Done, Report}
 use Rattle.command_reports.specs.Scenes.{ChangesOnlyReport, Scene}
 use Rattle.command_reports.specs.Reports.{EndSays}
 use Rattle.command_reports.specs.Works.{Misses, Runs}
@@ -36,3 +37,8 @@ runs_disks sink calls Work old new status runs name misses = (ends_leave sink ru
 pub runs_sinks : {Src Snk Dsk : Type 0} (sink : Ghosts Snk) (calls : List Opening) (Work : Scene Src Snk Dsk → Scene Src Snk Dsk → Result Status Refusal → Type 0) (old new : Scene Src Snk Dsk) (status : Status)
     → Runs sink calls Work old new status → (name : List ℕ) → Misses (sink_at name) calls → new.sinks name ≡ old.sinks name
 runs_sinks sink calls Work old new status runs name misses = (ends_leave sink runs.between new runs.outcome status runs.ends).sinks name ∙ runs.keeps.keeps.sinks name misses
+
+-- what was reached holds behind a report of nothing
+pub reached_done : {S : Type 0} (P : S → Type 0) (between new : S) (reached status : Status) → ((reached ≡ Done) × P between) ⊎ (reached ≡ Report) → status ≡ reached → new ≡ between → status ≡ Done → P new
+reached_done P between new reached status (inl done) told same is = subst P (sym same) done.1
+reached_done P between new reached status (inr part) told same is = let e : Report ≡ Done = sym part ∙ (sym told ∙ is) in cc

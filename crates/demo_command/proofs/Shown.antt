@@ -10,7 +10,7 @@ use Rattle.command_reports.specs.Refusals.{status_of}
 use Rattle.command_reports.specs.Reports.{EndSays}
 use Rattle.command_reports.specs.Works.{KeepsTo, Makes, Runs}
 use Rattle.command_reports.specs.declared.refusals.Refusal.{Refusal}
-use Rattle.command_reports.proofs.Ends.{ends_leave, runs_back, runs_disks}
+use Rattle.command_reports.proofs.Ends.{ends_leave, reached_done, runs_back, runs_disks}
 use Rattle.command_reports.proofs.Steps.{follows_clean, follows_keep, makes_keep}
 use Rattle.command_files.specs.Outs.{OutSays, OutStep}
 use Rattle.command_files.proofs.Kept.{out_keeps}
@@ -47,11 +47,6 @@ demo_other : {Src Snk Dsk : Type 0} (sink : Sinks Snk) (number : ℕ) (out : Lis
     → status_of refusal ≢ other
 demo_other sink number out old new refusal other (inl makes) opening memory = memory_other other refusal makes.1 memory
 demo_other sink number out old new refusal other (inr goes) opening memory = out_other sink out goes.given goes.between new refusal other goes.next.says opening memory
-
--- what was reached holds behind a report of nothing
-reached_done : {S : Type 0} (P : S → Type 0) (between new : S) (reached status : Status) → ((reached ≡ Done) × P between) ⊎ (reached ≡ Report) → status ≡ reached → new ≡ between → status ≡ Done → P new
-reached_done P between new reached status (inl done) told same is = subst P (sym same) done.1
-reached_done P between new reached status (inr part) told same is = let e : Report ≡ Done = sym part ∙ (sym told ∙ is) in cc
 
 done_by : {Src Snk Dsk : Type 0} (sink : Sinks Snk) (number : ℕ) (out : List ℕ) (old between new : Scene Src Snk Dsk) (outcome : Result Status Refusal) (status : Status) → DemoWorks sink number out old between outcome
     → EndSays sink between new outcome status → status ≡ Done → IsShown sink number out old new

@@ -57,7 +57,7 @@ move_keeps source disk network base journal from old new result works =
     reads_keep source network base (MoveOver disk journal from) (disk_at journal ∷ disk_at from ∷ []) (λ n b before after ended step. step.only) old new result works
 
 -- a status that no refusal of `init` has
-record IsOther (other : Status) : Type 0 where
+pub record IsOther (other : Status) : Type 0 where
   pub opening : not_opened ≢ other
   pub network : Network ≢ other
   pub base : Base ≢ other
@@ -76,7 +76,7 @@ record LastEnds {Src Snk Dsk : Type 0} (Last : StepOver Src Snk Dsk) : Type 0 wh
   pub done : (network : NetworkFile) (base : BaseFile) (old new : Scene Src Snk Dsk) (status : Status) → Last network base old new (Ok status) → status ≡ Done
   pub other : (network : NetworkFile) (base : BaseFile) (old new : Scene Src Snk Dsk) (refusal : Refusal) (other : Status) → IsOther other → Last network base old new (Err refusal) → status_of refusal ≢ other
 
-init_other : (name : List ℕ) (fault : InitFault) (refusal : Refusal) (other : Status) → IsOther other → TellsInit name fault refusal → status_of refusal ≢ other
+pub init_other : (name : List ℕ) (fault : InitFault) (refusal : Refusal) (other : Status) → IsOther other → TellsInit name fault refusal → status_of refusal ≢ other
 init_other name (NotEmpty len) refusal other is told = told_other Journal other _ refusal told is.journal is.memory
 init_other name Fault refusal other is told = told_other DiskFault other _ refusal told is.disk is.memory
 
@@ -94,7 +94,7 @@ text_other : (from : List ℕ) (text : Option (List ℕ)) (refusal : Refusal) (o
 text_other from None refusal other is told = memory_other other refusal told is.memory
 text_other from (Some text) refusal other is told = told_other Journal other _ refusal told is.journal is.memory
 
-from_other : (from : List ℕ) (fault : OpenFault) (refusal : Refusal) (other : Status) → IsOther other → TellsFrom from fault refusal → status_of refusal ≢ other
+pub from_other : (from : List ℕ) (fault : OpenFault) (refusal : Refusal) (other : Status) → IsOther other → TellsFrom from fault refusal → status_of refusal ≢ other
 from_other from ReadFault refusal other is told = told_other DiskFault other _ refusal told is.disk is.memory
 from_other from Empty refusal other is told = text_other from (fault_text Empty) refusal other is told
 from_other from OldVersion refusal other is told = text_other from (fault_text OldVersion) refusal other is told

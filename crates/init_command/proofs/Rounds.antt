@@ -1,7 +1,7 @@
 -- Disks that were opened and put back.
-use Rattle.std.proofs.Common.{◌≡◌, ◌≢◌, ◌∙◌, ℕ, List, [], ◌∷◌, Result, Ok, Err, inl, inr, refl, sym, ap, subst}
+use Rattle.std.proofs.Common.{◌≡◌, ◌≢◌, ◌∙◌, ℕ, List, [], ◌∷◌, Result, Ok, Err, inl, inr, sym, ap, subst}
 use Rattle.outside_io.specs.declared.failures.Failed.{Failed}
-use Rattle.outside_io.specs.Openings.{Opening, source_at, sink_at, the_report, disk_at, Standing, untold, ready, taken, absent, Answers, Foretells, StandsAgain, standing_once_opened, standing_once_returned, Undisturbed}
+use Rattle.outside_io.specs.Openings.{Opening, source_at, sink_at, the_report, disk_at, Standing, Answers, StandsAgain, standing_once_returned, Undisturbed}
 use Rattle.outside_io.specs.Places.{Place, hidden, kept, lent, empty, HandsOut, IsKeptAt, place_once_opened, place_once_returned, Replaces, TakesBack}
 use Rattle.outside_io.proofs.Names.{name_cases}
 use Rattle.outside_io.proofs.Places.{Replaces-returned}
@@ -9,6 +9,7 @@ use Rattle.command_reports.specs.Scenes.{IsReady, IsShut, Scene}
 use Rattle.command_reports.specs.Works.{Keeps, KeepsTo}
 use Rattle.command_reports.specs.declared.refusals.Refusal.{Refusal}
 use Rattle.command_reports.specs.Disks.{ChangesOnlyDisk}
+use Rattle.command_reports.proofs.Standings.{once_back, open_told}
 
 keeps_one : {Src Snk Dsk : Type 0} (name : List ℕ) (old new : Scene Src Snk Dsk) → ChangesOnlyDisk name old new → Keeps (disk_at name ∷ []) old new
 keeps_one name old new only = record {
@@ -47,12 +48,6 @@ both_replaced {T = T} R journal from x x' d0 d1 d3 d4 out between replaced back 
       rw place (Replaces-returned (λ before after. Replaces (R before after) (d0 from) (d4 from)) (d0 journal) x x' out.object both)
 ]
 
-once_back : {T : Type 0} (it : T) (standing : Standing) → Foretells {E = Failed} standing (Ok it) → standing_once_returned (standing_once_opened standing) ≡ standing
-once_back it untold told = refl
-once_back it ready told = refl
-once_back it taken told = cc
-once_back it absent told = refl
-
 -- a name that was opened and put back stands as it stood
 pub stands_back : {T : Type 0} (name : List ℕ) (it : T) (t0 t1 t3 t4 : Opening → Standing) → Answers {E = Failed} (disk_at name) t0 t1 (Ok it) → Undisturbed t1 t3 → StandsAgain (disk_at name) t3 t4 → Undisturbed t0 t4
 stands_back name it t0 t1 t3 t4 out between back (source_at other) = back.others (source_at other) (λ same. cc) ∙ between (source_at other) ∙ out.others (source_at other) (λ same. cc)
@@ -62,13 +57,6 @@ stands_back {T = T} name it t0 t1 t3 t4 out between back (disk_at other) = elim 
   | inl same ↦ rw same (back.returned ∙ ap standing_once_returned (between (disk_at name) ∙ out.opened) ∙ once_back it (t0 (disk_at name)) out.told)
   | inr differs ↦ back.others (disk_at other) (λ same. differs cc) ∙ between (disk_at other) ∙ out.others (disk_at other) (λ same. differs cc)
 ]
-
--- a name that was opened was not shut
-pub open_told : {T : Type 0} (it : T) (standing : Standing) → Foretells {E = Failed} standing (Ok it) → IsShut standing → ⊥
-open_told it untold told shut = shut
-open_told it ready told shut = shut
-open_told it taken told shut = cc
-open_told it absent told shut = cc
 
 -- the second of two names that were opened was not shut before
 pub second_open : {T : Type 0} (journal from : List ℕ) (it : T) (t0 t1 : Opening → Standing) → Answers {E = Failed} (disk_at journal) t0 t1 (Ok it) → (IsShut (t1 (disk_at from)) → ⊥) → IsShut (t0 (disk_at from)) → ⊥

@@ -20,8 +20,9 @@ use Rattle.command_reports.specs.Disks.{ChangesOnlyDisk}
 use Rattle.init_command.specs.Moves.{DisksKeep, DisksSay, FromSays, IsMovedTo, IsNotMoved, MoveStep, OpensBoth, TellsMove}
 use Rattle.init_command.specs.declared.moving.NotMoved.{NotMoved}
 use Rattle.init_command.specs.declared.moving.NotMoved.TheVariants.{NotOpened, FromNotOpened, Refused}
-use Rattle.init_command.proofs.Rounds.{both_replaced, open_told, second_open, second_unready, stands_back}
+use Rattle.init_command.proofs.Rounds.{both_replaced, second_open, second_unready, stands_back}
 use Rattle.command_reports.proofs.Steps.{opens_both as calls_both}
+use Rattle.command_reports.proofs.Standings.{open_told}
 
 -- a disk was opened before a step, and put back behind it
 pub record IsRound {Src Snk Dsk : Type 0} (name : List ℕ) (it back : Dsk) (first second third fourth : Scene Src Snk Dsk) : Type 0 where

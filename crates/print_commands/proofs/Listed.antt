@@ -14,7 +14,7 @@ use Rattle.command_reports.specs.Refusals.{status_of}
 use Rattle.command_reports.specs.Reports.{EndSays}
 use Rattle.command_reports.specs.Works.{KeepsTo, Makes, Runs}
 use Rattle.command_reports.specs.declared.refusals.Refusal.{Refusal}
-use Rattle.command_reports.proofs.Ends.{ends_leave, runs_back, runs_disks}
+use Rattle.command_reports.proofs.Ends.{ends_leave, reached_done, runs_back, runs_disks}
 use Rattle.command_reports.proofs.Steps.{follows_clean, follows_keep, makes_keep}
 use Rattle.command_files.specs.Files.{HasNetworkFault, IsNetworkFile, NetworkStep}
 use Rattle.command_files.specs.Outs.{OutSays, OutStep, Writes}
@@ -113,11 +113,6 @@ list_other : {Src Snk Dsk : Type 0} (source : Sources Src) (sink : Sinks Snk) (n
 list_other source sink network out old new refusal other (inl stopped) opening of_network memory =
     file_other {A = NetworkFile} kind.Network source network IsNetworkFile HasNetworkFault old new refusal other stopped.says opening of_network memory
 list_other source sink network out old new refusal other (inr goes) opening of_network memory = table_other sink goes.given.named out goes.between new refusal other goes.next opening memory
-
--- what was reached holds behind a report of nothing
-reached_done : {S : Type 0} (P : S → Type 0) (between new : S) (reached status : Status) → ((reached ≡ Done) × P between) ⊎ (reached ≡ Report) → status ≡ reached → new ≡ between → status ≡ Done → P new
-reached_done P between new reached status (inl done) told same is = subst P (sym same) done.1
-reached_done P between new reached status (inr part) told same is = let e : Report ≡ Done = sym part ∙ (sym told ∙ is) in cc
 
 refused_done : {A : Type 0} (refusal : Refusal) (status : Status) → status_of refusal ≢ Done → status ≡ status_of refusal → status ≡ Done → A
 refused_done refusal status other told is = absurd (other (sym told ∙ is))

@@ -18,7 +18,7 @@ use Rattle.command_reports.specs.Refusals.{status_of}
 use Rattle.command_reports.specs.Reports.{EndSays}
 use Rattle.command_reports.specs.Works.{KeepsTo, Runs}
 use Rattle.command_reports.specs.declared.refusals.Refusal.{Refusal}
-use Rattle.command_reports.proofs.Ends.{ends_leave}
+use Rattle.command_reports.proofs.Ends.{ends_leave, reached_done}
 use Rattle.command_reports.proofs.Steps.{alone, follows_clean, follows_keep, silent}
 use Rattle.command_files.specs.Files.{BaseStep, HasBaseFault, HasNetworkFault, IsBaseFile, IsNetworkFile, NetworkStep}
 use Rattle.command_files.specs.Outs.{OutSays, OutStep, Writes}
@@ -94,14 +94,14 @@ replaces_more P Q more lent new replaced = absurd replaced
 replaces_more P Q more empty new replaced = absurd replaced
 
 -- a place that stood still before it was only read
-still_then_read : {D : Type 0} (disk : Disks D) (old between new : Place D) → between ≡ old → WasOnlyRead disk between new → WasOnlyRead disk old new
+pub still_then_read : {D : Type 0} (disk : Disks D) (old between new : Place D) → between ≡ old → WasOnlyRead disk between new → WasOnlyRead disk old new
 still_then_read {D = D} disk old between new still read = subst (λ (place : Place D). WasOnlyRead disk place new) still read
 
 -- a place that was only read and stood still then
-read_then_still : {D : Type 0} (disk : Disks D) (old between new : Place D) → WasOnlyRead disk old between → new ≡ between → WasOnlyRead disk old new
+pub read_then_still : {D : Type 0} (disk : Disks D) (old between new : Place D) → WasOnlyRead disk old between → new ≡ between → WasOnlyRead disk old new
 read_then_still {D = D} disk old between new read still = subst (λ (place : Place D). WasOnlyRead disk old place) (sym still) read
 
-journal_read : {Src Snk Dsk : Type 0} (disk : Disks Dsk) (network : NetworkFile) (base : BaseFile) (name : List ℕ) (old new : Scene Src Snk Dsk) (result : Result Register Refusal) → JournalSays disk network base name old new result
+pub journal_read : {Src Snk Dsk : Type 0} (disk : Disks Dsk) (network : NetworkFile) (base : BaseFile) (name : List ℕ) (old new : Scene Src Snk Dsk) (result : Result Register Refusal) → JournalSays disk network base name old new result
     → WasOnlyRead disk (old.disks name) (new.disks name)
 journal_read disk network base name old new (Ok history) says =
     inr (replaces_more (IsHistoryOn disk network base history.entries) (IsOnlyRead disk) (λ before after on. on.read) (old.disks name) (new.disks name) says.read)
@@ -234,7 +234,7 @@ text_other : (text : Option (List ℕ)) (refusal : Refusal) (other : Status) →
 text_other None refusal other is told = memory_other other refusal told is.memory
 text_other (Some text) refusal other is told = told_other Journal other _ refusal told is.journal is.memory
 
-open_other : (name : List ℕ) (fault : OpenFault) (refusal : Refusal) (other : Status) → IsOther other → TellsOpen name fault refusal → status_of refusal ≢ other
+pub open_other : (name : List ℕ) (fault : OpenFault) (refusal : Refusal) (other : Status) → IsOther other → TellsOpen name fault refusal → status_of refusal ≢ other
 open_other name ReadFault refusal other is told = told_other DiskFault other _ refusal told is.disk is.memory
 open_other name Empty refusal other is told = text_other (fault_text Empty) refusal other is told
 open_other name OldVersion refusal other is told = text_other (fault_text OldVersion) refusal other is told
@@ -291,11 +291,6 @@ print_refused source sink disk network base journal out Says old new refusal oth
 abbrev RunsPrint : {Src Snk Dsk : Type 0} → Sources Src → Sinks Snk → Disks Dsk → List ℕ → List ℕ → List ℕ → List ℕ → Telling → Scene Src Snk Dsk → Scene Src Snk Dsk → Status → Type 0
 RunsPrint source sink disk network base journal out Says old new status =
     Runs sink (print_calls network base journal out) (Prints sink (ReadsHistory source disk network base journal) out Says) old new status
-
--- what was reached holds behind a report of nothing
-reached_done : {S : Type 0} (P : S → Type 0) (between new : S) (reached status : Status) → Ends (P between) reached → status ≡ reached → new ≡ between → status ≡ Done → P new
-reached_done P between new reached status (inl whole) told same is = subst P (sym same) whole.1
-reached_done P between new reached status (inr part) told same is = let e : Report ≡ Done = sym part ∙ (sym told ∙ is) in cc
 
 -- no other status is reached
 reached_other : {A Whole : Type 0} (reached status other : Status) → Ends Whole reached → status ≡ reached → Done ≢ other → Report ≢ other → status ≡ other → A

@@ -1,7 +1,7 @@
 -- What a run of `serve` comes to.
 use Rattle.std.proofs.Common.{◌≡◌, ◌≢◌, ◌∙◌, ℕ, Bool, true, false, List, [], ◌∷◌, All, Result, Ok, Err, inl, inr, refl, sym, ◌||◌}
 use Rattle.std.proofs.lemmas.List.Elements.{All-cons, All-nil}
-use Rattle.outside_io.specs.Openings.{Opening, Standing, disk_at}
+use Rattle.outside_io.specs.Openings.{Opening, disk_at}
 use Rattle.outside_io.specs.Places.{Untouched}
 use Rattle.command_reports.specs.declared.exit_status.Status.{Status}
 use Rattle.command_reports.specs.declared.exit_status.Status.TheVariants.{Done, Words, Network, Base, Trains, Journal, Opening as not_opened, DiskFault, ClientEnd, Report, Memory}
@@ -16,11 +16,11 @@ use Rattle.command_files.specs.Files.{BaseStep, HasBaseFault, HasNetworkFault, H
 use Rattle.command_files.specs.declared.bases.BaseFile.{BaseFile}
 use Rattle.command_files.specs.declared.files.FileKind.TheVariants as kind
 use Rattle.command_files.specs.declared.networks.NetworkFile.{NetworkFile}
-use Rattle.command_files.proofs.Refused.{file_other, memory_other, told_other}
+use Rattle.command_files.proofs.Refused.{file_other, told_other}
 use Rattle.rail_types.specs.declared.trains.Train.{Train}
 use Rattle.served_clients.specs.declared.plans.Session.{Session}
 use Rattle.request_server.specs.PlannedClients.{client_calls}
-use Rattle.served_clients.specs.Refusing.{AreMade, WhyStopped}
+use Rattle.served_clients.specs.Refusing.{AreMade}
 use Rattle.served_clients.specs.Ends.{EndsSay, has_faulty, has_wanting, IsEnds, is_faulty, is_wanting, report_text}
 use Rattle.served_clients.specs.declared.serve_reports.ends.Ends.{Ends}
 use Rattle.request_server.specs.ServeJournals.{Refuses, ServeStep}
@@ -33,7 +33,7 @@ use Rattle.request_server.specs.Clienteles.{Clientele}
 use Rattle.served_clients.specs.GivenNames.{GivenNames}
 use Rattle.served_clients.specs.RunGhosts.{RunGhosts}
 use Rattle.served_clients.specs.declared.served_journals.files.Files.{Files}
-use Rattle.served_clients.proofs.JournalStatuses.{IsNoJournals, open_other}
+use Rattle.served_clients.proofs.JournalStatuses.{IsNoJournals, open_other, stopped_other}
 
 -- ---- which statuses a refusal cannot have
 
@@ -56,10 +56,6 @@ words_other = record { opening = λ e. cc; network = λ e. cc; base = λ e. cc; 
 journals_other : (other : Status) → IsOther other → IsNoJournals other
 journals_other other is = record { journal = is.journal; disk = is.disk; memory = is.memory }
 
-stopped_other : (calls : List Opening) (made : List Opening → Type 0) (standing : Opening → Standing) (faults faults' : ℕ) (refusal : Refusal) (other : Status) → IsOther other → WhyStopped calls made standing faults faults' refusal → status_of refusal ≢ other
-stopped_other calls made standing faults faults' refusal other is (inl cannot) = told_other not_opened other _ refusal cannot.told is.opening is.memory
-stopped_other calls made standing faults faults' refusal other is (inr memory) = memory_other other refusal memory is.memory
-
 module _ {Src Snk Dsk L : Type 0} (ghosts : RunGhosts Src Snk Dsk L) (names : GivenNames) (clientele : Clientele L) where
   -- the opening calls behind that of the journal
   abbrev calls : List Opening
@@ -69,7 +65,7 @@ module _ {Src Snk Dsk L : Type 0} (ghosts : RunGhosts Src Snk Dsk L) (names : Gi
   refuses_other files old new refusal other is refuses = elim refuses.why [
     | inl unopened ↦ told_other not_opened other _ refusal unopened.told is.opening is.memory
     | inr (inl refused) ↦ open_other names.journal refused.fault refusal other (journals_other other is) refused.told
-    | inr (inr halted) ↦ stopped_other calls (λ made. AreMade old new (disk_at names.journal ∷ made)) old.standing old.faults new.faults refusal other is halted.why
+    | inr (inr halted) ↦ stopped_other calls (λ made. AreMade old new (disk_at names.journal ∷ made)) old.standing old.faults new.faults refusal other halted.why is.opening is.memory
   ]
 
   trains_other : (network : NetworkFile) (base : BaseFile) (old new : Scene Src Snk Dsk) (refusal : Refusal) (other : Status) → IsOther other → ReadsTrains ghosts names clientele network base old new (Err refusal) → status_of refusal ≢ other

@@ -13,10 +13,11 @@ use Rattle.served_clients.specs.declared.client_streams.streams.ClientStreams.{C
 use Rattle.served_clients.specs.Refusing.{IsOpen}
 use Rattle.command_reports.proofs.Steps.{opens_both as calls_both}
 use Rattle.served_clients.proofs.Uses.{exchanged_at}
-use Rattle.served_clients.proofs.StreamRounds.{not_ready, open_told, stands_round}
+use Rattle.served_clients.proofs.StreamRounds.{not_ready, stands_round}
 use Rattle.command_line.specs.declared.client_words.clients.ClientWord.{ClientWord}
 use Rattle.command_reports.specs.Works.{Keeps, KeepsTo, Misses}
 use Rattle.command_reports.specs.declared.refusals.Refusal.{Refusal}
+use Rattle.command_reports.proofs.Standings.{open_told}
 use Rattle.served_clients.specs.ServedJournals.{IsNoJournal}
 use Rattle.served_clients.specs.Rounds.{DiskRefuses, IsJournalRefused}
 use Rattle.served_clients.specs.declared.served_journals.files.Files.{Files}

@@ -1,13 +1,15 @@
--- Which statuses a journal's refusal cannot have.
-use Rattle.std.proofs.Common.{◌≢◌, ℕ, List, Option, None, Some}
+-- Which statuses the refusal of a journal, or of clients behind it, cannot have.
+use Rattle.std.proofs.Common.{◌≢◌, ℕ, List, Option, None, Some, inl, inr}
+use Rattle.outside_io.specs.Openings.{Opening, Standing}
 use Rattle.command_files.proofs.Refused.{memory_other, told_other}
 use Rattle.command_reports.specs.Refusals.{status_of}
 use Rattle.command_reports.specs.declared.refusals.Refusal.{Refusal}
 use Rattle.command_reports.specs.declared.exit_status.Status.{Status}
-use Rattle.command_reports.specs.declared.exit_status.Status.TheVariants.{DiskFault, Journal, Memory}
+use Rattle.command_reports.specs.declared.exit_status.Status.TheVariants.{DiskFault, Journal, Memory, Opening as not_opened}
 use Rattle.path_recover.specs.declared.journal_reading.faults.OpenFault.{OpenFault}
 use Rattle.path_recover.specs.declared.journal_reading.faults.OpenFault.TheVariants.{ReadFault, Empty, OldVersion, NotAJournal, OtherNetwork, OtherBase, Damaged, Illegal, Memory as of_open}
 use Rattle.path_recover.specs.Texts.{fault_text}
+use Rattle.served_clients.specs.Refusing.{WhyStopped}
 use Rattle.served_clients.specs.ServedJournals.{TellsOpen, TellsText}
 
 -- a status that no refusal of a journal has
@@ -30,3 +32,8 @@ open_other name (OtherBase had found) refusal other is told = text_other (fault_
 open_other name (Damaged at) refusal other is told = text_other (fault_text (Damaged at)) refusal other is told
 open_other name (Illegal entry) refusal other is told = text_other (fault_text (Illegal entry)) refusal other is told
 open_other name of_open refusal other is told = text_other (fault_text of_open) refusal other is told
+
+-- clients that were not served
+pub stopped_other : (calls : List Opening) (made : List Opening → Type 0) (standing : Opening → Standing) (faults faults' : ℕ) (refusal : Refusal) (other : Status) → WhyStopped calls made standing faults faults' refusal → not_opened ≢ other → Memory ≢ other → status_of refusal ≢ other
+stopped_other calls made standing faults faults' refusal other (inl cannot) opening memory = told_other not_opened other _ refusal cannot.told opening memory
+stopped_other calls made standing faults faults' refusal other (inr wants) opening memory = memory_other other refusal wants memory

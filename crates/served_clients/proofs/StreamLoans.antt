@@ -8,7 +8,8 @@ use Rattle.command_reports.proofs.Steps.{silent}
 use Rattle.served_clients.specs.Lending.{AreIn, AreOut, call_of, IsAsBefore, IsIn, IsOut, IsUnchanged, Loan, sink_of, source_of}
 use Rattle.served_clients.specs.Refusing.{IsOpen}
 use Rattle.command_reports.proofs.Steps.{opens_both as calls_both}
-use Rattle.served_clients.proofs.StreamRounds.{open_told, stands_round}
+use Rattle.command_reports.proofs.Standings.{open_told}
+use Rattle.served_clients.proofs.StreamRounds.{stands_round}
 
 -- some are out, and then others
 pub out_both : {Src Snk Dsk : Type 0} (first next : List (Loan Src Snk)) (s0 s1 s2 : Scene Src Snk Dsk) → AreOut first s0 s1 → AreOut next s1 s2 → AreOut (first ++ next) s0 s2

@@ -1,8 +1,9 @@
 use Rattle.std.proofs.Common.{◌∙◌}
+use Rattle.print_commands.proofs.Printed.{read_then_still}
 use Rattle.command_reports.specs.Scenes.{scene}
 use Rattle.check_command.specs.Runs.{check_names, RunsCheck}
 use Rattle.check_command.proofs.Ending.{ends_leave, run_done, run_no, run_words}
-use Rattle.check_command.proofs.Stepping.{check_keeps, check_read, read_then_still}
+use Rattle.check_command.proofs.Stepping.{check_keeps, check_read}
 use Rattle.check_command.proofs.runs.run_check.Goals as goal
 
 pub returns : goal.returns
