@@ -7,6 +7,7 @@ use Rattle.rail_types.specs.declared.tracks.Network.{Network}
 use Rattle.rail_types.specs.declared.trains.Request.{Request}
 use Rattle.rail_types.specs.FirstClash.{HoldAlike}
 use Rattle.rail_types.specs.Occupation.{HeldClaim}
+use Rattle.rail_types.proofs.HeldAlike.{claims_in, fits_alike, other_way}
 use Rattle.path_labels.specs.pieces.declared.places.Place.{Place}
 use Rattle.path_labels.specs.pieces.declared.places.Step.{Step}
 use Rattle.path_labels.specs.pieces.Pieces.{kept, later_by, pieces_of}
@@ -15,7 +16,6 @@ use Rattle.path_labels.specs.tails.declared.certificates.Closed.{Closed}
 use Rattle.path_labels.specs.tails.declared.certificates.Member.{Member}
 use Rattle.path_labels.specs.tails.Closing.{GoesOn, IsAdmitted, IsClosed, IsFreeMove}
 use Rattle.path_labels.specs.tails.Listed.{Listed}
-use Rattle.ask_turns.proofs.Copies.{claims_in, fits_alike, other_way}
 
 module _ (net : Network) (settings : Settings) (request : Request) (one other : List HeldClaim)
     (alike : HoldAlike one other) where

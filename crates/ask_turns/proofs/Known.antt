@@ -1,9 +1,10 @@
 -- What a client knows of a history.
 use Rattle.std.proofs.Common.{◌≡◌, true, false, List, Option, Some, None, IsNone, Result, Ok, Err}
-use Rattle.std.proofs.Common.{OnOk, length, take, flat_map, ap, sym, ◌∙◌, subst, refl, append_assoc}
-use Rattle.std.specs.Prelude.{is_err, ◌++◌}
+use Rattle.std.proofs.Common.{OnOk, length, take, flat_map, ap, sym, ◌∙◌, subst, refl}
+use Rattle.std.specs.Prelude.{is_err}
 use Rattle.std.proofs.lemmas.List.{take_at}
 use Rattle.book_gate.specs.Views.{StartsWith}
+use Rattle.book_gate.proofs.Keeps.{starts_trans}
 use Rattle.path_commit.specs.history.Following.{AreLive}
 use Rattle.path_commit.specs.claims.Held.{claims_by_zone, held}
 use Rattle.path_commit.specs.claims.Zones.{Zone}
@@ -12,9 +13,6 @@ use Rattle.rail_types.specs.declared.entries.Entry.{Entry}
 use Rattle.rail_types.specs.Timetables.{Timetable}
 use Rattle.ask_turns.specs.Clients.{Knows}
 use Rattle.ask_turns.specs.declared.client_turns.clients.Client.{Client}
-
-pub starts_trans : {X : Type 0} (a b c : List X) → StartsWith a b → StartsWith b c → StartsWith a c
-starts_trans a b c p q = (q.0 ++ p.0, p.1 ∙ ap (λ l. l ++ p.0) q.1 ∙ append_assoc c q.0 p.0)
 
 -- the copy is that of the first entries up to the client's front
 pub known_live : (timetable : Timetable) (client : Client) (entries : List Entry)

@@ -197,7 +197,7 @@ turns_of-renamed_new old new n a z (e ∷ log) apart c = let rest = turns_of-ren
     (λ not. turns_of-other new k e.1 more (λ (h : k ≡ new). not (sym same ∙ h))
     ∙ (rest ∙ ap (λ (p : List Turn × List Turn). merged p.0 p.1) (λ i. (sym (turns_of-other new e.0 e.1 log not) i, sym (turns_of-other old e.0 e.1 log miss) i)))))
 
-own-append : (ts us : List Turn) → own (ts ++ us) ≡ own ts ++ own us
+pub own-append : (ts us : List Turn) → own (ts ++ us) ≡ own ts ++ own us
 own-append [] us = refl
 own-append (t ∷ ts) us = let new : List ℕ = positions t.found.entries (t.left.entries - t.found.entries) in ap (λ (l : List ℕ). new ++ l) (own-append ts us) ∙ sym (append_assoc new (own ts) (own us))
 

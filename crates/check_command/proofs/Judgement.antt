@@ -8,6 +8,7 @@ use Rattle.rail_types.specs.declared.entries.Entry.{Entry}
 use Rattle.rail_types.specs.declared.entries.Settings.{Settings}
 use Rattle.rail_types.specs.declared.tracks.Network.{Network}
 use Rattle.rail_types.specs.Timetables.{Timetable}
+use Rattle.rail_types.proofs.HeldAlike.{other_way}
 use Rattle.refusal_proof.specs.Proofs.{IsProof, claims_held}
 use Rattle.proof_texts.specs.declared.refusals.Proof.{Proof}
 use Rattle.proof_texts.specs.Read.{BeginsWith as Reads, ProofsAreReadOnce}
@@ -18,7 +19,7 @@ use Rattle.check_command.specs.Replays.{IsJudged, IsUp, entries_of}
 use Rattle.check_command.specs.declared.judging.Judged.{Judged}
 use Rattle.check_command.specs.declared.judging.Judged.TheVariants.{Good, Wide, Fails}
 use Rattle.check_command.specs.declared.replays.Replay.{Replay}
-use Rattle.check_command.proofs.Alike.{other_way, proof_alike}
+use Rattle.check_command.proofs.Alike.{proof_alike}
 use Rattle.check_command.proofs.Replaying.{front_is}
 
 -- what a proof comes to at the first entries, so many as its front

@@ -1,11 +1,12 @@
 -- Entries whose right fields have the same bytes go on with a field of the same width, so a body has one wrong place.
-use Rattle.std.proofs.Common.{◌≡◌, ℕ, ◌-◌, ◌^◌, ◌<◌, ◌⊎◌, inl, inr, Bool, true, All, List, [], ◌∷◌, ◌++◌, length, take, drop, refl, sym, ap, subst, ◌∙◌, append_assoc, arith, length-append}
+use Rattle.std.proofs.Common.{◌≡◌, ℕ, ◌-◌, ◌^◌, ◌<◌, ◌⊎◌, inl, inr, Bool, true, All, List, [], ◌∷◌, ◌++◌, length, take, refl, sym, ap, subst, ◌∙◌, append_assoc, arith, length-append}
 use Rattle.std.specs.List.{flat_map, list_all}
 use Rattle.std.specs.Int.{w32, to_be_bytes, from_be_bytes}
-use Rattle.std.proofs.lemmas.List.{append-nil, take_at, drop_at}
+use Rattle.std.proofs.lemmas.List.{append-nil, take_at}
 use Rattle.std.proofs.lemmas.List.Concat.{flat_map-cons}
 use Rattle.std.proofs.lemmas.List.Elements.{recursion_from_All}
 use Rattle.std.proofs.lemmas.Nat.{from_be_bytes-to_be_bytes_4}
+use Rattle.byte_fields.proofs.Fronts.{same_fronts}
 use Rattle.rail_types.specs.declared.limits.TheConstants.{MAX_OWNER_BYTES, MAX_STOPS, MAX_PINNED_RUNS, MAX_HOLD_CLAIMS}
 use Rattle.rail_types.specs.Limits.{is_between, is_name_byte}
 use Rattle.rail_types.specs.declared.paths.Claim.{Claim}
@@ -184,12 +185,6 @@ stuck_at before [] rest at h = tt
 stuck_at before (field ∷ behind) rest at (inl short) = inl short.0
 stuck_at before (field ∷ behind) rest at (inr wrong) = inr wrong.2
 
-same_front : (a b x y : List ℕ) → length a ≡ length b → a ++ x ≡ b ++ y → (a ≡ b) × (x ≡ y)
-same_front a b x y len e = (
-  sym (take_at a x (length a) refl) ∙ ap (take (length a)) e ∙ take_at b y (length a) (sym len),
-  sym (drop_at a x (length a) refl) ∙ ap (drop (length a)) e ∙ drop_at b y (length a) (sym len),
-)
-
 same_field : (x y : Field) → x.bytes ≡ y.bytes → x.right ≡ true → y.right ≡ true → x ≡ y
 same_field x y e r s =
     let first : x ≡ record { bytes = y.bytes; right = x.right } = ap (λ (t : List ℕ). record { bytes = t; right = x.right }) e in
@@ -217,7 +212,7 @@ agree p [] t1 (y ∷ b2) t2 r1 r2 e1 e2 f1 f2 h1 h2 alike q1 q2 e s1 s2 =
 agree p (x ∷ b1) t1 [] t2 r1 r2 e1 e2 f1 f2 h1 h2 alike q1 q2 e s1 s2 =
     absurd (goes_past p t2 r2 e1 x (b1 ++ t1) (bytes_of b1 ++ r1) f1 h1 q1.0 (alike_back (x ∷ (b1 ++ t1)) t2 alike) (sym e ∙ begun x b1 r1) (subst (λ (t : List Field). Stuck t t2 r2) (append-nil p) s2))
 agree p (x ∷ b1) t1 (y ∷ b2) t2 r1 r2 e1 e2 f1 f2 h1 h2 alike q1 q2 e s1 s2 =
-    let cut = same_front x.bytes y.bytes (bytes_of b1 ++ r1) (bytes_of b2 ++ r2) alike.0 (sym (begun x b1 r1) ∙ e ∙ begun y b2 r2) in
+    let cut = same_fronts x.bytes y.bytes (bytes_of b1 ++ r1) (bytes_of b2 ++ r2) alike.0 (sym (begun x b1 r1) ∙ e ∙ begun y b2 r2) in
     let same = same_field x y cut.0 q1.0 q2.0 in
     let found = agree (p ++ x ∷ []) b1 t1 b2 t2 r1 r2 e1 e2 f1 f2 (h1 ∙ sym (append_assoc p (x ∷ []) (b1 ++ t1)))
     (h2 ∙ ap (λ (f : Field). p ++ f ∷ (b2 ++ t2)) (sym same) ∙ sym (append_assoc p (x ∷ []) (b2 ++ t2)))

@@ -1,10 +1,9 @@
 -- Windows that hold what is so below a tick.
 use Rattle.std.proofs.Common.{◌≡◌, ◌⊎◌, ℕ, ◌<◌, List, [], ◌∷◌, ◌++◌, length, get_or, subst, ◌∙◌, inl, inr, refl, arith, All, AllPairs}
-use Rattle.std.specs.Prelude.{ℤ, pos, negsuc, ◌+ℤ◌, ◌<ℤ◌, ◌≤ℤ◌, Any}
+use Rattle.std.specs.Prelude.{ℤ, pos, ◌+ℤ◌, ◌<ℤ◌, ◌≤ℤ◌, Any}
 use Rattle.std.proofs.lemmas.List.Quantifiers.{all_pairs_push, Any-push}
 use Rattle.std.proofs.lemmas.List.Elements.{All-push, All-nil}
 use Rattle.std.proofs.lemmas.Int.{ints, by_lt_z}
-use Rattle.std.specs.Int.{int_gap}
 use Rattle.rail_types.specs.declared.paths.Window.{Window}
 use Rattle.rail_types.proofs.Elements.{any_left, any_push_cases}
 use Rattle.free_windows.specs.Free.{Holds}
@@ -76,13 +75,3 @@ module _ (IsSo : ℤ → Type 0) (within : Window) where
     ticks = front.ticks;
     apart = front.apart;
   }
-
--- what is left of ticks gets less
-pub gap_smaller : (a b end : ℤ) → a <ℤ b → a <ℤ end → int_gap b end < int_gap a end
-gap_smaller (pos a) (pos b) (pos end) less within = omega (arith, ints)
-gap_smaller (pos a) (pos b) (negsuc end) less within = omega (arith, ints)
-gap_smaller (pos a) (negsuc b) end less within = absurd (omega (arith, ints))
-gap_smaller (negsuc a) (pos b) (pos end) less within = omega (arith, ints)
-gap_smaller (negsuc a) (pos b) (negsuc end) less within = omega (arith, ints)
-gap_smaller (negsuc a) (negsuc b) (pos end) less within = omega (arith, ints)
-gap_smaller (negsuc a) (negsuc b) (negsuc end) less within = omega (arith, ints)

@@ -12,6 +12,7 @@ use Rattle.rail_types.specs.declared.entries.Deed.TheVariants.{Hold, Grant, Free
 use Rattle.rail_types.specs.declared.entries.Owner.TheVariants.{Base as of_train, Entry as of_entry}
 use Rattle.rail_types.specs.Occupation.{HeldClaim}
 use Rattle.rail_types.specs.Timetables.{IsTimetable, Timetable}
+use Rattle.rail_types.proofs.ClaimTests.{clash_back}
 use Rattle.occupation_book.specs.Held.{IsFree}
 use Rattle.grant_log.specs.declared.verdicts.Verdict.TheVariants.{Fresh}
 use Rattle.grant_log.specs.Following.{AreLive, Follow, Gains, GoBack, Loses}
@@ -20,7 +21,7 @@ use Rattle.grant_log.specs.Legal.{IsLegal, Joins}
 use Rattle.grant_log.specs.Meanings.{MayJoin}
 use Rattle.grant_log.specs.Verdict.{verdict_on}
 use Rattle.grant_log.proofs.Freed.{freed_before, freed_never, freed_now, freed_past, freed_stays}
-use Rattle.grant_log.proofs.Legals.{clash_back, fits_apart, fresh_joins, has_fit, live_apart}
+use Rattle.grant_log.proofs.Legals.{fits_apart, fresh_joins, has_fit, live_apart}
 use Rattle.grant_log.proofs.Lives.{IsUnfreed, is_owned, live_cases, owned_is, planned_is_live, planned_owner, unfreed_is_live}
 use Rattle.grant_log.proofs.Sayings.{NoneFits, SomeIsFirst}
 use Rattle.grant_log.proofs.Slices.{slice_get_kept, slice_get_last, slice_get_push}

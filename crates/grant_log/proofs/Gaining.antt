@@ -27,9 +27,6 @@ gains_moved old more moved new order gains one = (
   (λ either. (gains one).1 (elim either [ inl was ↦ inl was | inr came ↦ inr (Contains-permutation more moved one order came) ])),
 )
 
-pub clash_back : (a b : Claim) → Clash a b → Clash b a
-clash_back a b clash = (sym clash.0, (clash.1.1, clash.1.0))
-
 -- one claim more
 pub gains_more : (old more mid new : List HeldClaim) (next : HeldClaim) → Gains old more mid → IsPermutation (next ∷ mid) new → Gains old (more ++ next ∷ []) new
 gains_more old more mid new next gains gained one = (

@@ -11,6 +11,7 @@ use Rattle.rail_types.specs.declared.entries.Deed.TheVariants.{Hold, Grant, Free
 use Rattle.rail_types.specs.declared.entries.Owner.TheVariants.{Base as of_train, Entry as of_entry}
 use Rattle.rail_types.specs.Occupation.{Clash, HeldClaim}
 use Rattle.rail_types.specs.Timetables.{IsTimetable, Timetable, base_claims}
+use Rattle.rail_types.proofs.ClaimTests.{clash_back}
 use Rattle.grant_log.specs.declared.verdicts.Verdict.TheVariants.{Fresh}
 use Rattle.grant_log.specs.Live.{claims_of, live_claims}
 use Rattle.grant_log.specs.Legal.{IsLegal, Joins, NoneClash}
@@ -20,10 +21,6 @@ use Rattle.grant_log.proofs.Freed.{freed_take}
 use Rattle.grant_log.proofs.Lives.{IsUnfreed, live_cases, planned_is_live, planned_owner, unfreed_is_live}
 use Rattle.grant_log.proofs.Sayings.{NoneFits, SomeIsFirst, says}
 use Rattle.grant_log.proofs.Slices.{is_contained, slice_get_last, slice_get_push, slice_get_take, take_slice_get}
-
--- a clash is the same from either side
-pub clash_back : (a b : Claim) → Clash a b → Clash b a
-clash_back a b clash = (sym clash.0, (clash.1.1, clash.1.0))
 
 -- the beginning of a legal history is legal
 pub legal_take : (timetable : Timetable) (entries : List Entry) (front : ℕ) → IsLegal timetable entries → IsLegal timetable (take front entries)

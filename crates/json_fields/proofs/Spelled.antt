@@ -157,7 +157,7 @@ outside_steps byte step false true ep e is =
     subst (λ (one : Step). Steps Outside byte one) (step_is (ended byte) step is) (record { half = tt; text = rw e refl; fits = one_fits byte (omega arith) })
 outside_steps byte step false false ep e is = absurd cc
 
-map_some : {X Y : Type 0} (f : X → Y) (o : Option X) (y : Y) → option_map f o ≡ Some y → (x : X) × (o ≡ Some x) × (f x ≡ y)
+pub map_some : {X Y : Type 0} (f : X → Y) (o : Option X) (y : Y) → option_map f o ≡ Some y → (x : X) × (o ≡ Some x) × (f x ≡ y)
 map_some f None y is = absurd cc
 map_some f (Some x) y is = (x, refl, cc)
 

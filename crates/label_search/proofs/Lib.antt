@@ -1,7 +1,6 @@
 pub mod Exclusion
 pub mod Limiting
 pub mod Zones
-pub mod Gaps
 pub mod SeenTicks
 pub mod Covers
 pub mod Growth

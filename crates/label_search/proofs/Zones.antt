@@ -1,12 +1,12 @@
 -- What the spans of a zone, in order, say about the first that ends after a claim begins.
 use Rattle.std.proofs.Common.{◌≡◌, ℕ, ◌<◌, ◌≤◌, ◌<ℤ◌, ◌≤ℤ◌, ℤ, int_le, true, false, List, length, get_or, sym, subst, refl, inl, inr, arith}
-use borrow.Author.Differences.{le-true, le-false}
 use Rattle.std.specs.Prelude.{◌+ℤ◌, ◌-ℤ◌, pos}
 use Rattle.std.specs.Int.{int_min}
 use Rattle.std.specs.List.{AllWithin}
 use Rattle.std.specs.List.Sorted.{IsPartitionedBy}
-use Rattle.std.proofs.lemmas.Bool.{cases_order, cases_Bool}
+use Rattle.std.proofs.lemmas.Bool.{cases_order}
 use Rattle.std.proofs.lemmas.Int.{by_lt_z, ints, clamps}
+use Rattle.occupation_book.proofs.Clashes.{le_true_below}
 use Rattle.rail_types.specs.declared.paths.Claim.{Claim}
 use Rattle.rail_types.specs.declared.paths.Span.{Span}
 use Rattle.label_search.specs.Spans.{IsFreeOf}
@@ -14,19 +14,6 @@ use Rattle.rail_types.specs.declared.paths.Window.{Window}
 use Rattle.rail_types.specs.Occupation.{HasTicks}
 use Rattle.label_search.specs.Spans.{IsZone}
 use Rattle.free_windows.specs.Starts.{IsStretch}
-
--- a test of two ticks, as a fact
-pub ended : (a b : ℤ) → int_le a b ≡ true → a ≤ℤ b
-ended a b test = let fact = le-true a b test in omega (arith, ints)
-
-pub not_ended : (a b : ℤ) → int_le a b ≡ false → b <ℤ a
-not_ended a b test = let fact = le-false a b test in omega (arith, ints)
-
-pub le_true_below : (a b c : ℤ) → a ≤ℤ b → int_le b c ≡ true → int_le a c ≡ true
-le_true_below a b c le test = elim (cases_Bool (int_le a c)) [
-  | inl passes ↦ passes
-  | inr fails ↦ let above = not_ended a c fails in let below = ended b c test in absurd (omega (arith, ints))
-]
 
 -- spans in order are parted by whether they have ended at a tick
 pub ends_by_tick : (kept : List Span) (tick : ℤ) → IsZone kept → IsPartitionedBy (λ one. int_le one.to tick) kept

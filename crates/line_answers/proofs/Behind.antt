@@ -5,6 +5,7 @@ use mathlib.Core.Logic.{inl, ⊎_elim}
 use Rattle.admission_rules.specs.declared.rules.Rule.{Ghosts as Rules}
 use Rattle.book_gate.specs.declared.views.Turn.{Turn}
 use Rattle.book_gate.specs.Views.{StartsWith, own}
+use Rattle.book_gate.proofs.Keeps.{starts_trans}
 use Rattle.client_lines.specs.Cuts.{fields_of}
 use Rattle.client_lines.specs.Forms.{Spells}
 use Rattle.client_lines.specs.Lines.{a_line}
@@ -21,7 +22,7 @@ use Rattle.line_answers.specs.Calls.{AnswersBetween, AreSearches, EndInFault, En
 use Rattle.line_answers.specs.Points.{unsettled_by}
 use Rattle.line_answers.specs.Rules.{IsReadAs}
 use Rattle.line_answers.proofs.Calls.{its_turn, positions_none}
-use Rattle.line_answers.proofs.Many.{looked_turn, starts_trans, turn_longer}
+use Rattle.line_answers.proofs.Many.{looked_turn, turn_longer}
 use Rattle.line_answers.proofs.Told.{its_line}
 
 last_behind : (t : Turn) (turns : List Turn) (n : ℕ) → LastFound turns n

@@ -6,7 +6,8 @@ use Rattle.std.proofs.lemmas.List.{append-nil, length_push, take_at, take_all}
 use Rattle.std.proofs.lemmas.List.Elements.{All-nil, All-push}
 use mathlib.Core.Logic.{inl, inr, ⊎_elim}
 use Rattle.book_gate.specs.declared.views.Turn.{Turn}
-use Rattle.book_gate.specs.Views.{StartsWith, turn, positions}
+use Rattle.book_gate.specs.Views.{turn, positions}
+use Rattle.book_gate.proofs.Keeps.{starts_refl}
 use Rattle.ask_turns.specs.journal.declared.journals.Stage.TheVariants.{Record, Gate}
 use Rattle.ask_turns.specs.history.Verdict.{takes}
 use Rattle.ask_turns.specs.history.Legal.{Joins}
@@ -22,9 +23,6 @@ use Rattle.line_answers.specs.Calls.{AnswersBetween, AreSearches, EndInFault, Ha
 use Rattle.line_answers.specs.Calls.{IsSettled, IsToldIn, IsTurnOf, Settle, TakesEvent, TakesEvents}
 use Rattle.line_answers.specs.Calls.{pair}
 use Rattle.line_answers.specs.Points.{added, unsettled_by}
-
-pub starts_refl : {X : Type 0} (a : List X) → StartsWith a a
-starts_refl a = ([], sym (append-nil a))
 
 -- a reply but that three searches were missed
 abbrev pub IsNotAgain : Reply → Type 0

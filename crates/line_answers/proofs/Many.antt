@@ -6,6 +6,7 @@ use mathlib.Core.Logic.{inl, inr}
 use Rattle.book_gate.specs.declared.views.Turn.{Turn}
 use Rattle.book_gate.specs.Views.{StartsWith, positions, own}
 use Rattle.book_gate.proofs.Turns.{own_push}
+use Rattle.book_gate.proofs.Keeps.{starts_refl, starts_trans}
 use Rattle.client_lines.specs.Cuts.{fields_of}
 use Rattle.client_lines.specs.Forms.{Spells}
 use Rattle.client_lines.specs.Lines.{a_line}
@@ -21,10 +22,7 @@ use Rattle.ask_turns.specs.Tries.{HaveMissed}
 use Rattle.line_answers.specs.Answers.{Caller, GivesLine}
 use Rattle.line_answers.specs.Calls.{AnswersBetween, AreLooks, AreSearches, EndInFault, HasTurns, IsLook, IsOf, IsSettled, IsToldIn, IsTurnOf, LastFound, Settle, TakesEvents, TakesOneTurn, pair}
 use Rattle.line_answers.specs.Points.{added, unsettled_by}
-use Rattle.line_answers.proofs.Calls.{IsNotAgain, enters_event, fails_event, is_turn, its_turn, looks_event, not_searched, pends_event, positions_none, positions_one, starts_refl}
-
-pub starts_trans : {X : Type 0} (a b c : List X) → StartsWith a b → StartsWith b c → StartsWith a c
-starts_trans a b c p q = (q.0 ++ p.0, p.1 ∙ ap (λ l. l ++ p.0) q.1 ∙ append_assoc c q.0 p.0)
+use Rattle.line_answers.proofs.Calls.{IsNotAgain, enters_event, fails_event, is_turn, its_turn, looks_event, not_searched, pends_event, positions_none, positions_one}
 
 -- searches that missed go on from what had been seen
 pub missed_on : (timetable : Timetable) (owner : List ℕ) (ask : Ask) (u : Sight) (count at front : ℕ) (w : Sight)

@@ -4,6 +4,7 @@ use Rattle.std.proofs.Common.{length, Option, Some, None, ap, sym, ◌∙◌, su
 use Rattle.std.proofs.Common.{append_assoc, length-append}
 use Rattle.book_gate.specs.declared.views.Turn.{Turn}
 use Rattle.book_gate.specs.Views.{StartsWith, turn}
+use Rattle.book_gate.proofs.Keeps.{starts_refl, starts_trans}
 use Rattle.client_lines.specs.Cuts.{fields_of}
 use Rattle.client_lines.specs.Forms.{Spells}
 use Rattle.client_lines.specs.Lines.{a_line}
@@ -44,8 +45,7 @@ use Rattle.line_answers.specs.Proved.{IsProvedBetween, ProvedOr, ShowsLine, kept
 use Rattle.line_answers.specs.Rules.{IsReadAs, denial}
 use Rattle.line_answers.specs.Tells.{TellsAgain, fault_reply, halt_reply}
 use Rattle.ask_turns.specs.declared.shared.Shared.{Shared}
-use Rattle.line_answers.proofs.Calls.{starts_refl}
-use Rattle.line_answers.proofs.Many.{missed_on, starts_trans}
+use Rattle.line_answers.proofs.Many.{missed_on}
 use Rattle.line_answers.proofs.Told.{its_line, no_name}
 
 -- a beginning is no longer

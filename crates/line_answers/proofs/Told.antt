@@ -5,6 +5,7 @@ use Rattle.std.proofs.Common.{sym, ◌∙◌, subst, refl}
 use Rattle.std.proofs.lemmas.List.{take_at}
 use Rattle.admission_rules.specs.declared.rules.Wish.{Wish}
 use Rattle.book_gate.specs.Views.{StartsWith}
+use Rattle.book_gate.proofs.Keeps.{starts_trans}
 use Rattle.client_lines.specs.Cuts.{fields_of}
 use Rattle.client_lines.specs.Forms.{IsFirstWrong, Spells}
 use Rattle.client_lines.specs.Lines.{a_line}
@@ -35,7 +36,6 @@ use Rattle.line_answers.specs.Points.{added}
 use Rattle.line_answers.specs.Rules.{IsNoFree, IsReadAs, is_some_added, told_by, told_free}
 use Rattle.line_answers.specs.Rules.{told_grant, wished}
 use Rattle.line_answers.specs.Tells.{AddsNothing, fault_reply, halt_reply}
-use Rattle.line_answers.proofs.Many.{starts_trans}
 
 -- ---- no rules
 

@@ -17,7 +17,7 @@ ended a b test = let fact = le-true a b test in omega (arith, ints)
 pub not_ended : (a b : ℤ) → int_le a b ≡ false → b <ℤ a
 not_ended a b test = let fact = le-false a b test in omega (arith, ints)
 
-le_true_below : (a b c : ℤ) → a ≤ℤ b → int_le b c ≡ true → int_le a c ≡ true
+pub le_true_below : (a b c : ℤ) → a ≤ℤ b → int_le b c ≡ true → int_le a c ≡ true
 le_true_below a b c le test = elim (cases_Bool (int_le a c)) [
   | inl passes ↦ passes
   | inr fails ↦ let above = not_ended a c fails in let below = ended b c test in absurd (omega (arith, ints))

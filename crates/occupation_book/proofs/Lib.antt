@@ -1,5 +1,5 @@
-mod Clashes
+pub mod Clashes
 mod Orders
-mod AllZones
+pub mod AllZones
 mod Removals
 mod TakenOut

@@ -5,15 +5,13 @@ use Rattle.std.proofs.lemmas.List.Elements.{All-nil, All-map}
 use Rattle.rail_types.specs.declared.paths.Claim.{Claim}
 use Rattle.rail_types.specs.Occupation.{Clash, Fits, HasTicks, HeldClaim}
 use Rattle.rail_types.proofs.Elements.{all_of_map}
+use Rattle.rail_types.proofs.ClaimTests.{clash_back}
 use Rattle.occupation_book.specs.Held.{held}
 use Rattle.free_windows.specs.Free.{Fits as FitsAmong, moved}
 use Rattle.stair_pieces.specs.Pieces.{later_by, kept}
 use Rattle.label_search.specs.Free.{Book}
 use Rattle.path_labels.specs.Answers.{claims_held}
 use Rattle.path_labels.specs.Joining.{HoldsTicks}
-
-clash_back : (a b : Claim) → Clash a b → Clash b a
-clash_back a b clash = (sym clash.0, (clash.1.1, clash.1.0))
 
 abbrev later : ℤ → Claim → Claim
 later ticks claim = record { zone = claim.zone; span = record { from = claim.span.from +ℤ ticks; to = claim.span.to +ℤ ticks } }

@@ -2,7 +2,7 @@
 use Rattle.std.proofs.Common.{◌≡◌, ◌∙◌, inl, inr, sym, ap, subst, ℕ, zero, suc, ◌+◌, ◌-◌, ◌<◌, ℤ, ◌≤ℤ◌, List, [], ◌∷◌, length, get_or, All, Some, arith}
 use Rattle.std.proofs.lemmas.Bool.{cases_lt}
 use Rattle.std.proofs.Math.ListN.{get_or-eq_default}
-use Rattle.std.proofs.lemmas.List.Elements.{All-nil, All-append, All-map}
+use Rattle.std.proofs.lemmas.List.Elements.{All-map}
 use Rattle.std.proofs.lemmas.Option.{slice_get_within, slice_get-get_or}
 use Rattle.rail_types.specs.declared.tracks.Network.{Network}
 use Rattle.rail_types.specs.declared.trains.Request.{Request}
@@ -11,7 +11,8 @@ use Rattle.rail_types.specs.declared.paths.Claim.{Claim}
 use Rattle.rail_types.specs.declared.paths.Path.{Path}
 use Rattle.rail_types.specs.Occupation.{HasTicks, HeldClaim}
 use Rattle.occupation_book.specs.Zones.{Zone}
-use Rattle.occupation_book.specs.Held.{IsBook, held, zone_at}
+use Rattle.occupation_book.specs.Held.{IsBook, held}
+use Rattle.occupation_book.proofs.AllZones.{all_held}
 use Rattle.blocking_time.specs.Possible.{IsPossible}
 use Rattle.stair_pieces.specs.declared.places.Place.{Place}
 use Rattle.stair_pieces.specs.Places.{start_place}
@@ -38,12 +39,8 @@ use Rattle.path_labels.proofs.Closing.{planned_before}
 use Rattle.path_labels.proofs.Standing.{IsAt, at_listed, at_start, count_is, leads_on}
 
 -- the claims of a book have ticks
-held_all : (P : HeldClaim → Type 0) (book : List Zone) → ((number : ℕ) → number < length book → All P (zone_at book number).claims) → All P (held book)
-held_all P [] all = All-nil P
-held_all P (zone ∷ book) all = All-append P zone.claims (held book) (all 0 (omega arith)) (held_all P book (λ number less. all (suc number) (omega (arith, less))))
-
 pub holds_ticks : (book : List Zone) → IsBook book → HoldsTicks book
-holds_ticks book is = All-map (λ (claim : Claim). HasTicks claim.span) (λ (one : HeldClaim). one.0) (held book) (held_all (λ one. HasTicks one.0.span) book (λ number less. (is.in_order number less).ticks))
+holds_ticks book is = All-map (λ (claim : Claim). HasTicks claim.span) (λ (one : HeldClaim). one.0) (held book) (all_held (λ one. HasTicks one.0.span) book (λ number less. (is.in_order number less).ticks))
 
 -- a planned path goes on by moves of the plan
 rest_steps : (plan : Plan) (trip : Trip) (steps : List PlannedStep) (target : Target) (leave : ℤ) → IsRest plan trip target leave steps → AreSteps plan target steps

@@ -1,5 +1,5 @@
 -- What is opened of an image of a book's disk is a prefix of its history.
-use Rattle.std.proofs.Common.{◌≡◌, Bool, true, false, ℕ, suc, ◌+◌, ◌-◌, ◌<◌, ◌≤◌, ◌^◌, List, [], ◌∷◌, length, take, get_or, Option, None, Some, Result, Ok, Err, refl, sym, ap, ◌∙◌, subst, arith, rules}
+use Rattle.std.proofs.Common.{◌≡◌, Bool, true, false, ℕ, ◌+◌, ◌-◌, ◌<◌, ◌≤◌, ◌^◌, List, length, take, get_or, Option, None, Some, Result, Ok, Err, refl, sym, ap, ◌∙◌, subst, arith, rules}
 use Rattle.std.specs.Prelude.{All, IfOk, IfSome, slice_get, nat_lt, if◌then◌else◌}
 use Rattle.std.proofs.lemmas.Bool.Decides.{nat_tests}
 use Rattle.std.proofs.lemmas.List.{length-take-le, take-map}
@@ -24,6 +24,7 @@ use Rattle.path_commit.specs.Runs.{AreAnswered}
 use Rattle.path_commit.specs.declared.answers.Committed.{Committed}
 use Rattle.path_commit.specs.declared.answers.Committed.TheVariants.{Done}
 use Rattle.path_commit.specs.declared.turns.Sent.{Sent}
+use Rattle.path_commit.proofs.Joining.{bodies_count}
 use Rattle.path_recover.specs.Crashes.{IsOfFiles, IsPrefix, IsReopened, KeepsDone, WasLeft}
 
 abbrev pub IsShort : List ℕ → Type 0
@@ -61,10 +62,6 @@ pub if-more : {X : Type 0} (P Q : X → Type 0) (o : Option X) → ((x : X) → 
 if-more P Q None more holds = tt
 if-more P Q (Some x) more holds = more x holds
 
-bodies-count : (entries : List Entry) → length (bodies_of entries) ≡ length entries
-bodies-count [] = refl
-bodies-count (entry ∷ entries) = ap suc (bodies-count entries)
-
 module _ (once : (timetable : Timetable) (version : ℕ) (network base file : List ℕ) (a b : List Entry) → TellsHistory timetable version network base file a → TellsHistory timetable version network base file b → a ≡ b)
     {D : Type 0} (disk : Ghosts D) (book : Ledger D) (kept : IsKept disk book)
     (timetable : Timetable) (network base : List ℕ) (files : IsOfFiles timetable network base book) where
@@ -75,7 +72,7 @@ module _ (once : (timetable : Timetable) (version : ℕ) (network base file : Li
 
   opens-prefix : (least : ℕ) (image : List ℕ) (contents : Option (List ℕ)) (opened : List Entry) → contents ≡ Some image → IfSome contents (λ file. TellsHistory timetable 2 network base file opened) → IsPrefixOf book least image → IsPrefix book.entries least opened
   opens-prefix least image contents opened told tells prefix =
-      is-prefix book.entries opened prefix.count least (omega (arith, prefix.within, bodies-count book.entries)) prefix.enough
+      is-prefix book.entries opened prefix.count least (omega (arith, prefix.within, bodies_count book.entries)) prefix.enough
       (once timetable 2 network base image opened (take prefix.count book.entries) (if-told (λ file. TellsHistory timetable 2 network base file opened) contents image told tells) (tells-it least image prefix))
 
   pub reopens : (contents : Option (List ℕ)) (opened : List Entry) → IfSome contents (λ file. TellsHistory timetable 2 network base file opened) → IsReopened disk book contents opened

@@ -5,6 +5,7 @@ use Rattle.std.specs.Int.{w32, to_be_bytes}
 use Rattle.std.proofs.lemmas.Grind.{flat_map-append}
 use Rattle.std.proofs.lemmas.List.{append-nil}
 use Rattle.std.proofs.lemmas.List.Elements.{All-append}
+use Rattle.path_commit.proofs.Joining.{bodies_more}
 use Rattle.rail_types.specs.declared.entries.Entry.{Entry}
 use Rattle.rail_types.specs.Timetables.{Timetable}
 use Rattle.rail_types.proofs.Elements.{all_one}
@@ -32,13 +33,9 @@ pub record Walked (timetable : Timetable) (version : ℕ) (left : List ℕ) (his
 one_body : (entry : Entry) → opened (bodies_of (entry ∷ [])) ≡ 1 ∷ counted (body_of entry)
 one_body entry = append-nil (1 ∷ counted (body_of entry))
 
-bodies-more : (entries : List Entry) (entry : Entry) → bodies_of (entries ++ entry ∷ []) ≡ bodies_of entries ++ body_of entry ∷ []
-bodies-more [] entry = refl
-bodies-more (one ∷ entries) entry = ap (λ bodies. body_of one ∷ bodies) (bodies-more entries entry)
-
 opened-more : (entries : List Entry) (entry : Entry) → opened (bodies_of (entries ++ entry ∷ [])) ≡ opened (bodies_of entries) ++ 1 ∷ counted (body_of entry)
 opened-more entries entry =
-    ap opened (bodies-more entries entry)
+    ap opened (bodies_more entries entry)
     ∙ flat_map-append (λ (body : List ℕ). 1 ∷ counted body) (bodies_of entries) (body_of entry ∷ [])
     ∙ ap (λ (l : List ℕ). opened (bodies_of entries) ++ l) (one_body entry)
 
@@ -59,7 +56,7 @@ module _ (timetable : Timetable) (version : ℕ) (left : List ℕ) (history : Re
   walked-more entry next after behind whole spelled at same entries live zones = record {
     same = same ∙ walked.same;
     split = split-more left place.left behind.left history.entries entry walked.split whole ∙ ap (λ all. opened (bodies_of all) ++ behind.left) (sym entries);
-    short = subst (λ all. All (λ body. length body < 2 ^ 32) (bodies_of all)) (sym entries) (subst (All (λ body. length body < 2 ^ 32)) (sym (bodies-more history.entries entry)) (All-append (λ body. length body < 2 ^ 32) (bodies_of history.entries) (body_of entry ∷ []) walked.short (all_one (λ body. length body < 2 ^ 32) (body_of entry) whole.short)));
+    short = subst (λ all. All (λ body. length body < 2 ^ 32) (bodies_of all)) (sym entries) (subst (All (λ body. length body < 2 ^ 32)) (sym (bodies_more history.entries entry)) (All-append (λ body. length body < 2 ^ 32) (bodies_of history.entries) (body_of entry ∷ []) walked.short (all_one (λ body. length body < 2 ^ 32) (body_of entry) whole.short)));
     next = inr whole.next;
     spelled = subst (All (IsSpelledIn version)) (sym entries) (All-append (IsSpelledIn version) history.entries (entry ∷ []) walked.spelled (all_one (IsSpelledIn version) entry spelled));
     at = omega (arith, at, walked.at, ap (λ all. length (opened (bodies_of all))) entries, ap length (opened-more history.entries entry), length-append (opened (bodies_of history.entries)) (1 ∷ counted (body_of entry)), record_size (body_of entry));

@@ -2,7 +2,9 @@ pub mod Elements
 mod Ascents
 mod FlawKinds
 mod SoundNets
-mod ClaimTests
+pub mod ClaimTests
 mod Firsts
 mod Clashings
 pub mod Keys
+pub mod Ticks
+pub mod HeldAlike

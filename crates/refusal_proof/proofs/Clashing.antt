@@ -1,7 +1,7 @@
 -- Claims that are free at a tick, and claims that clash before it.
 use Rattle.std.proofs.Common.{◌≡◌, ◌∙◌, sym, refl, subst, ℕ, suc, zero, ◌<◌, List, [], ◌∷◌, length, get_or, arith, inr}
-use Rattle.std.specs.Prelude.{ℤ, pos, negsuc, ◌+ℤ◌, ◌-ℤ◌, ◌<ℤ◌, ◌≤ℤ◌, ◌↔◌, Any}
-use Rattle.std.specs.Int.{int_gap, int_max}
+use Rattle.std.specs.Prelude.{ℤ, ◌+ℤ◌, ◌-ℤ◌, ◌<ℤ◌, ◌≤ℤ◌, ◌↔◌, Any}
+use Rattle.std.specs.Int.{int_max}
 use Rattle.std.proofs.lemmas.Int.{ints, by_lt_z, clamps}
 use Rattle.rail_types.specs.declared.paths.Claim.{Claim}
 use Rattle.rail_types.specs.declared.paths.Window.{Window}
@@ -78,13 +78,3 @@ stays_to_end kept zone window at to zone_is begins ends free is enter late most 
       let right = clash.1.1 in
       free k d inside (clash.0 ∙ sym zone_is, (omega (arith, ints, left, most, ends), omega (arith, ints, right, begins))),
 )
-
--- what is left of ticks gets less
-pub gap_smaller : (a b end : ℤ) → a <ℤ b → a <ℤ end → int_gap b end < int_gap a end
-gap_smaller (pos a) (pos b) (pos end) less within = omega (arith, ints)
-gap_smaller (pos a) (pos b) (negsuc end) less within = omega (arith, ints)
-gap_smaller (pos a) (negsuc b) end less within = absurd (omega (arith, ints))
-gap_smaller (negsuc a) (pos b) (pos end) less within = omega (arith, ints)
-gap_smaller (negsuc a) (pos b) (negsuc end) less within = omega (arith, ints)
-gap_smaller (negsuc a) (negsuc b) (pos end) less within = omega (arith, ints)
-gap_smaller (negsuc a) (negsuc b) (negsuc end) less within = omega (arith, ints)

@@ -13,6 +13,7 @@ use Rattle.rail_types.specs.declared.paths.Claim.{Claim}
 use Rattle.rail_types.specs.declared.paths.Window.{Window}
 use Rattle.rail_types.specs.Occupation.{Clash, Fits, HeldClaim}
 use Rattle.rail_types.proofs.Elements.{all_of_map}
+use Rattle.rail_types.proofs.ClaimTests.{clash_back}
 use Rattle.occupation_book.specs.Zones.{Zone}
 use Rattle.occupation_book.specs.Held.{IsFree, held}
 use Rattle.stair_pieces.specs.declared.places.Place.{Place}
@@ -23,9 +24,6 @@ use Rattle.tail_states.specs.Closing.{GoesOn}
 use Rattle.refusal_proof.specs.declared.goings.Going.{Going}
 use Rattle.refusal_proof.specs.Proofs.{claims_held}
 use Rattle.refusal_proof.specs.Inside.{AreFreeAt, AreGoings, CanGoOn, Goes, IsClaimIn, IsFar, StaysUntil, later, stay}
-
-clash_back : (a b : Claim) → Clash a b → Clash b a
-clash_back a b clash = (sym clash.0, (clash.1.1, clash.1.0))
 
 module _ (book : List Zone) where
   abbrev IsClearOf : Claim → Type 0

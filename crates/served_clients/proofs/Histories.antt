@@ -1,7 +1,6 @@
 -- A longer history says of a session what a shorter one says.
 use Rattle.std.proofs.Common.{◌≡◌, ◌++◌, ◌+◌, ◌≤◌, ◌<◌, ℕ, [], ◌∷◌, All, List, length, Option, Some}
-use Rattle.std.proofs.Common.{None, ap, sym, ◌∙◌, append_assoc, arith, refl, subst}
-use Rattle.std.proofs.lemmas.List.{append-nil}
+use Rattle.std.proofs.Common.{None, sym, arith, refl, subst}
 use Rattle.std.proofs.lemmas.List.Elements.{All-append, All-nil}
 use Rattle.line_answers.specs.gate.Views.{StartsWith}
 use Rattle.admission_rules.specs.Ruled.{Ruled}
@@ -9,17 +8,12 @@ use Rattle.admission_rules.specs.Told.{told_at}
 use Rattle.line_answers.specs.Answers.{Caller}
 use Rattle.line_answers.specs.Points.{added, point}
 use Rattle.line_answers.specs.Rules.{told_by}
+use Rattle.line_answers.proofs.gate_lemmas.Keeps.{starts_trans}
 use Rattle.line_sessions.specs.Told.{Told}
 use Rattle.rail_types.specs.declared.entries.Entry.{Entry}
 use Rattle.served_clients.specs.Talks.{AreGiven, Callers, IsAnswer, IsTalk, next_least, printed}
 use Rattle.served_clients.proofs.Rows.{added_are}
 use Rattle.served_clients.proofs.Owned.{owned_within, told_at-append, told_at-longer}
-
-pub starts_trans : {X : Type 0} (a b c : List X) → StartsWith a b → StartsWith b c → StartsWith a c
-starts_trans a b c p q = (q.0 ++ p.0, p.1 ∙ ap (λ l. l ++ p.0) q.1 ∙ append_assoc c q.0 p.0)
-
-pub starts_refl : {X : Type 0} (a : List X) → StartsWith a a
-starts_refl a = ([], sym (append-nil a))
 
 pub answer_longer : (long short : List Entry) (caller : Caller) (least : ℕ) (one : Told) → StartsWith long short
     → IsAnswer short caller least one → IsAnswer long caller least one

@@ -11,7 +11,7 @@ use Rattle.std.proofs.lemmas.List.Elements.{Contains-append_left, Contains-appen
 use Rattle.std.proofs.lemmas.List.Sums.{sum_by-append, sum_by_push}
 use Rattle.line_answers.specs.gate.declared.views.Turn.{Turn}
 use Rattle.line_answers.specs.gate.Passes.{view}
-use Rattle.line_answers.specs.gate.Views.{StartsWith, positions, own, rises}
+use Rattle.line_answers.specs.gate.Views.{StartsWith, own, rises}
 use Rattle.admission_rules.specs.declared.rules.Rule.{Ghosts as Rules}
 use Rattle.admission_rules.specs.Ruled.{Ruled, stand}
 use Rattle.admission_rules.specs.Told.{told_at}
@@ -23,6 +23,8 @@ use Rattle.line_answers.specs.Points.{added, fault, point, unsettled_by}
 use Rattle.line_answers.specs.Proved.{IsProvedBetween}
 use Rattle.line_answers.specs.Rules.{told_by}
 use Rattle.line_answers.specs.turns.declared.shared.Shared.{Shared}
+use Rattle.line_answers.proofs.gate_lemmas.Keeps.{starts_refl, starts_trans}
+use Rattle.line_answers.proofs.gate_lemmas.Turns.{own-append}
 use Rattle.line_sessions.specs.Told.{AreAnswered, Told}
 use Rattle.rail_types.specs.declared.entries.Entry.{Entry}
 use Rattle.rail_types.proofs.Elements.{all_left, all_right}
@@ -34,7 +36,7 @@ use Rattle.served_clients.specs.Talks.{AreBelowEnd, AreGiven, AreProved, AreSett
 use Rattle.served_clients.specs.Talks.{IsAnswer, IsNoOlder, IsTalk, IsWithinSettled, printed}
 use Rattle.served_clients.specs.Talks.{Serves, unsettled}
 use Rattle.served_clients.proofs.Histories.{given_longer, given_more, given_within, least_behind}
-use Rattle.served_clients.proofs.Histories.{least_more, least_within, starts_refl, starts_trans}
+use Rattle.served_clients.proofs.Histories.{least_more, least_within}
 use Rattle.served_clients.proofs.Proved.{all_longer, proved_more, proved_now}
 use Rattle.served_clients.proofs.Rows.{point_left}
 use Rattle.served_clients.proofs.Settles.{reply_within}
@@ -49,11 +51,6 @@ pub record Serving (v w : Sight) (callers : Callers) (first last : List Ruled) (
   pub least : least_behind (length v.seen) told ≤ length w.seen
   pub points : All (λ one. (k : ℕ) → point one.reply ≡ Some k → k ≤ length w.seen) told
   pub rise : AllPairs IsNoOlder told
-
-own-append : (ts us : List Turn) → own (ts ++ us) ≡ own ts ++ own us
-own-append [] us = refl
-own-append (t ∷ ts) us = let mine : List ℕ = positions t.found.entries (t.left.entries - t.found.entries) in
-    ap (λ l. mine ++ l) (own-append ts us) ∙ sym (append_assoc mine (own ts) (own us))
 
 in_fault : (turns : List Turn) → EndInFault turns → AreBelowEnd turns → 1 ≤ rises turns
 in_fault turns f below =

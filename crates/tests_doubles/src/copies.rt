@@ -14,7 +14,7 @@ use rail_types::{Claim, Network, Owner};
 use std::alloc::Global;
 
 // Puts an entry behind others, where it is on a network.
-#[tactic(auto, using(crate::proofs::Brought::one_more))]
+#[tactic(auto, using(path_recover::proofs::Copies::one_more))]
 fn push_sent(alloc: Global, net: &Network, body: &[u8], all: &mut Vec<Sent>) -> bool
     ensures { (timetable : Timetable) → timetable.net ≡ net.now →
         AreInRange timetable all.old.items → AreInRange timetable all.new.items }

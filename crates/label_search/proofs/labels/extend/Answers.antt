@@ -1,8 +1,8 @@
 use Rattle.std.proofs.Common.{arith}
 use Rattle.std.proofs.lemmas.Int.{ints, by_lt_z}
+use Rattle.rail_types.proofs.Ticks.{gap_smaller}
 use Rattle.label_search.specs.Labels.{IsPartOf}
 use Rattle.label_search.proofs.Covers.{grown_more, reached_more}
-use Rattle.label_search.proofs.Gaps.{gap_smaller}
 use Rattle.label_search.proofs.labels.extend.Goals as goal
 
 pub returns-in_err-keep-clause-grown : goal.returns-in_err-keep-clause-grown

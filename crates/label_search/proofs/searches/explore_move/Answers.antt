@@ -1,8 +1,8 @@
 use Rattle.std.proofs.Common.{◌<◌, arith, refl, subst, sym}
 use Rattle.std.specs.Prelude.{pos, ◌+ℤ◌}
 use Rattle.std.specs.Int.{int_gap}
-use Rattle.label_search.proofs.Gaps.{gap_smaller}
 use Rattle.std.proofs.lemmas.Int.{ints, clamps, by_lt_z}
+use Rattle.rail_types.proofs.Ticks.{gap_smaller}
 use Rattle.label_search.specs.Limits.{IsBelow}
 use Rattle.label_search.specs.Paths.{move_at, leave_of}
 use Rattle.label_search.specs.Search.{step_at}

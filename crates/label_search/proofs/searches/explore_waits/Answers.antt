@@ -1,5 +1,6 @@
 use Rattle.std.proofs.Common.{◌<◌, arith, refl, sym, subst}
 use Rattle.std.specs.Prelude.{ℤ, pos, ◌+ℤ◌, false}
+use Rattle.rail_types.proofs.Ticks.{gap_smaller}
 use Rattle.free_windows.specs.Free.{Holds}
 use Rattle.label_search.specs.Labels.{IsReached}
 use Rattle.std.specs.Int.{int_gap}
@@ -7,7 +8,6 @@ use Rattle.std.proofs.lemmas.Int.{ints}
 use Rattle.label_search.proofs.Covers.{reached_more}
 use Rattle.label_search.proofs.Growth.{further_more, front_further}
 use Rattle.label_search.proofs.Waiting.{ready_within, waited, waits_more, waits_all}
-use Rattle.label_search.proofs.Gaps.{gap_smaller}
 use Rattle.label_search.proofs.searches.explore_waits.Goals as goal
 
 pub returns-then-free-front-clause-explored : goal.returns-then-free-front-clause-explored

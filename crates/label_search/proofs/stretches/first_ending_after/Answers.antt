@@ -1,7 +1,8 @@
 use Rattle.std.proofs.Common.{rules, of_calls, ◌≡◌, int_le, true, false}
 use Rattle.std.specs.List.Sorted.{IsPartitionPoint}
 use Rattle.std.proofs.lemmas.Fn.{always_returns_same}
-use Rattle.label_search.proofs.Zones.{ends_by_tick, ended, not_ended}
+use Rattle.occupation_book.proofs.Clashes.{ended, not_ended}
+use Rattle.label_search.proofs.Zones.{ends_by_tick}
 use Rattle.label_search.proofs.stretches.first_ending_after.Goals as goal
 
 -- the spans are parted by whether they have ended

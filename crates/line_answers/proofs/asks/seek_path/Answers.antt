@@ -1,6 +1,7 @@
 use Rattle.std.proofs.Common.{ℕ, List, length, ap, sym, ◌∙◌, subst}
 use Rattle.std.proofs.lemmas.Option.{IfSome_then}
 use Rattle.book_gate.specs.Passes.{view}
+use Rattle.book_gate.proofs.Keeps.{starts_refl}
 use Rattle.rail_types.specs.declared.entries.Entry.{Entry}
 use Rattle.rail_types.specs.Limits.{IsClientName}
 use Rattle.ask_turns.specs.tails.Listed.{Refuses}
@@ -8,7 +9,6 @@ use Rattle.ask_turns.specs.Turns.{Sight, timetable_at}
 use Rattle.line_answers.specs.Answers.{Caller}
 use Rattle.line_answers.specs.Asked.{AnswersBehind}
 use Rattle.line_answers.specs.Callers.{caller_of}
-use Rattle.line_answers.proofs.Calls.{starts_refl}
 use Rattle.line_answers.proofs.Sought.{want_line, wide_line}
 use Rattle.line_answers.proofs.asks.seek_path.Goals as goal
 

@@ -1,7 +1,7 @@
 use Rattle.std.proofs.Common.{◌≡◌, ◌∙◌, sym, refl, subst, pos, ◌+ℤ◌, true, false, arith}
 use Rattle.std.proofs.lemmas.Int.{ints, by_lt_z}
+use Rattle.rail_types.proofs.Ticks.{gap_smaller}
 use Rattle.refusal_proof.specs.Inside.{IsCovered}
-use Rattle.refusal_proof.proofs.Clashing.{gap_smaller}
 use Rattle.refusal_proof.proofs.moves.are_covered.Goals as goal
 
 pub returns-in_default-covered : goal.returns-in_default-covered

@@ -1,9 +1,9 @@
 use Rattle.std.proofs.Common.{ℕ, List, take, sym, subst}
+use Rattle.path_recover.proofs.Copies.{still_live}
 use Rattle.rail_types.specs.declared.entries.Entry.{Entry}
 use Rattle.rail_types.specs.Timetables.{Timetable}
 use Rattle.occupation_book.specs.Held.{held}
 use Rattle.grant_log.specs.Following.{AreLive}
-use Rattle.tests_doubles.proofs.Brought.{still_live}
 use Rattle.tests_doubles.proofs.copies.brought_up.Goals as goal
 
 pub since-requires-clause-live : goal.since-requires-clause-live

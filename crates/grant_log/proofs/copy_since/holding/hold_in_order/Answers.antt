@@ -1,10 +1,11 @@
 use Rattle.std.proofs.Common.{◌≤◌, length, All, AllPairs, sym, subst}
 use Rattle.std.proofs.lemmas.List.Sorted.{All-permutation, sum_by-IsPermutation}
 use Rattle.rail_types.specs.Occupation.{Clash, HeldClaim}
+use Rattle.rail_types.proofs.ClaimTests.{clash_back}
 use Rattle.occupation_book.specs.Held.{IsFree, held, zone_at}
 use Rattle.grant_log.specs.Following.{Gains}
 use Rattle.grant_log.specs.Rooms.{HasRoomFor, MayBeHeld, if_on}
-use Rattle.grant_log.proofs.Gaining.{clash_back, gains_moved}
+use Rattle.grant_log.proofs.Gaining.{gains_moved}
 use Rattle.grant_log.proofs.Pairs.{all_pairs_permuted}
 use Rattle.grant_log.proofs.copy_since.holding.hold_in_order.Goals as goal
 

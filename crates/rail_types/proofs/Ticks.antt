@@ -1,4 +1,4 @@
--- What is left of a window gets less as its first ticks are passed.
+-- What is left of ticks gets less as the first of them are passed.
 use Rattle.std.proofs.Common.{◌<◌, arith}
 use Rattle.std.specs.Prelude.{ℤ, pos, negsuc, ◌<ℤ◌}
 use Rattle.std.proofs.lemmas.Int.{ints}
