@@ -10,7 +10,7 @@ ghost use Rattle.grant_journal.specs.Histories.{bodies_of, bytes_of, ReadsAs};
 ghost use Rattle.path_commit.specs.Footings.{footing_of};
 
 use crate::answers::Committed;
-use crate::parts::Parts;
+use crate::parts::{Parts, refuse};
 use grant_journal::journal_moments::TimedJournal;
 use grant_journal::journal_text::bytes_are_counted;
 use grant_journal::{Journal, Settled};
@@ -295,10 +295,3 @@ impl<D: Disk> Book<D> {
 fn has_its_bytes(digest: &[u8; 32])
     ensures { length digest.now ≡ 32 }
 {}
-
-// Drops an entry that is refused.
-fn refuse(_entry: Entry, told: Committed) -> Committed
-    ensures { result ≡ told }
-{
-    told
-}

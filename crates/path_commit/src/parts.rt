@@ -39,7 +39,7 @@ pub(crate) struct Parts<D: Disk> {
 }
 
 /// All that an entry needs: its record, and what it changes of the claims.
-#[derive(Debug, Drop)]
+#[derive(Drop)]
 pub(crate) struct Ready {
     pub bytes: List<u8>,
     pub change: Change,
@@ -157,7 +157,7 @@ impl<D: Disk> Parts<D> {
             stage: Stage::Record,
         } = written
         {
-            return Committed::DiskFault;
+            return refuse(entry, Committed::DiskFault);
         }
         follow(&mut self.claims, &self.history, &entry, &ready.change);
         self.history.push(entry);
@@ -189,6 +189,13 @@ impl<D: Disk> Parts<D> {
     {
         self.journal.settle()
     }
+}
+
+// Drops an entry that is not taken.
+pub(crate) fn refuse(_entry: Entry, told: Committed) -> Committed
+    ensures { result ≡ told }
+{
+    told
 }
 
 // Whether so many bytes leave room, within a limit, for a record with a body of so many.

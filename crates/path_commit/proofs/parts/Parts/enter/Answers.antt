@@ -31,7 +31,7 @@ returns-in-Fault-Record-clause-commits g c =
     let entry = c.args.entry in
     let entered = c.append-written.ensures.enters (header_of s.network s.base) (bodies_of s.history.entries) (body_of entry) (c.as_slice.ensures ∙ ready.bytes) (omega (arith, ready.fits, ready.few)) c.requires.one.kept in
     let failed = record_failed g.D.Disk s.journal c.append-written.new.self (header_of s.network s.base) (bodies_of s.history.entries) (body_of entry) c.append-written.result (c.in-Fault-Record.is ∙ ap Fault (rw c.in-Fault-Record.is at c.in-Fault-Record.stage-is)) entered in
-    (refl, failed.moments)
+    rw c.refuse.ensures (refl, failed.moments)
 
 pub returns-in-Fault-Record-clause-left : goal.returns-in-Fault-Record-clause-left
 returns-in-Fault-Record-clause-left g c =
