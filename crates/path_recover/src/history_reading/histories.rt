@@ -1,4 +1,4 @@
-ghost use Rattle.std.specs.Prelude.{◌≡◌, ◌+◌, ◌<◌, ◌^◌, [], IfErr, IfOk, length};
+ghost use Rattle.std.specs.Prelude.{◌≡◌, ◌+◌, ◌<◌, ◌^◌, [], IfErr, IfOk, OnOk, length};
 ghost use Rattle.grant_log.specs.Following.{AreLive};
 ghost use Rattle.occupation_book.specs.Held.{held};
 ghost use Rattle.path_recover.specs.Files.{WalkIsRefused};
@@ -40,10 +40,38 @@ pub(crate) fn read_history(
     ensures refused { IfErr result (WalkIsRefused empty.timetable version left.now) }
 {
     let mut history = empty;
-    let copied = copy_of(alloc, &history);
-    let Ok(mut book) = copied else {
+    let Ok(mut claims) = copy_of(alloc, &history) else {
         return Err(OpenFault::Memory);
     };
+    let gate = read_on(alloc, &mut history, &mut claims, left, version)?;
+    Ok(Found {
+        history,
+        claims,
+        gate,
+    })
+}
+
+// Puts the entries that stand in these bytes behind a history without one, and lets the claims
+// follow that the book holds. Answers the offset of the gate behind the last record.
+fn read_on(
+    alloc: Global,
+    history: &mut History,
+    book: &mut Occupations,
+    left: &[u8],
+    version: u32,
+) -> Result<u64, OpenFault>
+    requires empty { history.old.entries ≡ [] }
+    requires size { 76 + length left.now < 2 ^ 64 }
+    requires zones { length book.old ≡ history.old.timetable.net.zones }
+    requires live { AreLive history.old.timetable (held book.old) history.old.entries }
+    ensures timetable { OnOk result (history.new.timetable ≡ history.old.timetable) }
+    ensures found { IfOk result
+        (IsReadTo history.old.timetable version left.now 76 history.new.entries) }
+    ensures live { OnOk result
+        (AreLive history.new.timetable (held book.new) history.new.entries) }
+    ensures zones { OnOk result (length book.new ≡ history.new.timetable.net.zones) }
+    ensures refused { IfErr result (WalkIsRefused history.old.timetable version left.now) }
+{
     let mut fields = Fields::new(left);
     loop {
         let gate = 76 + fields.at() as u64;
@@ -52,21 +80,13 @@ pub(crate) fn read_history(
             return Err(OpenFault::Memory);
         };
         let entry = match next {
-            Next::Shut => {
-                return Ok(Found {
-                    history,
-                    claims: book,
-                    gate,
-                });
-            }
+            Next::Shut => return Ok(gate),
             Next::Broken => return Err(OpenFault::Damaged { at: gate }),
             Next::Record(entry) => entry,
         };
-        match join(alloc, &mut history, &mut book, entry) {
+        match join(alloc, history, book, entry) {
             Ok(true) => {}
-            Ok(false) => {
-                return Err(OpenFault::Illegal { entry: front });
-            }
+            Ok(false) => return Err(OpenFault::Illegal { entry: front }),
             Err(_) => return Err(OpenFault::Memory),
         }
     }

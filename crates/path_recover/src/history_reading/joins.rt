@@ -1,4 +1,4 @@
-ghost use Rattle.std.specs.Prelude.{◌≡◌, ◌≤◌, ◌∷◌, ◌++◌, [], None, IfOk, IsTrue, OnOk, length};
+ghost use Rattle.std.specs.Prelude.{◌≡◌, ◌∷◌, ◌++◌, [], None, IfOk, IsTrue, OnOk, length};
 ghost use Rattle.rail_types.specs.Limits.{IsEntryWithinLimits};
 ghost use Rattle.occupation_book.specs.Held.{held};
 ghost use Rattle.grant_log.specs.Following.{AreLive};
@@ -47,35 +47,60 @@ fn joins(
     Ok(matches!(verdict, Verdict::Fresh))
 }
 
-// Puts an entry with these claims behind a history with room for it, and lets the live claims
-// follow.
-fn take(
+// Lets the live claims follow an entry with these claims, which joins the history.
+fn let_follow(
     alloc: Global,
-    history: &mut History,
+    history: &History,
     book: &mut Occupations,
-    entry: Entry,
+    entry: &Entry,
     claims: &[Claim],
 ) -> Result<(), NoMemory>
-    requires joins { Joins history.old.timetable history.old.entries entry }
-    requires claims { breaks history.old.timetable entry.deed ≡ None →
-        claims.now ≡ claims_of_deed history.old.timetable entry.deed }
-    requires room { 1 ≤ history.old.spare }
-    requires zones { length book.old ≡ history.old.timetable.net.zones }
-    requires live { AreLive history.old.timetable (held book.old) history.old.entries }
-    ensures timetable { history.new.timetable ≡ history.old.timetable }
-    ensures entries { OnOk result (history.new.entries ≡ history.old.entries ++ entry ∷ []) }
-    ensures zones { OnOk result (length book.new ≡ history.old.timetable.net.zones) }
-    ensures live { OnOk result
-        (AreLive history.old.timetable (held book.new) history.new.entries) }
+    requires joins { Joins history.now.timetable history.now.entries entry.now }
+    requires claims { breaks history.now.timetable entry.now.deed ≡ None →
+        claims.now ≡ claims_of_deed history.now.timetable entry.now.deed }
+    requires zones { length book.old ≡ history.now.timetable.net.zones }
+    requires live { AreLive history.now.timetable (held book.old) history.now.entries }
+    ensures zones { length book.new ≡ length book.old }
+    ensures live { OnOk result (AreLive history.now.timetable (held book.new)
+        (history.now.entries ++ entry.now ∷ [])) }
 {
     // What joins is fresh, and so breaks no rule.
     verdicts_say_what_they_mean();
     live_claims_follow();
-    let change = change_of(alloc, history, &entry, claims)?;
-    reserve_change(alloc, book, history, &entry, &change)?;
-    follow(book, history, &entry, &change);
-    history.push(entry);
+    let change = change_of(alloc, history, entry, claims)?;
+    reserve_change(alloc, book, history, entry, &change)?;
+    follow(book, history, entry, &change);
     Ok(())
+}
+
+// Lets the live claims follow an entry, where it joins a history. Answers whether it does.
+fn admit(
+    alloc: Global,
+    history: &History,
+    book: &mut Occupations,
+    entry: &Entry,
+) -> Result<bool, NoMemory>
+    requires within { IsEntryWithinLimits entry.now }
+    requires zones { length book.old ≡ history.now.timetable.net.zones }
+    requires live { AreLive history.now.timetable (held book.old) history.now.entries }
+    ensures zones { length book.new ≡ length book.old }
+    ensures joins { IfOk result (λ yes. IsTrue yes →
+        Joins history.now.timetable history.now.entries entry.now) }
+    ensures live { IfOk result (λ yes. IsTrue yes → AreLive history.now.timetable (held book.new)
+        (history.now.entries ++ entry.now ∷ [])) }
+    ensures stale { IfOk result (λ yes. (¬ IsTrue yes) →
+        ¬ Joins history.now.timetable history.now.entries entry.now) }
+    ensures kept { IfOk result (λ yes. (¬ IsTrue yes) → book.new ≡ book.old) }
+{
+    if !is_on(history.net(), &entry.deed) {
+        return Ok(false);
+    }
+    let claims = claims_of(alloc, history, entry)?;
+    if !joins(history, book, entry, &claims)? {
+        return Ok(false);
+    }
+    let_follow(alloc, history, book, entry, &claims)?;
+    Ok(true)
 }
 
 // Puts an entry behind a history, where it joins it, and lets the live claims
@@ -101,13 +126,9 @@ pub(crate) fn join(
         × (history.new.entries ≡ history.old.entries)) }
 {
     history.reserve()?;
-    if !is_on(history.net(), &entry.deed) {
+    if !admit(alloc, history, book, &entry)? {
         return Ok(false);
     }
-    let claims = claims_of(alloc, history, &entry)?;
-    if !joins(history, book, &entry, &claims)? {
-        return Ok(false);
-    }
-    take(alloc, history, book, entry, &claims)?;
+    history.push(entry);
     Ok(true)
 }

@@ -11,6 +11,7 @@ ghost use Rattle.path_recover.specs.Moving.{HasMoveCause, IsMoved, IsMoveRefused
 ghost use Rattle.path_recover.specs.Moving.{move_fault};
 
 use crate::history_reading::files::{read_bytes, read_file};
+use crate::history_reading::histories::Found;
 use crate::journal_reading::OpenFault;
 use grant_log::History;
 use no_memory::NoMemory;
@@ -67,17 +68,31 @@ fn write_first<D: Disk>(disk: &mut D, bytes: &[u8]) -> Result<(), Failed>
     Ok(())
 }
 
+// How many entries a history has, which is dropped.
+fn count_of(found: Found) -> u64
+    ensures { result ≡ length found.history.entries }
+{
+    found.history.front()
+}
+
 // The new file of an old one, and how many entries it has.
+#[derive(Drop)]
+struct Moved {
+    bytes: Vec<u8>,
+    count: u64,
+}
+
+// What an old file is moved as.
 fn read_old<E: Disk>(
     alloc: Global,
     from: &mut E,
     empty: History,
     network: &[u8; 32],
     base: &[u8; 32],
-) -> Result<(Vec<u8>, u64), OpenFault>
+) -> Result<Moved, OpenFault>
     requires empty { empty.entries ≡ [] }
-    ensures moved { IfOk result (λ moved. IfSome (E.contents from.old)
-        (IsMoved empty.timetable network.now base.now moved.1 (λ image. image ≡ moved.0.items))) }
+    ensures moved { IfOk result (λ moved. IfSome (E.contents from.old) (IsMoved empty.timetable
+        network.now base.now moved.count (λ image. image ≡ moved.bytes.items))) }
     ensures read { IsOnlyRead E.Disk from.old from.new }
     ensures refused { IfErr result (λ fault. IfSome (E.contents from.old) (λ file.
         IsRefused empty.timetable 1 network.now base.now file fault)) }
@@ -85,11 +100,12 @@ fn read_old<E: Disk>(
 {
     let file = read_file(alloc, from)?;
     let found = read_bytes(alloc, &file, empty, 1, network, base)?;
-    let count = found.history.front();
-    match renewed(file, found.gate as usize) {
-        Ok(bytes) => Ok((bytes, count)),
-        Err(NoMemory) => Err(OpenFault::Memory),
-    }
+    let gate = found.gate as usize;
+    let count = count_of(found);
+    let Ok(bytes) = renewed(file, gate) else {
+        return Err(OpenFault::Memory);
+    };
+    Ok(Moved { bytes, count })
 }
 
 /// Moves a journal of version 1 to an empty disk, for the same network's file and base
@@ -130,7 +146,7 @@ pub fn init_from<D: Disk, E: Disk>(
         return Err((from, MoveFault::Memory));
     };
     let empty = History::new(alloc, net, base);
-    let (bytes, count) = match read_old(alloc, &mut from, empty, network, base_digest) {
+    let Moved { bytes, count } = match read_old(alloc, &mut from, empty, network, base_digest) {
         Ok(moved) => moved,
         Err(fault) => return Err((from, refusal(fault))),
     };

@@ -17,14 +17,14 @@ returns-clause-moved g c =
     let base = c.args.base_digest.now in
     let same : c.new-empty.result.timetable ≡ timetable_of c.args.net.now c.args.base = c.new-empty.ensures.timetable ∙ ap (λ net. timetable_of net c.args.base) c.in-Ok-copy.ensures in
     let empty = was-empty (g.D.Disk.contents c.args.disk.now) c.in-Ok.len (omega (arith, c.if-len-ne0.false)) c.in-Ok.ensures.length in
-    let is : (image : List ℕ) → g.D.Disk.images c.write_first.new.disk image → image ≡ old.0.items =
+    let is : (image : List ℕ) → g.D.Disk.images c.write_first.new.disk image → image ≡ old.bytes.items =
     λ image left.
     let was = c.in-Ok-write_first.ensures.images image left in
     let told : g.D.Disk.contents c.args.disk.now ≡ Some was.0 = sym c.in-Ok.ensures.contents ∙ was.1 in
     was.2 (subst (λ (o : Option (List ℕ)). IfSome o (λ bytes. bytes ≡ [])) told empty) ∙ c.deref.ensures.value
     in
-    if-some (IsMoved c.new-empty.result.timetable network base old.1 (λ image. image ≡ old.0.items)) (IsMoved (timetable_of c.args.net.now c.args.base) network base old.1 (g.D.Disk.images c.write_first.new.disk)) (g.E.Disk.contents c.args.from)
-    (λ file told moved. moved-on (timetable_of c.args.net.now c.args.base) network base file old.0.items old.1 (g.D.Disk.images c.write_first.new.disk) is (subst (λ t. IsMoved t network base old.1 (λ image. image ≡ old.0.items) file) same moved))
+    if-some (IsMoved c.new-empty.result.timetable network base old.count (λ image. image ≡ old.bytes.items)) (IsMoved (timetable_of c.args.net.now c.args.base) network base old.count (g.D.Disk.images c.write_first.new.disk)) (g.E.Disk.contents c.args.from)
+    (λ file told moved. moved-on (timetable_of c.args.net.now c.args.base) network base file old.bytes.items old.count (g.D.Disk.images c.write_first.new.disk) is (subst (λ t. IsMoved t network base old.count (λ image. image ≡ old.bytes.items) file) same moved))
     c.in-Ok-read_old.ensures.moved
 
 -- what is told at a refusal of the old disk

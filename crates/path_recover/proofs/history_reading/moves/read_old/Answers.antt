@@ -5,10 +5,12 @@ use Rattle.path_recover.specs.Moving.{IsMoved}
 use Rattle.path_recover.proofs.Renewed.{if-some, is-renewed}
 use Rattle.path_recover.proofs.history_reading.moves.read_old.Goals as goal
 
-pub returns-in-Ok-clause-moved : goal.returns-in-Ok-clause-moved
-returns-in-Ok-clause-moved g c =
+pub returns-clause-moved : goal.returns-clause-moved
+returns-clause-moved g c =
     let timetable = c.args.empty.timetable in
     let found = c.in_ok-found.found in
-    if-some (λ bytes. c.in_ok-file.file.items ≡ bytes) (IsMoved timetable c.args.network.now c.args.base.now c.front-count.result (λ image. image ≡ c.in-Ok.bytes.items)) (g.E.Disk.contents c.args.from.now)
-    (λ bytes told same. is-renewed timetable c.args.network.now c.args.base.now bytes c.in-Ok.bytes.items found.history.entries found.gate c.front-count.result c.told-network c.told-base (subst (λ file. IsFound timetable 1 c.args.network.now c.args.base.now file found.history.entries found.gate) (c.deref.ensures.value ∙ same) c.in_ok-found.ensures.found) (c.in-Ok.ensures ∙ ap (λ (l : List ℕ). slice_set (take found.gate l) 11 2 ++ 0 ∷ []) same) c.front-count.ensures.front)
+    let count = c.count_of-count.result in
+    let moved = c.in-Ok.bytes.items in
+    if-some (λ bytes. c.in_ok-file.file.items ≡ bytes) (IsMoved timetable c.args.network.now c.args.base.now count (λ image. image ≡ moved)) (g.E.Disk.contents c.args.from.now)
+    (λ bytes told same. is-renewed timetable c.args.network.now c.args.base.now bytes moved found.history.entries found.gate count c.told-network c.told-base (subst (λ file. IsFound timetable 1 c.args.network.now c.args.base.now file found.history.entries found.gate) (c.deref.ensures.value ∙ same) c.in_ok-found.ensures.found) (c.in-Ok.ensures ∙ ap (λ (l : List ℕ). slice_set (take found.gate l) 11 2 ++ 0 ∷ []) same) c.count_of-count.ensures)
     c.in_ok-file.ensures.bytes
