@@ -1,6 +1,7 @@
 pub mod Reopened
 pub mod Copies
 pub mod Walked
+pub mod Refusals
 pub mod Renewed
 pub mod Unrefused
 pub mod Once

@@ -61,7 +61,7 @@ pub(crate) fn join(
     match bring_up(alloc, history, front, book) {
         Ok(()) => Ok(()),
         Err(refused) => {
-            history.pop();
+            lose_last(history);
             Err(refused)
         }
     }

@@ -360,8 +360,8 @@ impl World {
         ensures ok { OnOk result (self.new ≡ written self.old client entry.now) }
         ensures err { OnErr result (self.new ≡ self.old) }
     {
-        let copy = entry.copy(self.alloc)?;
         make_room(&mut self.clients, client)?;
+        let copy = entry.copy(self.alloc)?;
         let at = self.history.front();
         join(self.alloc, &mut self.history, &mut self.claims, copy)?;
         self.settled = self.history.front();
@@ -375,9 +375,9 @@ impl World {
         ensures ok { OnOk result (self.new ≡ begun self.old client entry.now) }
         ensures err { OnErr result (self.new ≡ self.old) }
     {
-        let copy = entry.copy(self.alloc)?;
         make_room(&mut self.clients, client)?;
         self.history.reserve()?;
+        let copy = entry.copy(self.alloc)?;
         let at = self.history.front();
         self.history.push(copy);
         note(&mut self.clients, client, self.history.front(), Some(at));

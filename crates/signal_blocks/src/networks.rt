@@ -63,6 +63,41 @@ fn named_network(
     })
 }
 
+/// The network of a railway, or its fault.
+fn network_or_fault(
+    alloc: Global,
+    graph: &Graph,
+    infra: &Infra,
+    railway: &Railway,
+) -> Result<Named, NetFault>
+    requires infra { IsInfra infra.now }
+    requires graph { IsLayoutOf infra.now graph.now }
+    requires railway { IsRailwayOf infra.now graph.now railway.now }
+    requires sound { IsRailway railway.now }
+    ensures network { IfOk result (IsNetworkOf infra.now) }
+    ensures named { IfOk result IsNamed }
+    ensures fault { IfErr result (NetTells infra.now) }
+{
+    if let Some(fault) = fault_of(alloc, railway)? {
+        return Err(told_blocks(alloc, infra, fault)?);
+    }
+    let named = named_network(alloc, graph, infra, railway)?;
+    Ok(named)
+}
+
+/// The network of an infrastructure that has this graph.
+fn network_on(alloc: Global, graph: &Graph, infra: &Infra) -> Result<Named, NetFault>
+    requires infra { IsInfra infra.now }
+    requires graph { IsLayoutOf infra.now graph.now }
+    ensures network { IfOk result (IsNetworkOf infra.now) }
+    ensures named { IfOk result IsNamed }
+    ensures fault { IfErr result (NetTells infra.now) }
+{
+    let walks = walks_of(alloc, graph, infra)?;
+    let railway = railway_of(alloc, graph, infra, walks)?;
+    network_or_fault(alloc, graph, infra, &railway)
+}
+
 /// The network of an infrastructure, with the names of its operational points, blocks and zones.
 ///
 /// A block reaches from one cut of a route to the next: routes are cut at their ends and at each
@@ -83,11 +118,5 @@ pub fn network_of(alloc: Global, infra: &Infra) -> Result<Named, NetFault>
     ensures fault { IfErr result (NetTells infra.now) }
 {
     let graph = Graph::of(alloc, infra)?;
-    let walks = walks_of(alloc, &graph, infra)?;
-    let railway = railway_of(alloc, &graph, infra, walks)?;
-    if let Some(fault) = fault_of(alloc, &railway)? {
-        return Err(told_blocks(alloc, infra, fault)?);
-    }
-    let named = named_network(alloc, &graph, infra, &railway)?;
-    Ok(named)
+    network_on(alloc, &graph, infra)
 }

@@ -6,7 +6,7 @@ use Rattle.rail_types.specs.Timetables.{Timetable}
 use Rattle.occupation_book.specs.Held.{held}
 use Rattle.grant_log.specs.Following.{AreLive}
 use Rattle.grant_log.specs.Legal.{Register}
-use Rattle.plan_core.proofs.Joined.{live_before, popped}
+use Rattle.plan_core.proofs.Joined.{live_before, taken_out}
 use Rattle.plan_core.proofs.joining.join.Goals as goal
 
 pub returns-in_err-reserve-clause-live : goal.returns-in_err-reserve-clause-live
@@ -26,10 +26,16 @@ returns-in-Ok-clause-live c =
     let same : c.push.new.self.timetable ≡ c.args.history.now.timetable = ap (λ (r : Register). r.timetable) c.push.ensures ∙ ap (λ (r : Register). r.timetable) c.in_ok-reserve.ensures.ok in
     subst (λ timetable. AreLive timetable (held c.bring_up.new.copy) c.push.new.self.entries) same c.in-Ok.ensures.live
 
+pub returns-in-Err-clause-err : goal.returns-in-Err-clause-err
+returns-in-Err-clause-err c =
+    let old = c.args.history.now in
+    let parts : c.push.new.self.entries ≡ old.entries ++ c.args.entry ∷ [] = ap (λ (r : Register). r.entries) c.push.ensures ∙ ap (λ (r : Register). r.entries ++ c.args.entry ∷ []) c.in_ok-reserve.ensures.ok in
+    taken_out old.entries c.push.new.self.entries c.lose_last.new.history.entries c.args.entry parts c.lose_last.ensures.entries
+
 pub returns-in-Err-clause-live : goal.returns-in-Err-clause-live
 returns-in-Err-clause-live c =
     let old = c.args.history.now in
     let parts : c.push.new.self.entries ≡ old.entries ++ c.args.entry ∷ [] = ap (λ (r : Register). r.entries) c.push.ensures ∙ ap (λ (r : Register). r.entries ++ c.args.entry ∷ []) c.in_ok-reserve.ensures.ok in
-    let back : c.pop.new.self.entries ≡ old.entries = popped c.push.new.self c.pop.new.self c.pop.result old.entries c.args.entry parts c.pop.ensures.some c.pop.ensures.none.0 in
+    let back = taken_out old.entries c.push.new.self.entries c.lose_last.new.history.entries c.args.entry parts c.lose_last.ensures.entries in
     let claims : held c.bring_up.new.copy ≡ held c.args.book.now = ap (λ all. flat_map (λ one. one) all) c.in-Err.ensures.err in
-    subst (λ all. AreLive old.timetable all c.pop.new.self.entries) (sym claims) (subst (λ all. AreLive old.timetable (held c.args.book.now) all) (sym back) c.requires.live)
+    subst (λ all. AreLive old.timetable all c.lose_last.new.history.entries) (sym claims) (subst (λ all. AreLive old.timetable (held c.args.book.now) all) (sym back) c.requires.live)

@@ -1,11 +1,11 @@
-use Rattle.std.proofs.Common.{◌≡◌, ◌++◌, ◌*◌, drop, length}
-use Rattle.std.specs.List.{All}
+use Rattle.std.proofs.Common.{◌≡◌, ◌*◌, take, length}
+use Rattle.std.specs.List.{All, filter_map}
 use Rattle.signal_blocks.specs.Inside.{IsPost}
-use Rattle.signal_blocks.specs.Posts.{posts_of}
+use Rattle.signal_blocks.specs.Posts.{post_of}
 use Rattle.signal_blocks.proofs.posts.posts_of.Given as goal
 
 abbrev pub invariant-signals : goal.invariant-signals
 invariant-signals l = record {
-  rest : l.posts.items ++ posts_of l.graph (drop l.signal-index l.signals) ≡ posts_of l.graph l.signals;
+  posts : l.posts.items ≡ filter_map (post_of l.graph) (take l.signal-index l.signals);
   within : All (IsPost (2 * length l.graph.infra.detectors)) l.posts.items;
 }

@@ -19,6 +19,12 @@ invariant_of-self-in_err-reserve c =
     let world = plan_of s.history s.settled s.up s.clients.items in
     whole c.reserve.new.self s.claims s.settled s.up c.make_room.new.clients.items world c.self.invariant.kept (ap (λ (r : Register). r.timetable) c.in_err-reserve.ensures.err) (ap (λ (r : Register). r.entries) c.in_err-reserve.ensures.err) refl refl c.make_room.ensures.parties c.self.invariant.live c.self.invariant.zones
 
+pub invariant_of-self-in_err-copy : goal.invariant_of-self-in_err-copy
+invariant_of-self-in_err-copy c =
+    let s = c.self.inside in
+    let world = plan_of s.history s.settled s.up s.clients.items in
+    whole c.reserve.new.self s.claims s.settled s.up c.make_room.new.clients.items world c.self.invariant.kept (ap (λ (r : Register). r.timetable) c.in_ok-reserve.ensures.ok) (ap (λ (r : Register). r.entries) c.in_ok-reserve.ensures.ok) refl refl c.make_room.ensures.parties c.self.invariant.live c.self.invariant.zones
+
 pub invariant_of-self-2 : goal.invariant_of-self-2
 invariant_of-self-2 c =
     let s = c.self.inside in

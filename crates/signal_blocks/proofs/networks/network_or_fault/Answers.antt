@@ -2,15 +2,15 @@ use Rattle.std.proofs.Common.{◌≡◌, ◌∙◌, Some, sym}
 use Rattle.signal_blocks.specs.Faults.{railway_fault}
 use Rattle.signal_blocks.specs.Networks.{HasFault}
 use Rattle.signal_blocks.proofs.Whole.{blocks_tell}
-use Rattle.signal_blocks.proofs.networks.network_of.Goals as goal
+use Rattle.signal_blocks.proofs.networks.network_or_fault.Goals as goal
 
 pub returns-in-Some-clause-fault : goal.returns-in-Some-clause-fault
 returns-in-Some-clause-fault c =
-    let first : railway_fault c.in_ok-railway.railway ≡ Some c.in-Some.fault = sym c.in_ok-fault.ensures ∙ c.in-Some.is in
+    let first : railway_fault c.args.railway.now ≡ Some c.in-Some.fault = sym c.in_ok-fault.ensures ∙ c.in-Some.is in
     let has : HasFault c.args.infra.now c.in-Some.fault = record {
-      layout = c.in_ok-graph.graph;
-      railway = c.in_ok-railway.railway;
-      is = c.in_ok-railway.ensures.railway;
+      layout = c.args.graph.now;
+      railway = c.args.railway.now;
+      is = c.requires.railway;
       first = first;
     } in
     rw c.in_ok-told_blocks.ensures (blocks_tell c.args.infra.now c.in-Some.fault has)
