@@ -1,6 +1,6 @@
 -- What a client knows of a history.
 use Rattle.std.proofs.Common.{◌≡◌, true, false, List, Option, Some, None, IsNone, Result, Ok, Err}
-use Rattle.std.proofs.Common.{OnOk, length, take, flat_map, ap, sym, ◌∙◌, subst, refl, append_assoc}
+use Rattle.std.proofs.Common.{IfOk, OnOk, length, take, flat_map, ap, sym, ◌∙◌, subst, refl, append_assoc}
 use Rattle.std.specs.Prelude.{is_err, ◌++◌}
 use Rattle.std.proofs.lemmas.List.{take_at}
 use Rattle.book_gate.specs.Views.{StartsWith}
@@ -56,3 +56,8 @@ not_err P (Err e) is told = absurd (true_not_false is)
 pub none_there : {X : Type 0} (some : Option X) → ((x : X) → some ≡ Some x → ⊥) → IsNone some
 none_there None absent = refl
 none_there (Some x) absent = absurd (absent x refl)
+
+-- what holds whatever a call told
+pub if_ok : {X E : Type 0} (told : Result X E) (P : X → Type 0) → ((x : X) → P x) → IfOk told P
+if_ok (Ok x) P all = all x
+if_ok (Err e) P all = tt

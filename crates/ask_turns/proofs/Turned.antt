@@ -1,6 +1,7 @@
 -- A turn that is open, what was done to its book, and what the turn did once it ended.
-use Rattle.std.proofs.Common.{◌≡◌, ℕ, ◌≤◌, List, [], Option, length, ap, sym, ◌∙◌, subst, arith, length-append}
+use Rattle.std.proofs.Common.{◌≡◌, ℕ, ◌≤◌, List, [], Option, Result, IfErr, length, ap, sym, ◌∙◌, subst, arith, length-append}
 use Rattle.std.proofs.lemmas.List.{append-nil}
+use Rattle.std.proofs.lemmas.Result.{IfErr-weaker}
 use Rattle.book_gate.specs.declared.gates.Gate.{Gate}
 use Rattle.book_gate.specs.declared.gates.Pass.{Pass}
 use Rattle.book_gate.specs.Passes.{opened, view}
@@ -11,11 +12,12 @@ use Rattle.path_commit.specs.Ledgers.{Ledger}
 use Rattle.rail_types.specs.declared.entries.Entry.{Entry}
 use Rattle.ask_turns.specs.declared.client_turns.clients.Client.{Client}
 use Rattle.ask_turns.specs.declared.client_turns.halts.Halt.{Halt}
+use Rattle.ask_turns.specs.declared.client_turns.halts.Halt.TheVariants.{NoMemory}
 use Rattle.ask_turns.specs.declared.client_turns.told.Entered.{Entered}
 use Rattle.ask_turns.specs.Clients.{IsCopyOf, Knows}
 use Rattle.ask_turns.specs.declared.client_turns.told.Tried.{Tried}
 use Rattle.ask_turns.specs.Told.{EntersIn, StopsIn, TriesIn}
-use Rattle.ask_turns.specs.Turns.{HasEntered, HasTried, IsOpen, IsReached, IsStopped, Looks, Sight, timetable_at}
+use Rattle.ask_turns.specs.Turns.{HasEntered, HasTried, IsHalted, IsOpen, IsReached, IsStopped, Looks, Sight, timetable_at}
 use Rattle.ask_turns.proofs.Ended.{enters, looks, same_timetable, stands, stops, tries}
 use Rattle.ask_turns.proofs.Known.{known_longer}
 
@@ -46,6 +48,9 @@ module _ {D : Type 0} (faults : D → ℕ) (gate : Gate (Ledger D) Entry Footing
     found_still : (view new).found.list ≡ w.found.list
     found_still = ap (λ (x : Sight). x.found.list) (sym ends)
 
+    pub list_still : book.entries ≡ w.found.list
+    list_still = ap (λ (b : Ledger D). b.entries) lent ∙ open_now.list ∙ found_still
+
     pub copied : IsCopyOf (timetable_at gate) client w.found.list
     copied = subst (IsCopyOf (timetable_at gate) client) found_still open_now.copy
 
@@ -64,6 +69,13 @@ module _ {D : Type 0} (faults : D → ℕ) (gate : Gate (Ledger D) Entry Footing
         let count = ap (λ (b : Ledger D). faults b.disk) is in
         looks faults (view old) (view new) held left open_now.opens open_now.goes_on open_now.within
         open_now.list open_now.counts (omega arith) w ends is open_now.settled
+
+    -- a call that wants memory alone
+    pub turn_wants : {X : Type 0} → left ≡ book → (told : Result X Halt)
+        → IfErr told (λ halt. halt ≡ NoMemory) → IfErr told (λ halt. IsHalted halt after (view old) w)
+    turn_wants same told wants =
+        IfErr-weaker told (λ halt. halt ≡ NoMemory) (λ halt. IsHalted halt after (view old) w)
+        (λ halt is. subst (λ (h : Halt). IsHalted h after (view old) w) (sym is) (turn_looks same)) wants
 
     by : held.timetable ≡ timetable_at gate
     by = same_timetable held (opened gate) open_now.footing

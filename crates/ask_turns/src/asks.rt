@@ -26,7 +26,7 @@ pub enum Outcome {
 }
 
 // An entry whose path was found, and the path's runs.
-#[derive(Debug, Drop)]
+#[derive(Drop)]
 pub(crate) struct Found {
     pub(crate) entry: Entry,
     pub(crate) runs: List<Run>,

@@ -1,8 +1,11 @@
 //! One search beside a client's copy.
 
-ghost use Rattle.std.specs.Prelude.{◌≡◌, ◌≤◌, false, [], IfOk, IsTrue, length};
+ghost use Rattle.std.specs.Prelude.{◌≡◌, ◌≤◌, ◌++◌, false, [], IfOk, IsTrue, length, OnOk};
 ghost use Rattle.client_lines.specs.Within.{AreSound};
 ghost use Rattle.path_labels.specs.Answers.{IsFinding, claims_held};
+ghost use Rattle.proof_texts.specs.Prints.{HasPointsOf};
+ghost use Rattle.proof_texts.specs.Texts.{proof_text};
+ghost use Rattle.rail_types.specs.declared.limits.TheConstants.{MAX_NUMBER};
 ghost use Rattle.ask_turns.specs.Finds.{HasRoom, IsFoundBeside, MayBeSearched, entry_for};
 ghost use Rattle.ask_turns.specs.Shown.{IsShown, ShowsBeside};
 
@@ -16,6 +19,7 @@ use client_lines::reply_texts::reply_room;
 use no_memory::NoMemory;
 use path_labels::find_along;
 use proof_texts::{Proof, proof_text};
+use rail_types::named_network::Named;
 use rail_types::{Deed, Entry, MAX_NUMBER, Path, Settings, Wanted};
 use std::alloc::Global;
 
@@ -76,23 +80,46 @@ fn seek_path(
         client.now.front ask.now path proof.new.held) }
     ensures bare { proves ≡ false → proof.new.held ≡ [] }
 {
-    certificates_can_be_told();
     proof.clear();
-    let railway = known.railway();
-    let net = &railway.network;
-    if !proves {
-        return find_along(
+    if proves {
+        seek_shown(alloc, known, settings, client, ask, proof)
+    } else {
+        find_along(
             alloc,
-            net,
+            &known.railway().network,
             settings,
             client.copy(),
             &ask.request,
             &ask.course,
-        );
+        )
     }
+}
+
+// The path of an ask beside the client's copy, or None; the empty buffer of the proof then has the
+// text of what shows the answer.
+fn seek_shown(
+    alloc: Global,
+    known: &Known,
+    settings: &Settings,
+    client: &Client,
+    ask: &Ask,
+    proof: &mut Buffer,
+) -> Result<Option<Path>, NoMemory>
+    requires sound { AreSound known.now }
+    requires may { MayBeSearched known.now.railway.network settings.now ask.now }
+    requires zones { length client.now.copy ≡ known.now.railway.network.zones }
+    requires empty { proof.old.held ≡ [] }
+    ensures found { IfOk result (IsFinding known.now.railway.network settings.now
+        (claims_held client.now.copy) ask.now.request) }
+    ensures shown { IfOk result (λ path.
+        IsShown known.now known.now.railway.network settings.now (claims_held client.now.copy)
+        client.now.front ask.now path proof.new.held) }
+{
+    certificates_can_be_told();
+    let railway = known.railway();
     let found = seek_certified(
         alloc,
-        net,
+        &railway.network,
         settings,
         client.copy(),
         &ask.request,
@@ -104,18 +131,29 @@ fn seek_path(
         closed,
     } = found;
     let at = client.front();
-    // A text tells no greater numbers; there is no memory for lists that are so long.
-    if at > MAX_NUMBER || closed.members.len() as u64 > MAX_NUMBER {
-        return Err(NoMemory);
-    }
     let shows = Proof {
         at,
         number: ask.number,
         request: excluded,
         closed,
     };
-    proof_text(&shows, railway, proof)?;
+    tell(&shows, railway, proof)?;
     Ok(path)
+}
+
+// Appends the text of what shows an answer. A text tells no greater numbers; there is no memory for
+// lists that are so long.
+fn tell(shows: &Proof, railway: &Named, to: &mut Buffer) -> Result<(), NoMemory>
+    requires points { HasPointsOf (length railway.now.stops) shows.now.request }
+    ensures at { OnOk result (shows.now.at ≤ MAX_NUMBER) }
+    ensures few { OnOk result (length shows.now.closed.members ≤ MAX_NUMBER) }
+    ensures text { OnOk result
+        (to.new.held ≡ to.old.held ++ proof_text railway.now.stops shows.now) }
+{
+    if shows.at > MAX_NUMBER || shows.closed.members.len() as u64 > MAX_NUMBER {
+        return Err(NoMemory);
+    }
+    proof_text(shows, railway, to)
 }
 
 // The client's entry that takes a path for an ask.

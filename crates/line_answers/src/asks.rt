@@ -68,19 +68,23 @@ pub(crate) fn ask<R: Wait, D: Disk, B: Between>(
     ensures held { text.new.held ≡ text.old.held }
     ensures room { HasRoomIn text.new result ⊎ AddsNothing result }
 {
-    let Ok(deed) = deed_of(alloc, &request) else {
-        return Reply::NoMemory;
+    // The deed is let go before what was found is looked at.
+    let found = {
+        let Ok(deed) = deed_of(alloc, &request) else {
+            return Reply::NoMemory;
+        };
+        find_again(
+            rt,
+            alloc,
+            &shared.gate,
+            &mut guest.pass,
+            &mut guest.client,
+            sent.after,
+            sent.number,
+            &deed,
+        )
     };
-    match find_again(
-        rt,
-        alloc,
-        &shared.gate,
-        &mut guest.pass,
-        &mut guest.client,
-        sent.after,
-        sent.number,
-        &deed,
-    ) {
+    match found {
         Ok(None) => seek_path(rt, alloc, shared, guest, sent, request, text, proof),
         Ok(Some(told)) => number_told(sent.number, told, guest.client.front()),
         Err(halt) => halted(halt),

@@ -1,5 +1,5 @@
 //! What the rules of a client say to a line, and what they are told by its reply.
-ghost use Rattle.std.specs.Prelude.{◌≡◌, ◌+◌, ◌⊎◌, ◌≤◌, ◌<◌, [], length};
+ghost use Rattle.std.specs.Prelude.{◌≡◌, ◌+◌, ◌⊎◌, ◌≤◌, ◌<◌, [], length, IfOk, Some};
 ghost use Rattle.book_gate.specs.Passes.{turns_left, view};
 ghost use Rattle.client_lines.specs.Within.{IsAskWithin};
 ghost use Rattle.client_lines.specs.declared.asks.Ask.TheVariants.{Free as free_of};
@@ -10,7 +10,7 @@ ghost use Rattle.client_lines.specs.Rooms.{IsBehindEntry, room_for};
 ghost use Rattle.ask_turns.specs.Clients.{Knows};
 ghost use Rattle.ask_turns.specs.Sharing.{IsShared};
 ghost use Rattle.ask_turns.specs.Turns.{IsReady, timetable_at};
-ghost use Rattle.line_answers.specs.Answers.{MayBeDenied};
+ghost use Rattle.line_answers.specs.Answers.{IsDeedOf, MayBeDenied, number_of};
 ghost use Rattle.line_answers.specs.Asked.{HasRoomIn};
 ghost use Rattle.line_answers.specs.Callers.{AnswersDenied, AnswersLine, caller_of};
 ghost use Rattle.line_answers.specs.Points.{added};
@@ -35,6 +35,7 @@ use book_gate::Pass;
 use byte_fields::Buffer;
 use client_lines::reply_texts::Reply;
 use client_lines::{Ask, Line};
+use no_memory::NoMemory;
 use outside_io::{Between, Disk};
 use path_commit::Book;
 use rail_types::{Deed, Wanted};
@@ -234,28 +235,38 @@ fn deny<R: Wait, D: Disk>(
     ensures none { added result ≡ [] }
     ensures short { IsBehindEntry 0 result ⊎ AddsNothing result }
 {
-    let line = numbered.number;
     let Line { after, ask } = numbered.line;
+    let Ok(wished) = deed_wished(alloc, ask) else {
+        return Reply::NoMemory;
+    };
+    let sent = Sent {
+        line: numbered.number,
+        after,
+        number: wished.number,
+    };
+    deny_deed(rt, alloc, shared, pass, client, sent, &wished.deed, rule)
+}
+
+// What a line asks for that rules may deny: its number and its deed.
+#[derive(Drop)]
+struct Wished {
+    number: u64,
+    deed: Deed,
+}
+
+fn deed_wished(alloc: Global, ask: Ask) -> Result<Wished, NoMemory>
+    requires may { MayBeDenied ask }
+    ensures numbered { IfOk result (λ wished. number_of ask ≡ Some wished.number) }
+    ensures asked { IfOk result (λ wished. IsDeedOf ask wished.deed) }
+{
     match ask {
-        Ask::Pin(number, path) => {
-            let deed = Deed::Grant(Wanted::Pinned, path);
-            let sent = Sent {
-                line,
-                after,
-                number,
-            };
-            deny_deed(rt, alloc, shared, pass, client, sent, &deed, rule)
-        }
+        Ask::Pin(number, path) => Ok(Wished {
+            number,
+            deed: Deed::Grant(Wanted::Pinned, path),
+        }),
         Ask::Path(number, request) => {
-            let Ok(deed) = deed_of(alloc, &request) else {
-                return Reply::NoMemory;
-            };
-            let sent = Sent {
-                line,
-                after,
-                number,
-            };
-            deny_deed(rt, alloc, shared, pass, client, sent, &deed, rule)
+            let deed = deed_of(alloc, &request)?;
+            Ok(Wished { number, deed })
         }
         _ => unreachable!(),
     }
@@ -330,8 +341,12 @@ fn free_ruled<R: Wait, L: Rule, D: Disk>(
     ensures short { IsBehindEntry 0 result ⊎ AddsNothing result }
 {
     let Sent { after, number, .. } = sent;
-    let deed = Deed::Free(freed);
-    match find_again(rt, alloc, &shared.gate, pass, client, after, number, &deed) {
+    // The deed is let go before what was found is looked at.
+    let found = {
+        let deed = Deed::Free(freed);
+        find_again(rt, alloc, &shared.gate, pass, client, after, number, &deed)
+    };
+    match found {
         Ok(None) => {
             let front = client.front();
             if front <= freed {

@@ -7,15 +7,15 @@ ghost use Rattle.proof_texts.specs.Lines.{line_at};
 use memchr::memchr;
 use std::marker::Model;
 
-// The first line of a text, without its end, and what stands behind it.
-fn first_line(text: &[u8]) -> Option<(&[u8], &[u8])>
-    ensures found { IfSome result (λ parts. IsCutAt 10 text.now parts.0.now parts.1.now) }
-    ensures absent { IfNone result (Lacks 10 text.now) }
+// What stands before the first byte of this kind, and what stands behind it.
+fn cut_at(byte: u8, bytes: &[u8]) -> Option<(&[u8], &[u8])>
+    ensures found { IfSome result (λ parts. IsCutAt byte bytes.now parts.0.now parts.1.now) }
+    ensures absent { IfNone result (Lacks byte bytes.now) }
 {
-    let at = memchr(b'\n', text)?;
-    let (line, rest) = text.split_at(at);
-    let (_, rest) = rest.split_at(1);
-    Some((line, rest))
+    let at = memchr(byte, bytes)?;
+    let (front, rest) = bytes.split_at(at);
+    let (_, back) = rest.split_at(1);
+    Some((front, back))
 }
 
 /// The lines of a text that are left.
@@ -46,7 +46,7 @@ impl<'a> Lines<'a> {
         ensures shorter { length self.new ≤ length self.old }
     {
         let rest = self.rest;
-        match first_line(rest) {
+        match cut_at(b'\n', rest) {
             Some((line, behind)) => {
                 self.rest = behind;
                 Some(line)

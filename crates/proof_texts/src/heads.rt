@@ -15,7 +15,7 @@ use rail_types::{MAX_NUMBER, Request};
 use std::alloc::Global;
 
 /// The front of a proof, and what was asked for.
-#[derive(Debug, Drop)]
+#[derive(Drop)]
 pub(crate) struct Head {
     pub(crate) at: u64,
     pub(crate) number: u64,

@@ -7,6 +7,9 @@ ghost use Rattle.path_commit.specs.Footings.{footing_of};
 ghost use Rattle.path_commit.specs.Ledgers.{settled_of};
 ghost use Rattle.ask_turns.specs.Told.{EntersIn, IsFoundAgain, IsRefusal, IsStanding, Stands};
 ghost use Rattle.ask_turns.specs.Told.{StopsIn, TriesIn};
+ghost use Rattle.ask_turns.specs.declared.client_turns.halts.Halt.TheVariants.{
+  NoMemory as no_memory,
+};
 
 use crate::client_turns::halts::Halt;
 use crate::client_turns::laws::{kept_entries_stand, none_clashes_behind};
@@ -63,8 +66,9 @@ pub(crate) fn standing_at(
     alloc: Global,
     history: &History,
     at: u64,
-) -> Result<Option<Standing>, NoMemory>
-    ensures { IfOk result (IsStanding history.now.entries at) }
+) -> Result<Option<Standing>, Halt>
+    ensures standing { IfOk result (IsStanding history.now.entries at) }
+    ensures want { IfErr result (λ halt. halt ≡ no_memory) }
 {
     let Some(entry) = history.entry(at) else {
         return Ok(None);
@@ -103,9 +107,10 @@ pub(crate) fn told_again(
     owner: &Name,
     number: u64,
     deed: &Deed,
-) -> Result<Option<Refusal>, NoMemory>
+) -> Result<Option<Refusal>, Halt>
     requires owner { length owner.now ≤ MAX_OWNER_BYTES }
-    ensures { IfOk result (IsFoundAgain history.now.entries owner.now number deed.now) }
+    ensures found { IfOk result (IsFoundAgain history.now.entries owner.now number deed.now) }
+    ensures want { IfErr result (λ halt. halt ≡ no_memory) }
 {
     let Some(verdict) = history.told_again(owner, number, deed) else {
         return Ok(None);

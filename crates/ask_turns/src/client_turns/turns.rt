@@ -123,8 +123,7 @@ pub fn show<R: Wait, D: Disk>(
     let mut held = open_turn(rt, gate, pass, client, after)?;
     let standing = standing_at(alloc, held.book().history(), at);
     gate.leave(pass, held);
-    let standing = standing?;
-    Ok(standing)
+    standing
 }
 
 /// A turn that tells of the client's number, where it stands already, by the deed that is
@@ -160,8 +159,7 @@ pub fn find_again<R: Wait, D: Disk>(
     let mut held = open_turn(rt, gate, pass, client, after)?;
     let again = told_again(alloc, held.book().history(), &client.name, number, deed);
     gate.leave(pass, held);
-    let again = again?;
-    Ok(again)
+    again
 }
 
 /// A turn that judges an entry by what it found, and takes it in where it is
@@ -194,8 +192,7 @@ pub fn enter_entry<R: Wait, D: Disk>(
     let mut held = open_turn(rt, gate, pass, client, after)?;
     let entered = enter_in(alloc, held.book(), entry);
     gate.leave(pass, held);
-    let entered = entered?;
-    Ok(entered)
+    entered
 }
 
 /// A turn that judges an entry whose path was searched for beside the client's copy, and
@@ -228,6 +225,5 @@ pub fn try_entry<R: Wait, D: Disk>(
     let mut held = open_turn(rt, gate, pass, client, None)?;
     let tried = try_in(alloc, held.book(), entry, searched);
     gate.leave(pass, held);
-    let tried = tried?;
-    Ok(tried)
+    tried
 }
