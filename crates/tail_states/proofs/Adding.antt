@@ -23,10 +23,10 @@ use Rattle.tail_states.proofs.Numbers.{get_before, contains_at}
 pub grows_twice : (a b c : List Place) → Grows a b → Grows b c → Grows a c
 grows_twice a b c (x, is_b) (y, is_c) = (x ++ y, is_c ∙ (ap (λ l. l ++ y) is_b ∙ append_assoc a x y))
 
-all_of : {X : Type 0} (P Q : X → Type 0) → ((x : X) → P x → Q x) → (xs : List X) → All P xs → All Q xs
+pub all_of : {X : Type 0} (P Q : X → Type 0) → ((x : X) → P x → Q x) → (xs : List X) → All P xs → All Q xs
 all_of P Q f xs all = λ k d within. f _ (all k d within)
 
-take_next : (xs : List ℕ) (at : ℕ) → at < length xs → take (at + 1) xs ≡ take at xs ++ get_or xs at 0 ∷ []
+pub take_next : (xs : List ℕ) (at : ℕ) → at < length xs → take (at + 1) xs ≡ take at xs ++ get_or xs at 0 ∷ []
 take_next xs at within = rw add-one (take-suc xs at 0 within)
 
 pub take_whole : (xs : List ℕ) (at : ℕ) → length xs ≤ at → take at xs ≡ xs
@@ -115,13 +115,13 @@ module _ (net : Network) (request : Request) (place : Place) where
   pub from_over : (members : List Place) (blocks : List ℕ) (moves : List Move) → AreNextBlocks net request place.tail blocks → AreMovesOver net request members place blocks moves → AreMovesFrom net request members place moves
   from_over members blocks moves next over = record { sound = over.sound; whole = λ step move. over.whole step move (next.whole step.block move.within move.reaches) }
 
-get_push : {X : Type 0} (xs : List X) (y : X) (i : ℕ) (x : X) → slice_get (xs ++ y ∷ []) i ≡ Some x → (slice_get xs i ≡ Some x) ⊎ ((i ≡ length xs) × (x ≡ y))
+pub get_push : {X : Type 0} (xs : List X) (y : X) (i : ℕ) (x : X) → slice_get (xs ++ y ∷ []) i ≡ Some x → (slice_get xs i ≡ Some x) ⊎ ((i ≡ length xs) × (x ≡ y))
 get_push [] y zero x got = inr (refl, cc)
 get_push [] y (suc i) x got = absurd (cc)
 get_push (first ∷ xs) y zero x got = inl got
 get_push (first ∷ xs) y (suc i) x got = elim (get_push xs y i x got) [ inl before ↦ inl before | inr last ↦ inr (ap suc last.0, last.1) ]
 
-get_same : {X : Type 0} (xs ys : List X) (i : ℕ) → i < length xs → slice_get (xs ++ ys) i ≡ slice_get xs i
+pub get_same : {X : Type 0} (xs ys : List X) (i : ℕ) → i < length xs → slice_get (xs ++ ys) i ≡ slice_get xs i
 get_same [] ys i within = absurd (omega (arith, within))
 get_same (first ∷ xs) ys zero within = refl
 get_same (first ∷ xs) ys (suc i) within = get_same xs ys i (omega arith)
@@ -129,7 +129,7 @@ get_same (first ∷ xs) ys (suc i) within = get_same xs ys i (omega arith)
 pub same_some : {X : Type 0} {x y : X} → Some x ≡ Some y → x ≡ y
 same_some is = cc
 
-has_number : {X : Type 0} (xs : List X) (x : X) → Contains xs x → (number : ℕ) × (number < length xs) × (slice_get xs number ≡ Some x)
+pub has_number : {X : Type 0} (xs : List X) (x : X) → Contains xs x → (number : ℕ) × (number < length xs) × (slice_get xs number ≡ Some x)
 has_number xs x (k, within, is) = (k, within, slice_get-get_or xs k x within ∙ ap Some is)
 
 module _ (net : Network) (request : Request) where

@@ -18,7 +18,7 @@ pub only_one : (a b : ℕ) → Contains (a ∷ []) b → b ≡ a
 only_one a b (zero, within, is) = sym is
 only_one a b (suc k, within, is) = absurd (omega arith)
 
-below : (a n : ℕ) → a < n + 1 → (a < n) ⊎ (a ≡ n)
+pub below : (a n : ℕ) → a < n + 1 → (a < n) ⊎ (a ≡ n)
 below a zero less = inr (omega arith)
 below zero (suc n) less = inl (omega arith)
 below (suc a) (suc n) less = elim (below a n (omega arith)) [ inl early ↦ inl (omega arith) | inr last ↦ inr (ap suc last) ]

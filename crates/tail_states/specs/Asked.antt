@@ -1,7 +1,8 @@
 -- What is asked of a network and of a request.
-use Rattle.std.specs.Prelude.{◌≡◌, ◌<◌, ◌≤◌, length, All, None}
+use Rattle.std.specs.Prelude.{◌≡◌, ◌<◌, ◌≤◌, ℕ, length, All, Option, None, Some, slice_get}
 use Rattle.rail_types.specs.declared.tracks.Network.{Network}
 use Rattle.rail_types.specs.declared.trains.Request.{Request}
+use Rattle.rail_types.specs.declared.trains.Stop.{Stop}
 use Rattle.rail_types.specs.declared.limits.TheConstants.{MAX_OBJECTS, MAX_STOPS}
 use Rattle.rail_types.specs.Flaws.{first_flaw}
 use Rattle.rail_types.specs.declared.entries.Settings.{Settings}
@@ -25,6 +26,15 @@ pub record IsAsked (net : Network) (request : Request) : Type 0 where
   pub blocks : All IsBlockWithinLimits net.blocks
   pub train : IsTrainWithinLimits request.train
   pub stops : length request.stops ≤ MAX_STOPS
+
+-- the operational point of a stop, or else the destination
+abbrev pub stop_or : ℕ → Option Stop → ℕ
+stop_or destination (Some stop) = stop.stop
+stop_or destination None = destination
+
+-- where the train may stop next, so many named stops being made
+abbrev pub next_stop : Request → ℕ → ℕ
+next_stop request made = stop_or request.destination (slice_get request.stops made)
 
 -- a request within its limits may be asked of a network without a flaw
 abbrev pub SoundNetworksAreAsked : Type 0

@@ -1,9 +1,8 @@
 -- Inside the listing of places: what is known on the way.
 use Rattle.std.specs.Prelude.{◌≡◌, ◌⊎◌, ℕ, ◌<◌, ◌≤◌, true, List, [], ◌∷◌, ◌++◌, length, All}
-use Rattle.std.specs.Prelude.{Contains, Option, Some, None, slice_get}
+use Rattle.std.specs.Prelude.{Contains, Some, slice_get}
 use Rattle.rail_types.specs.declared.tracks.Network.{Network}
 use Rattle.rail_types.specs.declared.trains.Request.{Request}
-use Rattle.rail_types.specs.declared.trains.Stop.{Stop}
 use Rattle.rail_types.specs.declared.limits.TheConstants.{MAX_PLACES}
 use Rattle.running_time.specs.declared.edges.Edge.{Edge}
 use Rattle.blocking_time.specs.Runs.{block_at}
@@ -14,15 +13,6 @@ use Rattle.stair_pieces.specs.Steps.{IsTailIn}
 use Rattle.stair_pieces.specs.Moves.{Reaches, IsMove, IsPlace}
 use Rattle.tail_states.specs.declared.moves.Move.{Move}
 use Rattle.tail_states.specs.Listed.{HasNoneTwice, IsListedMove, HasStep, AreMovesFrom}
-
--- the operational point of a stop, or else the destination
-abbrev pub stop_or : ℕ → Option Stop → ℕ
-stop_or destination (Some stop) = stop.stop
-stop_or destination None = destination
-
--- where the train may stop next, so many named stops being made
-abbrev pub next_stop : Request → ℕ → ℕ
-next_stop request made = stop_or request.destination (slice_get request.stops made)
 
 -- the start place, or a place of the request
 pub record IsPlaceFrom (net : Network) (request : Request) (place : Place) : Type 0 where

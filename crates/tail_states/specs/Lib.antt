@@ -4,3 +4,4 @@ pub mod Asked
 pub mod Alike
 pub mod Following
 pub mod Inside
+pub mod Spots

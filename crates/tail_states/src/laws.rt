@@ -3,6 +3,7 @@
 ghost use Rattle.tail_states.specs.Alike.{WindowsChangeNoPlaces};
 ghost use Rattle.tail_states.specs.Asked.{PlacesMayBeCut, SoundNetworksAreAsked};
 ghost use Rattle.tail_states.specs.Closing.{ExcludesAllPaths, ExcludesEarlierPaths};
+ghost use Rattle.tail_states.specs.Spots.{SoundNetworksAreRun, SpotsBoundPlaces};
 
 use rail_types::networks_without_flaws;
 use stair_pieces::{a_path_fits_run_by_run, a_path_is_a_list_of_moves};
@@ -32,4 +33,17 @@ pub fn windows_change_no_places()
 /// Of the start place and of each place of a request pieces and standing zones may be asked.
 pub fn places_may_be_cut()
     ensures { PlacesMayBeCut }
+{}
+
+/// A train within its limits may run on a network without a flaw.
+pub fn sound_networks_are_run()
+    ensures { SoundNetworksAreRun }
+{
+    networks_without_flaws();
+}
+
+/// Where the spots of a train are few enough for the stops of a request, the request has no more
+/// places than are searched.
+pub fn spots_bound_places()
+    ensures { SpotsBoundPlaces }
 {}

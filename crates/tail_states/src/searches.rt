@@ -20,7 +20,7 @@ ghost use Rattle.running_time.specs.declared.edges.Edge.TheVariants.{Still as Ha
 ghost use Rattle.blocking_time.specs.Runs.{block_at};
 ghost use Rattle.stair_pieces.specs.Moves.{IsEnd, IsMove, MayLeave};
 ghost use Rattle.stair_pieces.specs.Places.{place_after};
-ghost use Rattle.tail_states.specs.Asked.{IsAsked};
+ghost use Rattle.tail_states.specs.Asked.{IsAsked, next_stop};
 ghost use Rattle.tail_states.specs.Following.{AreFollowers};
 ghost use Rattle.tail_states.specs.Listed.{
   AreMovesFrom,
@@ -39,7 +39,6 @@ ghost use Rattle.tail_states.specs.Inside.{
   AreNextBlocks,
   Grows,
   IsPlaceFrom,
-  next_stop,
 };
 
 use crate::adjacency::block_of;
@@ -57,8 +56,8 @@ fn serves(block: &Block, stop: u32) -> bool
     block.serves.as_slice().contains(&stop)
 }
 
-// The operational point of the next named stop, or the destination behind the last.
-fn stop_ahead(request: &Request, made: u32) -> u32
+/// The operational point of the next named stop, or the destination behind the last.
+pub fn stop_ahead(request: &Request, made: u32) -> u32
     ensures { result ≡ next_stop request.now made }
 {
     match request.stops.get(made as usize) {
