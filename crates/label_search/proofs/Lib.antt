@@ -24,3 +24,4 @@ pub mod Leaving
 pub mod Advancing
 pub mod Going
 pub mod Doing
+pub mod Lending

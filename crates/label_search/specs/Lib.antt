@@ -12,3 +12,5 @@ pub mod Found
 pub mod Sought
 pub mod Queues
 pub mod Pending
+pub mod Charts
+pub mod Lent

@@ -7,8 +7,9 @@ ghost use Rattle.label_search.specs.Plans.{IsPlan, IsShort};
 ghost use Rattle.label_search.specs.Paths.{place_at as place_of};
 ghost use Rattle.label_search.specs.Limits.{IsAhead, IsConsistent, IsBound, least_wait as wait_of};
 
+use crate::lent::{LentMove, LentPlace, LentPlan};
 use crate::limits::{Ahead, ahead_at, ahead_to};
-use crate::plans::{Move, Place, Plan, Target};
+use crate::plans::{Plan, Target};
 use no_memory::NoMemory;
 use rail_types::{FAR_TICK, List, Tick};
 use std::alloc::Global;
@@ -45,6 +46,16 @@ pub fn bounds(alloc: Global, plan: &Plan) -> Result<List<Ahead>, NoMemory>
     ensures ahead { IfOk result (All IsAhead) }
     ensures consistent { IfOk result (IsConsistent plan.now) }
 {
+    let ahead = lent_bounds(alloc, &LentPlan::listed(plan))?;
+    Ok(ahead)
+}
+
+/// The same along a plan that is lent.
+pub fn lent_bounds(alloc: Global, plan: &LentPlan) -> Result<List<Ahead>, NoMemory>
+    requires plan { (book : Book) × IsPlan plan.now book }
+    ensures ahead { IfOk result (All IsAhead) }
+    ensures consistent { IfOk result (IsConsistent plan.now) }
+{
     let ahead = List::from_vec(distances(alloc, plan)?);
     if are_ahead(&ahead) && are_bounds(plan, &ahead) {
         return Ok(ahead);
@@ -61,12 +72,12 @@ fn are_ahead(ahead: &List<Ahead>) -> bool
         .all(|one| 0 <= one.ticks && one.ticks <= FAR_TICK)
 }
 
-fn are_bounds(plan: &Plan, ahead: &List<Ahead>) -> bool
+fn are_bounds(plan: &LentPlan, ahead: &List<Ahead>) -> bool
     requires plan { (book : Book) × IsPlan plan.now book }
     requires ahead { All IsAhead ahead.now }
     ensures { IsTrue result → IsConsistent plan.now ahead.now }
 {
-    for place in 0..plan.places.len() {
+    for place in 0..plan.count() {
         if !is_bound(plan, ahead, place) {
             return false;
         }
@@ -74,19 +85,18 @@ fn are_bounds(plan: &Plan, ahead: &List<Ahead>) -> bool
     true
 }
 
-fn is_bound(plan: &Plan, ahead: &List<Ahead>, place: usize) -> bool
+fn is_bound(plan: &LentPlan, ahead: &List<Ahead>, place: usize) -> bool
     requires plan { (book : Book) × IsPlan plan.now book }
     requires ahead { All IsAhead ahead.now }
     requires place { place < length plan.now.places }
     ensures { IsTrue result → (number : ℕ) → number < length (place_of plan.now place).moves
         → IsBound plan.now ahead.now place number }
 {
-    let here = &plan.places.as_slice()[place];
+    let here = plan.place(place);
     let least = ahead_at(ahead, place);
-    let moves = here.moves.as_slice();
-    for number in 0..moves.len() {
-        let step = &moves[number];
-        if !is_least(here, step, &least, &ahead_to(ahead, &step.target)) {
+    for number in 0..here.moves.len() {
+        let step = here.moves.get(number);
+        if !is_least(&here, &step, &least, &ahead_to(ahead, &step)) {
             return false;
         }
     }
@@ -95,7 +105,7 @@ fn is_bound(plan: &Plan, ahead: &List<Ahead>, place: usize) -> bool
 
 // Whether a move from a place with the wait before it takes the ticks by
 // which it brings the end nearer.
-fn is_least(place: &Place, step: &Move, here: &Ahead, there: &Ahead) -> bool
+fn is_least(place: &LentPlace, step: &LentMove, here: &Ahead, there: &Ahead) -> bool
     requires dwell { IsShort place.now.dwell }
     requires run { IsShort step.now.run }
     requires there { IsAhead there.now }
@@ -110,8 +120,8 @@ fn is_least(place: &Place, step: &Move, here: &Ahead, there: &Ahead) -> bool
 }
 
 // The least ticks to the end, which stands as one place behind the others.
-fn distances(alloc: Global, plan: &Plan) -> Result<Vec<Ahead>, NoMemory> {
-    let end = plan.places.len();
+fn distances(alloc: Global, plan: &LentPlan) -> Result<Vec<Ahead>, NoMemory> {
+    let end = plan.count();
     let entries = entries_of(alloc, plan)?;
     let mut ahead = all_far(alloc, end)?;
     let mut open = Vec::new(alloc);
@@ -184,33 +194,34 @@ fn comes_nearer(ahead: &mut [Ahead], entry: &Entry, there: &Ahead) -> bool {
 }
 
 // The moves into each place, and into the end.
-fn entries_of(alloc: Global, plan: &Plan) -> Result<Entries, NoMemory> {
-    let places = plan.places.as_slice();
+fn entries_of(alloc: Global, plan: &LentPlan) -> Result<Entries, NoMemory> {
+    let end = plan.count();
     let mut firsts = Vec::new(alloc);
-    for _ in 0..=places.len() {
+    for _ in 0..=end {
         firsts.push(0usize)?;
     }
-    for place in places {
-        count_moves(firsts.as_mut_slice(), places.len(), place);
+    for from in 0..end {
+        count_moves(firsts.as_mut_slice(), end, &plan.place(from));
     }
     let count = sum_up(firsts.as_mut_slice());
     let mut entries = no_entries(alloc, count)?;
-    for from in 0..places.len() {
+    for from in 0..end {
         enter(
             firsts.as_mut_slice(),
             entries.as_mut_slice(),
-            places.len(),
+            end,
             from,
-            &places[from],
+            &plan.place(from),
         );
     }
     Ok(Entries { firsts, entries })
 }
 
 // How many moves lead to each place.
-fn count_moves(counts: &mut [usize], end: usize, place: &Place) {
-    for step in place.moves.as_slice() {
-        if let Some(count) = counts.get_mut(target_of(step, end)) {
+fn count_moves(counts: &mut [usize], end: usize, place: &LentPlace) {
+    for number in 0..place.moves.len() {
+        let step = place.moves.get(number);
+        if let Some(count) = counts.get_mut(target_of(&step, end)) {
             *count = count.saturating_add(1);
         }
     }
@@ -235,10 +246,11 @@ fn no_entries(alloc: Global, count: usize) -> Result<Vec<Entry>, NoMemory> {
 }
 
 // Puts the moves from a place before those that stand at their places already.
-fn enter(firsts: &mut [usize], entries: &mut [Entry], end: usize, from: usize, place: &Place) {
+fn enter(firsts: &mut [usize], entries: &mut [Entry], end: usize, from: usize, place: &LentPlace) {
     let wait = if place.standing { place.dwell } else { 0 };
-    for step in place.moves.as_slice() {
-        let Some(first) = firsts.get_mut(target_of(step, end)) else {
+    for number in 0..place.moves.len() {
+        let step = place.moves.get(number);
+        let Some(first) = firsts.get_mut(target_of(&step, end)) else {
             continue;
         };
         *first = first.saturating_sub(1);
@@ -251,7 +263,7 @@ fn enter(firsts: &mut [usize], entries: &mut [Entry], end: usize, from: usize, p
     }
 }
 
-fn target_of(step: &Move, end: usize) -> usize {
+fn target_of(step: &LentMove, end: usize) -> usize {
     match step.target {
         Target::Place(to) => to as usize,
         Target::End => end,

@@ -8,6 +8,7 @@ ghost use Rattle.label_search.specs.Limits.{IsAhead, IsConsistent, IsLimits};
 ghost use Rattle.label_search.specs.Found.{IsFinding, IsFoundBelow};
 
 use crate::firsts::explore_first;
+use crate::lent::LentPlan;
 use crate::limits::{Ahead, Limits};
 use crate::paths::path_to;
 use crate::plans::{Plan, Step, Trip};
@@ -37,8 +38,25 @@ pub fn find(
     requires consistent { IsConsistent plan.now ahead.now }
     ensures { IfOk result (IsFinding plan.now trip.now book.now) }
 {
+    let finding = find_lent(alloc, &LentPlan::listed(plan), book, trip, ahead)?;
+    Ok(finding)
+}
+
+/// The same along a plan that is lent.
+pub fn find_lent(
+    alloc: Global,
+    plan: &LentPlan,
+    book: &Occupations,
+    trip: &Trip,
+    ahead: &List<Ahead>,
+) -> Result<Finding, NoMemory>
+    requires plan { IsPlan plan.now book.now }
+    requires ahead { All IsAhead ahead.now }
+    requires consistent { IsConsistent plan.now ahead.now }
+    ensures { IfOk result (IsFinding plan.now trip.now book.now) }
+{
     let limits = limits_behind(alloc, plan, trip, ahead)?;
-    let found = find_below(alloc, plan, book, trip, limits)?;
+    let found = find_lent_below(alloc, plan, book, trip, limits)?;
     let Some(steps) = found else {
         return Ok(Finding::NoPath);
     };
@@ -49,6 +67,22 @@ pub fn find(
 pub fn find_below(
     alloc: Global,
     plan: &Plan,
+    book: &Occupations,
+    trip: &Trip,
+    limits: Limits,
+) -> Result<Option<List<Step>>, NoMemory>
+    requires plan { IsPlan plan.now book.now }
+    requires limits { IsLimits limits }
+    requires consistent { IsConsistent plan.now limits.ahead }
+    ensures { IfOk result (IsFoundBelow plan.now trip.now book.now limits.below) }
+{
+    let found = find_lent_below(alloc, &LentPlan::listed(plan), book, trip, limits)?;
+    Ok(found)
+}
+
+fn find_lent_below(
+    alloc: Global,
+    plan: &LentPlan,
     book: &Occupations,
     trip: &Trip,
     limits: Limits,
@@ -69,7 +103,7 @@ pub fn find_below(
 // A limit that no path can arrive behind.
 fn limits_behind(
     alloc: Global,
-    plan: &Plan,
+    plan: &LentPlan,
     trip: &Trip,
     ahead: &List<Ahead>,
 ) -> Result<Limits, NoMemory>
@@ -88,7 +122,7 @@ fn limits_behind(
 }
 
 // The last tick by which a path can arrive, or 0.
-fn last_arrival(plan: &Plan, trip: &Trip) -> Ahead
+fn last_arrival(plan: &LentPlan, trip: &Trip) -> Ahead
     ensures { result.ticks ≡ int_max (int_min plan.now.horizon trip.now.arrive.to) (pos 0) }
 {
     Ahead {

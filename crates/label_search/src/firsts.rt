@@ -19,8 +19,9 @@ ghost use Rattle.label_search.specs.Pending.{IsToBeLeft, stop_at, waited as wait
 ghost use Rattle.label_search.specs.declared.queues.Due.{Due as due_type};
 
 use crate::labels::Front;
+use crate::lent::{LentMove, LentPlace, LentPlan};
 use crate::limits::{Ahead, Limits, ahead_at, ahead_to};
-use crate::plans::{Move, Place, Plan, Trip};
+use crate::plans::Trip;
 use crate::queues::{Due, Queue, Task, Work};
 use crate::searches::{
     Search, enters, go_on_at_once, move_at, place_at, reach, ready_ticks, start, until_the_horizon,
@@ -42,7 +43,7 @@ struct Onward {
 // What the search has when no work is due before its best end.
 pub(crate) fn explore_first(
     alloc: Global,
-    plan: &Plan,
+    plan: &LentPlan,
     book: &Occupations,
     trip: &Trip,
     limits: Limits,
@@ -86,7 +87,7 @@ fn stop_of(search: &Search) -> Ahead
 // Does work of a label.
 fn take_up(
     alloc: Global,
-    plan: &Plan,
+    plan: &LentPlan,
     book: &Occupations,
     trip: &Trip,
     search: &mut Search,
@@ -142,7 +143,7 @@ fn part_from(front: &Front, from: &Tick) -> Front
 // All work of a label: the waits, where the train stands there and has not waited, else the moves.
 fn leave(
     alloc: Global,
-    plan: &Plan,
+    plan: &LentPlan,
     book: &Occupations,
     trip: &Trip,
     search: &mut Search,
@@ -167,7 +168,7 @@ fn leave(
 
 fn leave_moves(
     alloc: Global,
-    plan: &Plan,
+    plan: &LentPlan,
     book: &Occupations,
     trip: &Trip,
     search: &mut Search,
@@ -187,7 +188,7 @@ fn leave_moves(
         number) }
 {
     let place = place_at(plan, front.place);
-    for number in 0..place.moves.len() {
+    for number in 0..place.count() {
         let onward = Onward { label, number };
         go_on(alloc, plan, book, trip, search, queue, front, onward)?;
     }
@@ -196,7 +197,7 @@ fn leave_moves(
 
 fn leave_waits(
     alloc: Global,
-    plan: &Plan,
+    plan: &LentPlan,
     book: &Occupations,
     trip: &Trip,
     search: &mut Search,
@@ -224,7 +225,7 @@ fn leave_waits(
 // A move at ticks of a label, where there is such a move and the train can go on.
 fn move_on(
     alloc: Global,
-    plan: &Plan,
+    plan: &LentPlan,
     book: &Occupations,
     trip: &Trip,
     search: &mut Search,
@@ -244,7 +245,7 @@ fn move_on(
         search.new queue.new onward.label part.now.place tick onward.number) }
 {
     let place = place_at(plan, part.place);
-    if onward.number >= place.moves.len() {
+    if onward.number >= place.count() {
         return Ok(());
     }
     if place.standing && !part.ready {
@@ -256,7 +257,7 @@ fn move_on(
 // The waits from ticks of a label, where the train stands there and has not waited.
 fn wait_on(
     alloc: Global,
-    plan: &Plan,
+    plan: &LentPlan,
     book: &Occupations,
     trip: &Trip,
     search: &mut Search,
@@ -283,7 +284,7 @@ fn wait_on(
 // The first free ticks of a move among those of a label; what is behind them waits.
 fn go_on(
     alloc: Global,
-    plan: &Plan,
+    plan: &LentPlan,
     book: &Occupations,
     trip: &Trip,
     search: &mut Search,
@@ -303,8 +304,8 @@ fn go_on(
         part.now.place tick onward.number) }
 {
     let step = move_at(plan, part.place, onward.number);
-    let rest = enters(part, plan, &search.limits, step);
-    let Some(free) = next_start(step.pieces.as_slice(), book, &rest) else {
+    let rest = enters(part, plan, &search.limits, &step);
+    let Some(free) = next_start(step.pieces(), book, &rest) else {
         return Ok(());
     };
     let known = search.labels.len();
@@ -313,12 +314,12 @@ fn go_on(
     if free.to >= rest.to {
         return Ok(());
     }
-    let ahead = ahead_to(&search.limits.ahead, &step.target);
-    queue.push(alloc, &move_behind(&free, step, &ahead, onward))
+    let ahead = ahead_to(&search.limits.ahead, &step);
+    queue.push(alloc, &move_behind(&free, &step, &ahead, onward))
 }
 
 // A move behind its first free ticks.
-fn move_behind(free: &Window, step: &Move, ahead: &Ahead, onward: Onward) -> Due
+fn move_behind(free: &Window, step: &LentMove, ahead: &Ahead, onward: Onward) -> Due
     requires near { IsNear free.now.from × IsNear free.now.to }
     requires run { IsShort step.now.run }
     requires ahead { IsAhead ahead.now }
@@ -342,7 +343,7 @@ fn move_behind(free: &Window, step: &Move, ahead: &Ahead, onward: Onward) -> Due
 // label; what is behind them waits.
 fn go_on_waiting(
     alloc: Global,
-    plan: &Plan,
+    plan: &LentPlan,
     book: &Occupations,
     trip: &Trip,
     search: &mut Search,
@@ -362,7 +363,7 @@ fn go_on_waiting(
 {
     let place = place_at(plan, part.place);
     let rest = until_the_horizon(&part.ticks, plan);
-    let Some(free) = next_start(place.waits.as_slice(), book, &rest) else {
+    let Some(free) = next_start(place.waits(), book, &rest) else {
         return Ok(());
     };
     if free.from > part.ticks.to {
@@ -375,7 +376,7 @@ fn go_on_waiting(
         trip,
         search,
         part,
-        &ready_ticks(&free, place, plan),
+        &ready_ticks(&free, &place, plan),
     )?;
     leave_later(alloc, plan, book, trip, search, queue, known)?;
     if free.to >= part.ticks.to {
@@ -409,7 +410,7 @@ fn waits_behind(free: &Window, ahead: &Ahead, label: usize) -> Due
 // All work of the labels from a number on.
 fn leave_later(
     alloc: Global,
-    plan: &Plan,
+    plan: &LentPlan,
     book: &Occupations,
     trip: &Trip,
     search: &Search,
@@ -430,7 +431,7 @@ fn leave_later(
 // All work of a label, unless what it leads to cannot arrive below the limit.
 fn leave_one(
     alloc: Global,
-    plan: &Plan,
+    plan: &LentPlan,
     book: &Occupations,
     trip: &Trip,
     search: &Search,
@@ -446,7 +447,7 @@ fn leave_one(
     let front = search.labels.front(label);
     let place = place_at(plan, front.place);
     let ahead = ahead_at(&search.limits.ahead, front.place as usize);
-    let due = leaving(&front, &waited(front.ready, place), &ahead, label);
+    let due = leaving(&front, &waited(front.ready, &place), &ahead, label);
     if due.tick >= search.limits.below {
         return Ok(());
     }
@@ -472,7 +473,7 @@ fn leaving(front: &Front, waited: &Ahead, ahead: &Ahead, label: usize) -> Due
 }
 
 // The ticks that a train has waited that is ready at a place.
-fn waited(ready: bool, place: &Place) -> Ahead
+fn waited(ready: bool, place: &LentPlace) -> Ahead
     requires dwell { IsShort place.now.dwell }
     ensures value { result.ticks ≡ waited_there place.now ready }
     ensures short { IsShort result.ticks }

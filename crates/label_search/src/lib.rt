@@ -2,10 +2,13 @@
 #![tactic(auto)]
 
 mod bounding;
+mod chart_loans;
+mod charts;
 mod finds;
 mod firsts;
 mod labels;
 mod laws;
+mod lent;
 mod limits;
 mod paths;
 mod plans;
@@ -15,13 +18,15 @@ mod seeks;
 mod seen;
 mod stretches;
 
-pub use bounding::bounds;
-pub use finds::{Finding, find, find_below};
+pub use bounding::{bounds, lent_bounds};
+pub use charts::{Chart, ChartCall, ChartSpot, ChartWay};
+pub use finds::{Finding, find, find_below, find_lent};
 pub use labels::{Label, Origin};
 pub use laws::{
     closed_below_all_is_closed, closed_below_excludes_earlier_paths, closed_members_exclude_paths,
     limits_are_these,
 };
+pub use lent::{LentPlan, way_on_chart};
 pub use limits::{Ahead, Limits};
 pub use plans::{LATEST, Member, Move, Place, Plan, Step, Target, Trip};
 pub use seeks::{Sought, search, seek};

@@ -4,6 +4,7 @@ ghost use Rattle.std.specs.Prelude.{◌≡◌, [], All};
 ghost use Rattle.label_search.specs.Limits.{IsAhead, ahead_at as place_ahead};
 ghost use Rattle.label_search.specs.Limits.{ahead_to as next_ahead};
 
+use crate::lent::LentMove;
 use crate::plans::Target;
 use rail_types::{FAR_TICK, List, Tick};
 use std::alloc::Global;
@@ -33,12 +34,12 @@ pub(crate) fn no_limits(alloc: Global) -> Limits
     }
 }
 
-pub(crate) fn ahead_to(ahead: &List<Ahead>, target: &Target) -> Ahead
+pub(crate) fn ahead_to(ahead: &List<Ahead>, step: &LentMove) -> Ahead
     requires { All IsAhead ahead.now }
-    ensures value { result ≡ next_ahead ahead.now target.now }
+    ensures value { result ≡ next_ahead ahead.now step.now.target }
     ensures ahead { IsAhead result }
 {
-    match *target {
+    match step.target() {
         Target::Place(place) => ahead_at(ahead, place as usize),
         Target::End => Ahead { ticks: 0 },
     }

@@ -7,7 +7,8 @@ ghost use Rattle.label_search.specs.Plans.{IsPlan, IsShort};
 ghost use Rattle.label_search.specs.Search.{IsEnding, IsSearch};
 
 use crate::labels::{Moment, Origin};
-use crate::plans::{Move, Place, Plan, Step, Trip};
+use crate::lent::{LentMove, LentPlace, LentPlan};
+use crate::plans::{Step, Trip};
 use crate::searches::{Ending, Search, move_at, place_at};
 use no_memory::NoMemory;
 use occupation_book::Occupations;
@@ -17,7 +18,7 @@ use std::alloc::Global;
 /// The path that ends there, as early as the ending allows.
 pub(crate) fn path_to(
     alloc: Global,
-    plan: &Plan,
+    plan: &LentPlan,
     book: &Occupations,
     trip: &Trip,
     search: &Search,
@@ -32,7 +33,7 @@ pub(crate) fn path_to(
 {
     let mut steps = Vec::new(alloc);
     let step = move_at(plan, ending.place, ending.number);
-    let mut at = entered(step, ending.place, ending.ready, &end_of(ending));
+    let mut at = entered(&step, ending.place, ending.ready, &end_of(ending));
     steps.push(step_of(ending.number, &at))?;
     let mut until = search.labels.len();
     loop {
@@ -44,14 +45,14 @@ pub(crate) fn path_to(
                 return Ok(List::from_vec(steps));
             }
             Origin::Wait { arrivals } => {
-                at = came(&arrivals, place_at(plan, at.place), &at);
+                at = came(&arrivals, &place_at(plan, at.place), &at);
             }
             Origin::Move {
                 from,
                 ready,
                 number,
             } => {
-                at = entered(move_at(plan, from, number), from, ready, &at);
+                at = entered(&move_at(plan, from, number), from, ready, &at);
                 steps.push(step_of(number, &at))?;
             }
         }
@@ -69,7 +70,7 @@ fn end_of(ending: &Ending) -> Moment
 }
 
 // When the train entered the move that it left at a moment.
-fn entered(step: &Move, place: u32, ready: bool, left: &Moment) -> Moment
+fn entered(step: &LentMove, place: u32, ready: bool, left: &Moment) -> Moment
     requires tick { IsShort left.now.tick }
     requires run { IsShort step.now.run }
     ensures place { result.place ≡ place }
@@ -84,7 +85,7 @@ fn entered(step: &Move, place: u32, ready: bool, left: &Moment) -> Moment
 }
 
 // When the train came, at the latest, that goes on at a moment.
-fn came(arrivals: &Window, place: &Place, on: &Moment) -> Moment
+fn came(arrivals: &Window, place: &LentPlace, on: &Moment) -> Moment
     requires tick { IsShort on.now.tick }
     requires dwell { IsShort place.now.dwell }
     ensures place { result.place ≡ on.now.place }

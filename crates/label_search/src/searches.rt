@@ -18,8 +18,9 @@ ghost use Rattle.label_search.specs.Search.{IsExploredTo, IsFrontOf, IsFurther, 
 ghost use Rattle.label_search.specs.Search.{IsOneOf, IsSearch, IsStarted, IsWaited, step_at};
 
 use crate::labels::{Front, Label, Labels, Origin};
+use crate::lent::{LentMove, LentPlace, LentPlan};
 use crate::limits::{Ahead, Limits, ahead_to};
-use crate::plans::{Move, Place, Plan, Target, Trip};
+use crate::plans::{Target, Trip};
 use crate::stretches::behind;
 use free_windows::next_start;
 use no_memory::NoMemory;
@@ -47,7 +48,7 @@ pub(crate) struct Search {
 // All labels, each explored.
 pub(crate) fn explore_all(
     alloc: Global,
-    plan: &Plan,
+    plan: &LentPlan,
     book: &Occupations,
     trip: &Trip,
     limits: Limits,
@@ -72,7 +73,7 @@ pub(crate) fn explore_all(
 }
 
 fn explore_fronts(
-    plan: &Plan,
+    plan: &LentPlan,
     book: &Occupations,
     trip: &Trip,
     search: &mut Search,
@@ -96,7 +97,7 @@ fn explore_fronts(
 // The label of the start.
 pub(crate) fn start(
     alloc: Global,
-    plan: &Plan,
+    plan: &LentPlan,
     book: &Occupations,
     trip: &Trip,
     limits: Limits,
@@ -107,7 +108,7 @@ pub(crate) fn start(
     ensures search { IfOk result (IsSearch plan.now trip.now book.now) }
     ensures started { IfOk result (IsStarted plan.now trip.now) }
 {
-    let mut labels = Labels::new(alloc, plan.places.len())?;
+    let mut labels = Labels::new(alloc, plan.count())?;
     labels.add(&Label {
         place: 0,
         ready: true,
@@ -121,7 +122,7 @@ pub(crate) fn start(
     })
 }
 
-fn departures(trip: &Trip, plan: &Plan) -> Window
+fn departures(trip: &Trip, plan: &LentPlan) -> Window
     ensures from { result.from ≡ int_max trip.now.depart.from (pos 0) }
     ensures to { result.to ≡ int_min trip.now.depart.to plan.now.horizon }
 {
@@ -134,7 +135,7 @@ fn departures(trip: &Trip, plan: &Plan) -> Window
 // Explores ticks of a place: the waits, where the train stands there and
 // has not waited, else the moves.
 fn explore(
-    plan: &Plan,
+    plan: &LentPlan,
     book: &Occupations,
     trip: &Trip,
     search: &mut Search,
@@ -156,7 +157,7 @@ fn explore(
 }
 
 fn explore_moves(
-    plan: &Plan,
+    plan: &LentPlan,
     book: &Occupations,
     trip: &Trip,
     search: &mut Search,
@@ -173,14 +174,14 @@ fn explore_moves(
         → IsMoveExplored plan.now trip.now book.now front.now.place tick number search.new) }
 {
     let place = place_at(plan, front.place);
-    for number in 0..place.moves.len() {
+    for number in 0..place.count() {
         explore_move(plan, book, trip, search, front, number)?;
     }
     Ok(())
 }
 
 fn explore_move(
-    plan: &Plan,
+    plan: &LentPlan,
     book: &Occupations,
     trip: &Trip,
     search: &mut Search,
@@ -198,8 +199,8 @@ fn explore_move(
         → IsMoveExplored plan.now trip.now book.now front.now.place tick number search.new) }
 {
     let step = move_at(plan, front.place, number);
-    let mut rest = enters(front, plan, &search.limits, step);
-    while let Some(free) = next_start(step.pieces.as_slice(), book, &rest) {
+    let mut rest = enters(front, plan, &search.limits, &step);
+    while let Some(free) = next_start(step.pieces(), book, &rest) {
         reach(plan, book, trip, search, front, number, &free)?;
         rest = behind(&rest, &free);
     }
@@ -208,7 +209,7 @@ fn explore_move(
 
 // What a move leads to that is entered at any of these ticks of a label.
 pub(crate) fn reach(
-    plan: &Plan,
+    plan: &LentPlan,
     book: &Occupations,
     trip: &Trip,
     search: &mut Search,
@@ -235,8 +236,8 @@ pub(crate) fn reach(
         (leave_of plan.now front.now.place (step_at number enter))) }
 {
     let step = move_at(plan, front.place, number);
-    let leaves = later(free, step);
-    match step.target {
+    let leaves = later(free, &step);
+    match step.target() {
         Target::Place(place) => {
             let origin = Origin::Move {
                 from: front.place,
@@ -301,7 +302,7 @@ fn shared(one: &Window, other: &Window) -> Window
 }
 
 fn explore_waits(
-    plan: &Plan,
+    plan: &LentPlan,
     book: &Occupations,
     trip: &Trip,
     search: &mut Search,
@@ -320,7 +321,7 @@ fn explore_waits(
     let place = place_at(plan, front.place);
     go_on_at_once(plan, book, trip, search, front)?;
     let mut rest = until_the_horizon(&front.ticks, plan);
-    while let Some(free) = next_start(place.waits.as_slice(), book, &rest) {
+    while let Some(free) = next_start(place.waits(), book, &rest) {
         if free.from > front.ticks.to {
             return Ok(());
         }
@@ -330,7 +331,7 @@ fn explore_waits(
             trip,
             search,
             front,
-            &ready_ticks(&free, place, plan),
+            &ready_ticks(&free, &place, plan),
         )?;
         rest = behind(&rest, &free);
     }
@@ -339,7 +340,7 @@ fn explore_waits(
 
 // Where there is no dwell the train can go on when it comes.
 pub(crate) fn go_on_at_once(
-    plan: &Plan,
+    plan: &LentPlan,
     book: &Occupations,
     trip: &Trip,
     search: &mut Search,
@@ -364,7 +365,7 @@ pub(crate) fn go_on_at_once(
 
 // A label for the ticks at which the train can go on, after it came at those of another.
 pub(crate) fn wait(
-    plan: &Plan,
+    plan: &LentPlan,
     book: &Occupations,
     trip: &Trip,
     search: &mut Search,
@@ -393,24 +394,24 @@ pub(crate) fn wait(
     })
 }
 
-pub(crate) fn place_at(plan: &Plan, place: u32) -> &Place
+pub(crate) fn place_at<'a>(plan: &LentPlan<'a>, place: u32) -> LentPlace<'a>
     requires { place < length plan.now.places }
-    ensures { result.now ≡ place_of plan.now place }
+    ensures { result ≡ place_of plan.now place }
 {
-    &plan.places.as_slice()[place as usize]
+    plan.place(place as usize)
 }
 
-pub(crate) fn move_at(plan: &Plan, place: u32, number: usize) -> &Move
+pub(crate) fn move_at<'a>(plan: &LentPlan<'a>, place: u32, number: usize) -> LentMove<'a>
     requires place { place < length plan.now.places }
     requires number { number < length (place_of plan.now place).moves }
-    ensures { result.now ≡ move_of plan.now place number }
+    ensures { result ≡ move_of plan.now place number }
 {
-    &place_at(plan, place).moves.as_slice()[number]
+    place_at(plan, place).moves.get(number)
 }
 
 // The ticks of a label at which a move can be entered, leave by the
 // horizon and end below the limit.
-pub(crate) fn enters(front: &Front, plan: &Plan, limits: &Limits, step: &Move) -> Window
+pub(crate) fn enters(front: &Front, plan: &LentPlan, limits: &Limits, step: &LentMove) -> Window
     requires horizon { IsShort plan.now.horizon }
     requires run { IsShort step.now.run }
     requires limits { IsLimits limits.now }
@@ -418,12 +419,12 @@ pub(crate) fn enters(front: &Front, plan: &Plan, limits: &Limits, step: &Move) -
     ensures to { result.to ≡ int_min (int_min front.now.ticks.to (plan.now.horizon -ℤ
         step.now.run)) (last_enter limits.now step.now) }
 {
-    let ahead = ahead_to(&limits.ahead, &step.target);
+    let ahead = ahead_to(&limits.ahead, step);
     let within = enters_within(front, plan, step);
     until_the_limit(&within, limits, step, &ahead)
 }
 
-fn enters_within(front: &Front, plan: &Plan, step: &Move) -> Window
+fn enters_within(front: &Front, plan: &LentPlan, step: &LentMove) -> Window
     requires horizon { IsShort plan.now.horizon }
     requires run { IsShort step.now.run }
     ensures from { result.from ≡ front.now.ticks.from }
@@ -435,7 +436,7 @@ fn enters_within(front: &Front, plan: &Plan, step: &Move) -> Window
     }
 }
 
-fn until_the_limit(within: &Window, limits: &Limits, step: &Move, ahead: &Ahead) -> Window
+fn until_the_limit(within: &Window, limits: &Limits, step: &LentMove, ahead: &Ahead) -> Window
     requires run { IsShort step.now.run }
     requires below { IsNear limits.now.below }
     requires ahead { IsAhead ahead.now }
@@ -449,7 +450,7 @@ fn until_the_limit(within: &Window, limits: &Limits, step: &Move, ahead: &Ahead)
     }
 }
 
-fn later(free: &Window, step: &Move) -> Window
+fn later(free: &Window, step: &LentMove) -> Window
     requires near { IsNear free.now.from × IsNear free.now.to }
     requires run { IsShort step.now.run }
     ensures from { result.from ≡ free.now.from +ℤ step.now.run }
@@ -461,7 +462,7 @@ fn later(free: &Window, step: &Move) -> Window
     }
 }
 
-pub(crate) fn until_the_horizon(ticks: &Window, plan: &Plan) -> Window
+pub(crate) fn until_the_horizon(ticks: &Window, plan: &LentPlan) -> Window
     ensures from { result.from ≡ ticks.now.from }
     ensures to { result.to ≡ plan.now.horizon }
 {
@@ -473,7 +474,7 @@ pub(crate) fn until_the_horizon(ticks: &Window, plan: &Plan) -> Window
 
 // The ticks at which the train can go on that stands at free ticks: it may
 // leave as the last of them ends.
-pub(crate) fn ready_ticks(free: &Window, place: &Place, plan: &Plan) -> Window
+pub(crate) fn ready_ticks(free: &Window, place: &LentPlace, plan: &LentPlan) -> Window
     requires near { IsNear free.now.from × IsNear free.now.to }
     requires dwell { IsShort place.now.dwell }
     ensures from { result.from ≡ free.now.from +ℤ place.now.dwell }

@@ -5,6 +5,7 @@ ghost use Rattle.label_search.specs.Plans.{IsPlan};
 ghost use Rattle.label_search.specs.Sought.{IsSearched, IsSought};
 ghost use Rattle.label_search.specs.Limits.{IsConsistent, IsLimits};
 
+use crate::lent::LentPlan;
 use crate::limits::{Limits, no_limits};
 use crate::paths::path_to;
 use crate::plans::{Member, Plan, Step, Trip};
@@ -27,6 +28,22 @@ pub enum Sought {
 pub fn search(
     alloc: Global,
     plan: &Plan,
+    book: &Occupations,
+    trip: &Trip,
+    limits: Limits,
+) -> Result<Sought, NoMemory>
+    requires plan { IsPlan plan.now book.now }
+    requires limits { IsLimits limits }
+    requires consistent { IsConsistent plan.now limits.ahead }
+    ensures { IfOk result (IsSearched plan.now trip.now book.now limits) }
+{
+    let sought = search_lent(alloc, &LentPlan::listed(plan), book, trip, limits)?;
+    Ok(sought)
+}
+
+fn search_lent(
+    alloc: Global,
+    plan: &LentPlan,
     book: &Occupations,
     trip: &Trip,
     limits: Limits,

@@ -19,7 +19,7 @@ returns-in_default-clause-advanced c = advanced_none c.args.plan.now c.args.sear
 
 pub returns-in_default-clause-done : goal.returns-in_default-clause-done
 returns-in_default-clause-done c =
-    none_in_hand c.args.plan.now c.args.book.now c.args.part.now c.args.onward.number c.move_at-step.result.now c.move_at-step.ensures c.as_slice.result.now c.as_slice.ensures c.enters-rest.result c.requires.part.ticks.0 c.enters-rest.ensures.from c.args.search.now.limits c.enters-rest.ensures.to c.args.trip.now c.args.search.now refl c.args.queue.now c.args.onward.label (c.in_default.ensures.none refl)
+    none_in_hand c.args.plan.now c.args.book.now c.args.part.now c.args.onward.number c.move_at-step.result c.move_at-step.ensures c.pieces.result.now c.pieces.ensures c.enters-rest.result c.requires.part.ticks.0 c.enters-rest.ensures.from c.args.search.now.limits c.enters-rest.ensures.to c.args.trip.now c.args.search.now refl c.args.queue.now c.args.onward.label (c.in_default.ensures.none refl)
 
 pub reach-requires-clause-held : goal.reach-requires-clause-held
 reach-requires-clause-held c enter held =
@@ -31,12 +31,12 @@ reach-requires-clause-held c enter held =
 pub reach-requires-clause-free : goal.reach-requires-clause-free
 reach-requires-clause-free c =
     let from = c.enters-rest.ensures.from in
-    free_moves c.args.plan.now c.args.book.now c.args.part.now c.args.onward.number c.move_at-step.result.now c.move_at-step.ensures c.as_slice.result.now c.as_slice.ensures c.enters-rest.result c.requires.part.ticks.0 (omega (arith, ints)) c.args.search.now.limits c.enters-rest.ensures.to c.requires.number c.in-Some.free c.in-Some.ensures.found
+    free_moves c.args.plan.now c.args.book.now c.args.part.now c.args.onward.number c.move_at-step.result c.move_at-step.ensures c.pieces.result.now c.pieces.ensures c.enters-rest.result c.requires.part.ticks.0 (omega (arith, ints)) c.args.search.now.limits c.enters-rest.ensures.to c.requires.number c.in-Some.free c.in-Some.ensures.found
 
 pub reach-requires-clause-below : goal.reach-requires-clause-below
 reach-requires-clause-below c =
     let from = c.enters-rest.ensures.from in
-    free_below c.args.plan.now c.args.book.now c.args.part.now c.args.onward.number c.move_at-step.result.now c.move_at-step.ensures c.as_slice.result.now c.as_slice.ensures c.enters-rest.result c.requires.part.ticks.0 (omega (arith, ints)) c.args.search.now.limits c.enters-rest.ensures.to c.in-Some.free c.in-Some.ensures.found c.args.search.now.limits refl
+    free_below c.args.plan.now c.args.book.now c.args.part.now c.args.onward.number c.move_at-step.result c.move_at-step.ensures c.pieces.result.now c.pieces.ensures c.enters-rest.result c.requires.part.ticks.0 (omega (arith, ints)) c.args.search.now.limits c.enters-rest.ensures.to c.in-Some.free c.in-Some.ensures.found c.args.search.now.limits refl
 
 pub returns-then-free-rest-clause-advanced : goal.returns-then-free-rest-clause-advanced
 returns-then-free-rest-clause-advanced c =
@@ -45,7 +45,7 @@ returns-then-free-rest-clause-advanced c =
 pub returns-then-free-rest-clause-done : goal.returns-then-free-rest-clause-done
 returns-then-free-rest-clause-done c =
     let late = c.if-free-rest.true in
-    last_in_hand c.args.plan.now c.args.book.now c.args.part.now c.args.onward.number c.move_at-step.result.now c.move_at-step.ensures c.as_slice.result.now c.as_slice.ensures c.enters-rest.result c.requires.part.ticks.0 c.enters-rest.ensures.from c.args.search.now.limits c.enters-rest.ensures.to c.args.trip.now c.args.search.now c.reach.new.search refl c.reach.ensures.further c.in-Some.free c.in-Some.ensures.found c.in_ok-reach.ensures.admitted c.leave_later.new.queue c.args.onward.label (omega (arith, ints))
+    last_in_hand c.args.plan.now c.args.book.now c.args.part.now c.args.onward.number c.move_at-step.result c.move_at-step.ensures c.pieces.result.now c.pieces.ensures c.enters-rest.result c.requires.part.ticks.0 c.enters-rest.ensures.from c.args.search.now.limits c.enters-rest.ensures.to c.args.trip.now c.args.search.now c.reach.new.search refl c.reach.ensures.further c.in-Some.free c.in-Some.ensures.found c.in_ok-reach.ensures.admitted c.leave_later.new.queue c.args.onward.label (omega (arith, ints))
 
 pub move_behind-requires-clause-near : goal.move_behind-requires-clause-near
 move_behind-requires-clause-near c =
@@ -67,5 +67,5 @@ returns-clause-advanced c = on_ok_weaker c.push.result
 
 pub returns-clause-done : goal.returns-clause-done
 returns-clause-done c = on_ok_weaker c.push.result
-    (rest_in_hand c.args.plan.now c.args.book.now c.args.part.now c.args.onward.number c.move_at-step.result.now c.move_at-step.ensures c.as_slice.result.now c.as_slice.ensures c.enters-rest.result c.requires.part.ticks.0 c.enters-rest.ensures.from c.args.search.now.limits c.enters-rest.ensures.to c.args.trip.now c.args.search.now c.reach.new.search refl c.reach.ensures.further c.in-Some.free c.in-Some.ensures.found c.in_ok-reach.ensures.admitted c.push.new.self c.args.onward.label c.move_behind.result c.move_behind.ensures.label c.move_behind.ensures.work c.ahead_to-ahead.result c.ahead_to-ahead.ensures.value c.move_behind.ensures.tick)
+    (rest_in_hand c.args.plan.now c.args.book.now c.args.part.now c.args.onward.number c.move_at-step.result c.move_at-step.ensures c.pieces.result.now c.pieces.ensures c.enters-rest.result c.requires.part.ticks.0 c.enters-rest.ensures.from c.args.search.now.limits c.enters-rest.ensures.to c.args.trip.now c.args.search.now c.reach.new.search refl c.reach.ensures.further c.in-Some.free c.in-Some.ensures.found c.in_ok-reach.ensures.admitted c.push.new.self c.args.onward.label c.move_behind.result c.move_behind.ensures.label c.move_behind.ensures.work c.ahead_to-ahead.result c.ahead_to-ahead.ensures.value c.move_behind.ensures.tick)
     c.push.ensures.added

@@ -15,7 +15,7 @@ pub returns-in_default-clause-done : goal.returns-in_default-clause-done
 returns-in_default-clause-done c =
     let dwell = (c.requires.plan.places c.args.part.now.place _ c.requires.part.place).dwell in
     let from = c.until_the_horizon-rest.ensures.from in
-    none_waits c.args.plan.now c.args.book.now c.args.part.now c.place_at-place.result.now c.place_at-place.ensures c.as_slice.result.now c.as_slice.ensures c.until_the_horizon-rest.result c.requires.part.ticks.0 c.until_the_horizon-rest.ensures.from c.until_the_horizon-rest.ensures.to dwell.0 c.args.queue.now c.args.label c.args.search.now
+    none_waits c.args.plan.now c.args.book.now c.args.part.now c.place_at-place.result c.place_at-place.ensures c.waits.result.now c.waits.ensures c.until_the_horizon-rest.result c.requires.part.ticks.0 c.until_the_horizon-rest.ensures.from c.until_the_horizon-rest.ensures.to dwell.0 c.args.queue.now c.args.label c.args.search.now
     (λ tick held within. let low = held.0 in c.in_default.ensures.none refl tick (omega (arith, ints), within))
 
 pub returns-then-free-part-clause-advanced : goal.returns-then-free-part-clause-advanced
@@ -26,7 +26,7 @@ returns-then-free-part-clause-done c =
     let dwell = (c.requires.plan.places c.args.part.now.place _ c.requires.part.place).dwell in
     let from = c.until_the_horizon-rest.ensures.from in
     let late = c.if-free-part.true in
-    none_waits c.args.plan.now c.args.book.now c.args.part.now c.place_at-place.result.now c.place_at-place.ensures c.as_slice.result.now c.as_slice.ensures c.until_the_horizon-rest.result c.requires.part.ticks.0 c.until_the_horizon-rest.ensures.from c.until_the_horizon-rest.ensures.to dwell.0 c.args.queue.now c.args.label c.args.search.now
+    none_waits c.args.plan.now c.args.book.now c.args.part.now c.place_at-place.result c.place_at-place.ensures c.waits.result.now c.waits.ensures c.until_the_horizon-rest.result c.requires.part.ticks.0 c.until_the_horizon-rest.ensures.from c.until_the_horizon-rest.ensures.to dwell.0 c.args.queue.now c.args.label c.args.search.now
     (λ tick held within. let low = held.0 in let high = held.1 in c.in-Some.ensures.found.before tick (omega (arith, ints)) (omega (arith, ints)))
 
 pub ready_ticks-requires-clause-dwell : goal.ready_ticks-requires-clause-dwell
@@ -38,14 +38,14 @@ pub wait-requires-clause-ticks : goal.wait-requires-clause-ticks
 wait-requires-clause-ticks c =
     let dwell = (c.requires.plan.places c.args.part.now.place _ c.requires.part.place).dwell in
     let from = c.until_the_horizon-rest.ensures.from in
-    ready_within c.args.plan.now c.args.book.now c.args.part.now c.place_at-place.result.now c.place_at-place.ensures c.as_slice.result.now c.as_slice.ensures c.until_the_horizon-rest.result c.requires.part.ticks.0 (omega (arith, ints)) c.until_the_horizon-rest.ensures.to dwell.0 c.in-Some.free c.in-Some.ensures.found c.ready_ticks.result c.ready_ticks.ensures.from c.ready_ticks.ensures.to
+    ready_within c.args.plan.now c.args.book.now c.args.part.now c.place_at-place.result c.place_at-place.ensures c.waits.result.now c.waits.ensures c.until_the_horizon-rest.result c.requires.part.ticks.0 (omega (arith, ints)) c.until_the_horizon-rest.ensures.to dwell.0 c.in-Some.free c.in-Some.ensures.found c.ready_ticks.result c.ready_ticks.ensures.from c.ready_ticks.ensures.to
 
 pub wait-requires-clause-waited : goal.wait-requires-clause-waited
 wait-requires-clause-waited c =
     let dwell = (c.requires.plan.places c.args.part.now.place _ c.requires.part.place).dwell in
     let from = c.until_the_horizon-rest.ensures.from in
     let early = c.if-free-part.false in
-    waited c.args.plan.now c.args.book.now c.args.part.now c.place_at-place.result.now c.place_at-place.ensures c.as_slice.result.now c.as_slice.ensures c.until_the_horizon-rest.result c.requires.part.ticks.0 (omega (arith, ints)) c.until_the_horizon-rest.ensures.to dwell.0 c.in-Some.free c.in-Some.ensures.found c.ready_ticks.result c.ready_ticks.ensures.from c.ready_ticks.ensures.to c.args.search.now.labels.labels c.requires.standing (omega (arith, ints))
+    waited c.args.plan.now c.args.book.now c.args.part.now c.place_at-place.result c.place_at-place.ensures c.waits.result.now c.waits.ensures c.until_the_horizon-rest.result c.requires.part.ticks.0 (omega (arith, ints)) c.until_the_horizon-rest.ensures.to dwell.0 c.in-Some.free c.in-Some.ensures.found c.ready_ticks.result c.ready_ticks.ensures.from c.ready_ticks.ensures.to c.args.search.now.labels.labels c.requires.standing (omega (arith, ints))
     (λ tick held. subst (λ r. IsReached c.args.search.now.labels.labels c.args.part.now.place r tick) c.requires.arrived (c.requires.part.reached tick held))
 
 pub returns-then-free-part-2-clause-advanced : goal.returns-then-free-part-2-clause-advanced
@@ -55,7 +55,7 @@ pub returns-then-free-part-2-clause-done : goal.returns-then-free-part-2-clause-
 returns-then-free-part-2-clause-done c =
     let dwell = (c.requires.plan.places c.args.part.now.place _ c.requires.part.place).dwell in
     let ends = c.if-free-part-2.true in
-    last_waits c.args.plan.now c.args.book.now c.args.part.now c.place_at-place.result.now c.place_at-place.ensures c.as_slice.result.now c.as_slice.ensures c.until_the_horizon-rest.result c.requires.part.ticks.0 c.until_the_horizon-rest.ensures.from c.until_the_horizon-rest.ensures.to dwell.0 c.leave_later.new.queue c.args.label c.in-Some.free c.in-Some.ensures.found c.ready_ticks.result c.ready_ticks.ensures.from c.ready_ticks.ensures.to c.args.search.now c.wait.new.search c.wait.ensures.further c.in_ok-wait.ensures.reached (omega (arith, ints))
+    last_waits c.args.plan.now c.args.book.now c.args.part.now c.place_at-place.result c.place_at-place.ensures c.waits.result.now c.waits.ensures c.until_the_horizon-rest.result c.requires.part.ticks.0 c.until_the_horizon-rest.ensures.from c.until_the_horizon-rest.ensures.to dwell.0 c.leave_later.new.queue c.args.label c.in-Some.free c.in-Some.ensures.found c.ready_ticks.result c.ready_ticks.ensures.from c.ready_ticks.ensures.to c.args.search.now c.wait.new.search c.wait.ensures.further c.in_ok-wait.ensures.reached (omega (arith, ints))
 
 pub returns-then-due-search-clause-advanced : goal.returns-then-due-search-clause-advanced
 returns-then-due-search-clause-advanced c = advanced_later c.args.plan.now c.args.search.now c.wait.new.search c.args.queue.now c.leave_later.new.queue c.len-known.result c.wait.ensures.further c.len-known.ensures c.leave_later.ensures.kept c.in_ok-leave_later.ensures.left
@@ -65,7 +65,7 @@ returns-then-due-search-clause-done c =
     let dwell = (c.requires.plan.places c.args.part.now.place _ c.requires.part.place).dwell in
     let far = c.if-due-search.true in
     let tick = c.waits_behind-due.ensures.tick in
-    far_waits c.args.plan.now c.args.book.now c.args.part.now c.place_at-place.result.now c.place_at-place.ensures c.as_slice.result.now c.as_slice.ensures c.until_the_horizon-rest.result c.requires.part.ticks.0 c.until_the_horizon-rest.ensures.from c.until_the_horizon-rest.ensures.to dwell.0 c.leave_later.new.queue c.args.label c.in-Some.free c.in-Some.ensures.found c.ready_ticks.result c.ready_ticks.ensures.from c.ready_ticks.ensures.to c.args.search.now c.wait.new.search c.wait.ensures.further c.in_ok-wait.ensures.reached c.ahead_at-ahead.result c.ahead_at-ahead.ensures.value (omega (arith, ints))
+    far_waits c.args.plan.now c.args.book.now c.args.part.now c.place_at-place.result c.place_at-place.ensures c.waits.result.now c.waits.ensures c.until_the_horizon-rest.result c.requires.part.ticks.0 c.until_the_horizon-rest.ensures.from c.until_the_horizon-rest.ensures.to dwell.0 c.leave_later.new.queue c.args.label c.in-Some.free c.in-Some.ensures.found c.ready_ticks.result c.ready_ticks.ensures.from c.ready_ticks.ensures.to c.args.search.now c.wait.new.search c.wait.ensures.further c.in_ok-wait.ensures.reached c.ahead_at-ahead.result c.ahead_at-ahead.ensures.value (omega (arith, ints))
 
 pub returns-clause-advanced : goal.returns-clause-advanced
 returns-clause-advanced c = on_ok_weaker c.push.result
@@ -77,5 +77,5 @@ pub returns-clause-done : goal.returns-clause-done
 returns-clause-done c =
     let dwell = (c.requires.plan.places c.args.part.now.place _ c.requires.part.place).dwell in
     on_ok_weaker c.push.result
-    (rest_waits c.args.plan.now c.args.book.now c.args.part.now c.place_at-place.result.now c.place_at-place.ensures c.as_slice.result.now c.as_slice.ensures c.until_the_horizon-rest.result c.requires.part.ticks.0 c.until_the_horizon-rest.ensures.from c.until_the_horizon-rest.ensures.to dwell.0 c.push.new.self c.args.label c.in-Some.free c.in-Some.ensures.found c.ready_ticks.result c.ready_ticks.ensures.from c.ready_ticks.ensures.to c.args.search.now c.wait.new.search c.wait.ensures.further c.in_ok-wait.ensures.reached c.waits_behind-due.result c.waits_behind-due.ensures.label c.waits_behind-due.ensures.work c.ahead_at-ahead.result c.ahead_at-ahead.ensures.value c.waits_behind-due.ensures.tick)
+    (rest_waits c.args.plan.now c.args.book.now c.args.part.now c.place_at-place.result c.place_at-place.ensures c.waits.result.now c.waits.ensures c.until_the_horizon-rest.result c.requires.part.ticks.0 c.until_the_horizon-rest.ensures.from c.until_the_horizon-rest.ensures.to dwell.0 c.push.new.self c.args.label c.in-Some.free c.in-Some.ensures.found c.ready_ticks.result c.ready_ticks.ensures.from c.ready_ticks.ensures.to c.args.search.now c.wait.new.search c.wait.ensures.further c.in_ok-wait.ensures.reached c.waits_behind-due.result c.waits_behind-due.ensures.label c.waits_behind-due.ensures.work c.ahead_at-ahead.result c.ahead_at-ahead.ensures.value c.waits_behind-due.ensures.tick)
     c.push.ensures.added

@@ -29,6 +29,6 @@ loop-number-preserved c =
 
 pub returns-clause-done : goal.returns-clause-done
 returns-clause-done c tick held number inside =
-    let within : number < length c.place_at-place.result.now.moves = subst (λ p. number < length p.moves) (sym c.place_at-place.ensures) inside in
-    let count = c.len-number-end.ensures in
+    let within : number < length c.place_at-place.result.moves = subst (λ p. number < length p.moves) (sym c.place_at-place.ensures) inside in
+    let count = c.count-number-end.ensures in
     c.loop-number.invariant.done tick held number (omega arith)

@@ -15,7 +15,7 @@ returns-then-free-front-clause-explored c =
     let dwell = (c.requires.plan.places _ _ c.requires.front.place).dwell in
     let old = c.loop-free.invariant in
     let late = c.if-free-front.true in
-    waits_all c.args.plan.now c.args.book.now c.args.front.now _ c.place_at-place.ensures _ c.as_slice.ensures c.loop-free.rest c.requires.front.ticks.0 old.from old.to dwell.0 c.loop-free.search old.explored old.at_once
+    waits_all c.args.plan.now c.args.book.now c.args.front.now _ c.place_at-place.ensures _ c.waits.ensures c.loop-free.rest c.requires.front.ticks.0 old.from old.to dwell.0 c.loop-free.search old.explored old.at_once
     (λ tick held behind within. let high = held.1 in c.in-Some.ensures.found.before tick behind (omega (arith, ints)))
 
 pub ready_ticks-requires-clause-near : goal.ready_ticks-requires-clause-near
@@ -30,7 +30,7 @@ pub wait-requires-clause-ticks : goal.wait-requires-clause-ticks
 wait-requires-clause-ticks c =
     let dwell = (c.requires.plan.places _ _ c.requires.front.place).dwell in
     let old = c.loop-free.invariant in
-    ready_within c.args.plan.now c.args.book.now c.args.front.now _ c.place_at-place.ensures _ c.as_slice.ensures c.loop-free.rest c.requires.front.ticks.0 old.from old.to dwell.0 _ c.in-Some.ensures.found _ c.ready_ticks.ensures.from c.ready_ticks.ensures.to
+    ready_within c.args.plan.now c.args.book.now c.args.front.now _ c.place_at-place.ensures _ c.waits.ensures c.loop-free.rest c.requires.front.ticks.0 old.from old.to dwell.0 _ c.in-Some.ensures.found _ c.ready_ticks.ensures.from c.ready_ticks.ensures.to
 
 pub wait-requires-clause-waited : goal.wait-requires-clause-waited
 wait-requires-clause-waited c =
@@ -39,7 +39,7 @@ wait-requires-clause-waited c =
     let early = c.if-free-front.false in
     let here = front_further c.args.plan.now _ _ c.args.front.now old.further c.requires.front in
     let reached : (tick : ℤ) → Holds c.args.front.now.ticks tick → IsReached c.loop-free.search.labels.labels c.args.front.now.place false tick = λ tick held. subst (λ r. IsReached c.loop-free.search.labels.labels c.args.front.now.place r tick) c.requires.arrived (here.reached tick held) in
-    waited c.args.plan.now c.args.book.now c.args.front.now _ c.place_at-place.ensures _ c.as_slice.ensures c.loop-free.rest c.requires.front.ticks.0 old.from old.to dwell.0 _ c.in-Some.ensures.found _ c.ready_ticks.ensures.from c.ready_ticks.ensures.to c.loop-free.search.labels.labels c.requires.standing (omega (arith, ints)) reached
+    waited c.args.plan.now c.args.book.now c.args.front.now _ c.place_at-place.ensures _ c.waits.ensures c.loop-free.rest c.requires.front.ticks.0 old.from old.to dwell.0 _ c.in-Some.ensures.found _ c.ready_ticks.ensures.from c.ready_ticks.ensures.to c.loop-free.search.labels.labels c.requires.standing (omega (arith, ints)) reached
 
 pub returns-in_err-wait-clause-further : goal.returns-in_err-wait-clause-further
 returns-in_err-wait-clause-further c = further_more _ _ _ c.loop-free.invariant.further c.in_err-wait.ensures.further
@@ -63,14 +63,14 @@ loop-free-preserved c =
       from = omega (arith, ints);
       to = omega (arith, ints);
       at_once = λ none tick held. reached_more (λ one. Unit {0}) _ _ _ _ tick c.wait.ensures.further.grown (old.at_once none tick held);
-      explored = waits_more c.args.plan.now c.args.book.now c.args.front.now _ c.place_at-place.ensures _ c.as_slice.ensures c.loop-free.rest c.requires.front.ticks.0 old.from old.to dwell.0 _ next _ c.ready_ticks.ensures.from c.ready_ticks.ensures.to _ _ c.wait.ensures.further old.explored c.in_ok-wait.ensures.reached _ after;
+      explored = waits_more c.args.plan.now c.args.book.now c.args.front.now _ c.place_at-place.ensures _ c.waits.ensures c.loop-free.rest c.requires.front.ticks.0 old.from old.to dwell.0 _ next _ c.ready_ticks.ensures.from c.ready_ticks.ensures.to _ _ c.wait.ensures.further old.explored c.in_ok-wait.ensures.reached _ after;
     }
 
 pub returns-clause-explored : goal.returns-clause-explored
 returns-clause-explored c =
     let dwell = (c.requires.plan.places _ _ c.requires.front.place).dwell in
     let old = c.loop-free.invariant in
-    waits_all c.args.plan.now c.args.book.now c.args.front.now _ c.place_at-place.ensures _ c.as_slice.ensures c.loop-free.rest c.requires.front.ticks.0 old.from old.to dwell.0 c.loop-free.search old.explored old.at_once
+    waits_all c.args.plan.now c.args.book.now c.args.front.now _ c.place_at-place.ensures _ c.waits.ensures c.loop-free.rest c.requires.front.ticks.0 old.from old.to dwell.0 c.loop-free.search old.explored old.at_once
     (λ tick held behind within. c.in_default.ensures.none refl tick (behind, within))
 
 pub wait-requires-clause-front : goal.wait-requires-clause-front

@@ -4,4 +4,4 @@ use Rattle.label_search.proofs.searches.start.Goals as goal
 
 pub returns-clause-search : goal.returns-clause-search
 returns-clause-search c =
-    started_search c.args.plan.now c.args.trip.now c.args.book.now c.in_ok-labels.labels c.add.new.self _ c.requires.plan.start c.in_ok-labels.ensures.labels (c.in_ok-labels.ensures.places ∙ c.len.ensures) c.departures.ensures.from c.departures.ensures.to c.add.ensures.places c.add.ensures.grown c.args.limits c.requires.limits
+    started_search c.args.plan.now c.args.trip.now c.args.book.now c.in_ok-labels.labels c.add.new.self _ c.requires.plan.start c.in_ok-labels.ensures.labels (c.in_ok-labels.ensures.places ∙ c.count.ensures) c.departures.ensures.from c.departures.ensures.to c.add.ensures.places c.add.ensures.grown c.args.limits c.requires.limits

@@ -1,7 +1,7 @@
 use Rattle.std.proofs.Common.{subst}
 use Rattle.label_search.specs.Found.{IsFoundBelow}
 use Rattle.label_search.proofs.Below.{none_past}
-use Rattle.label_search.proofs.finds.find.Goals as goal
+use Rattle.label_search.proofs.finds.find_lent.Goals as goal
 
 pub returns-in_default : goal.returns-in_default
 returns-in_default c =

@@ -5,7 +5,7 @@ use Rattle.label_search.specs.Queues.{AreDueFrom}
 use Rattle.label_search.specs.Pending.{stop_at}
 use Rattle.label_search.specs.Found.{ArriveFrom}
 use Rattle.label_search.proofs.Arriving.{none_below, found_first}
-use Rattle.label_search.proofs.finds.find_below.Goals as goal
+use Rattle.label_search.proofs.finds.find_lent_below.Goals as goal
 
 pub returns-in_default : goal.returns-in_default
 returns-in_default c =

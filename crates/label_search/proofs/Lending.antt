@@ -1,0 +1,73 @@
+-- What is lent of a plan over a chart is what the plan has.
+use Rattle.std.proofs.Common.{ℕ, ◌≡◌, ◌<◌, ◌∙◌, sym, ap, arith, subst, List, length, All}
+use Rattle.std.specs.Prelude.{◌+◌, ◌^◌}
+use Rattle.std.proofs.lemmas.List.{length-map, get_or-map}
+use Rattle.std.proofs.lemmas.List.Elements.{All-get_or, All-filter}
+use Rattle.std.proofs.lemmas.List.FromFn.{length-map-range_with_len, get_or-map-range_with_len}
+use Rattle.label_search.specs.declared.chart_loans.Charted.{Charted}
+use Rattle.label_search.specs.declared.chart_loans.ChartedWays.{ChartedWays}
+use Rattle.label_search.specs.declared.charts.ChartCall.{ChartCall}
+use Rattle.label_search.specs.declared.charts.ChartWay.{ChartWay}
+use Rattle.label_search.specs.declared.lent.Lender.{Lender}
+use Rattle.label_search.specs.declared.lent.Lender.TheVariants as lender
+use Rattle.label_search.specs.declared.lent.MovesLender.{MovesLender}
+use Rattle.label_search.specs.declared.lent.MovesLender.TheVariants as moves_lender
+use Rattle.label_search.specs.declared.plans.Move.{Move}
+use Rattle.label_search.specs.declared.plans.Place.{Place}
+use Rattle.label_search.specs.Charts.{count_over, is_open, move_among, move_of_way}
+use Rattle.label_search.specs.Charts.{number_over, open_among, place_among, place_over, way_among}
+use Rattle.label_search.specs.Lent.{moves_lent, places_lent}
+
+-- there are as many places as the chart says
+pub places_counted : (lent : Lender) (charted : Charted) (places : List Place)
+    → lent ≡ lender.Charted charted → places_lent lent ≡ places
+    → count_over charted.spots.now charted.calls.now ≡ length places
+places_counted lent charted places is seen =
+    sym (length-map-range_with_len
+    (place_over charted.spots.now charted.starts.now charted.calls.now) 0
+    (count_over charted.spots.now charted.calls.now))
+    ∙ ap length (ap places_lent (sym is) ∙ seen)
+
+-- the place of a number over the chart is that of the plan
+pub place_lent : (lent : Lender) (charted : Charted) (places : List Place) (number : ℕ)
+    → lent ≡ lender.Charted charted → places_lent lent ≡ places
+    → number < count_over charted.spots.now charted.calls.now
+    → place_over charted.spots.now charted.starts.now charted.calls.now number
+    ≡ place_among places number
+place_lent lent charted places number is seen within =
+    sym (get_or-map-range_with_len
+    (place_over charted.spots.now charted.starts.now charted.calls.now) 0
+    (count_over charted.spots.now charted.calls.now) number number _ within (omega arith))
+    ∙ ap (λ (all : List Place). place_among all number) (ap places_lent (sym is) ∙ seen)
+
+-- there are as many moves as open ways
+pub moves_counted : (lent : MovesLender) (charted : ChartedWays) (moves : List Move)
+    → lent ≡ moves_lender.Charted charted → moves_lent lent ≡ moves
+    → length (open_among charted.call.now charted.ways.now) ≡ length moves
+moves_counted lent charted moves is seen =
+    sym (length-map (open_among charted.call.now charted.ways.now)
+    (move_of_way charted.levels charted.made))
+    ∙ ap length (ap moves_lent (sym is) ∙ seen)
+
+-- the open way of a number is the move of the plan
+pub move_lent : (lent : MovesLender) (charted : ChartedWays) (moves : List Move) (number : ℕ)
+    → lent ≡ moves_lender.Charted charted → moves_lent lent ≡ moves
+    → number < length (open_among charted.call.now charted.ways.now)
+    → move_of_way charted.levels charted.made
+    (way_among charted.call.now charted.ways.now number)
+    ≡ move_among moves number
+move_lent lent charted moves number is seen within =
+    sym (get_or-map (move_of_way charted.levels charted.made)
+    (open_among charted.call.now charted.ways.now) number _ _ within)
+    ∙ ap (λ (all : List Move). move_among all number) (ap moves_lent (sym is) ∙ seen)
+
+-- an open way leads to a place that has a number
+pub way_numbered : (levels made : ℕ) (call : ChartCall) (ways : List ChartWay) (number : ℕ)
+    (way : ChartWay) → All (λ way. number_over levels way.next (made + 1) < 2 ^ 32) ways
+    → number < length (open_among call ways) → way ≡ way_among call ways number
+    → number_over levels way.next (made + 1) < 2 ^ 32
+way_numbered levels made call ways number way few within is =
+    let numbered : ChartWay → Type 0 =
+    λ way. number_over levels way.next (made + 1) < 2 ^ 32 in
+    subst numbered (sym is) (All-get_or numbered (open_among call ways) number _ within
+    (All-filter (is_open call) numbered ways few))
