@@ -1,7 +1,8 @@
 -- A plan over the chart of a train: a place for each spot and each count of calls that are made.
 use Rattle.std.specs.Prelude.{ℕ, zero, suc, ◌+◌, ◌*◌, ◌/◌, ◌%◌, ◌^◌, ◌<◌, ℤ, pos, List, []}
 use Rattle.std.specs.Prelude.{All, length, map}
-use Rattle.std.specs.Prelude.{Bool, true, false, not, ◌&&◌, ◌||◌, filter, if◌then◌else◌, nat_eq, nat_le}
+use Rattle.std.specs.Prelude.{Bool, true, false, not, ◌&&◌}
+use Rattle.std.specs.Prelude.{◌||◌, filter, if◌then◌else◌, nat_eq, nat_le}
 use Rattle.std.specs.List.{list_any, range_with_len, slice_index_or}
 use Rattle.label_search.specs.declared.charts.ChartCall.{ChartCall}
 use Rattle.label_search.specs.declared.charts.ChartSpot.{ChartSpot}
