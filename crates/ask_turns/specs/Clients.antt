@@ -5,18 +5,24 @@ use Rattle.path_commit.specs.claims.Held.{held}
 use Rattle.path_commit.specs.history.Following.{AreLive}
 use Rattle.path_labels.specs.Courses.{AreCourses, IsCourse}
 use Rattle.path_labels.specs.declared.course_searches.Course.{Course}
+use Rattle.path_labels.specs.declared.guides.Guide.{Guide}
+use Rattle.path_labels.specs.declared.train_charts.TrainChart.{TrainChart}
+use Rattle.path_labels.specs.Guides.{IsGuide}
+use Rattle.path_labels.specs.TrainCharts.{AreCharts, IsChartOf}
 use Rattle.rail_types.specs.declared.entries.Entry.{Entry}
 use Rattle.rail_types.specs.declared.trains.Request.{Request}
+use Rattle.rail_types.specs.declared.trains.Train.{Train}
 use Rattle.rail_types.specs.Timetables.{Timetable}
 use Rattle.ask_turns.specs.declared.client_turns.clients.Client.{Client}
 
 -- the copy holds the claims that are live in these entries, and what is kept for the next requests
--- are courses by this timetable
+-- are courses and charts by this timetable
 pub record IsCopyOf (timetable : Timetable) (client : Client) (entries : List Entry) : Type 0 where
   pub front : client.front ≡ length entries
   pub zones : length client.copy ≡ timetable.net.zones
   pub live : AreLive timetable (held client.copy) entries
   pub courses : AreCourses timetable.net timetable.settings client.courses
+  pub charts : AreCharts timetable.net timetable.settings client.charts
 
 -- the copy is that of a beginning of what was seen
 abbrev pub Knows : Timetable → Client → List Entry → Type 0
@@ -37,9 +43,32 @@ StaysCopy before after =
     (timetable : Timetable) (entries : List Entry)
     → IsCopyOf timetable before entries → IsCopyOf timetable after entries
 
--- the same where the course of a request is put to those that it keeps
-abbrev pub StaysCopyWith : Request → Course → Client → Client → Type 0
-StaysCopyWith request course before after =
+-- the client has a copy of some entries by a timetable, and stays so
+abbrev pub HasCopy : Timetable → Client → Type 0
+HasCopy timetable client = (entries : List Entry) × IsCopyOf timetable client entries
+
+abbrev pub StaysCopyOf : Timetable → Client → Client → Type 0
+StaysCopyOf timetable before after =
+    (entries : List Entry) → IsCopyOf timetable before entries → IsCopyOf timetable after entries
+
+-- the same where what guided the search of a request is put to what it keeps
+abbrev pub StaysCopyWith : Request → Guide → Client → Client → Type 0
+StaysCopyWith request guide before after =
     (timetable : Timetable) (entries : List Entry)
-    → IsCourse timetable.net timetable.settings request course
+    → IsGuide timetable.net timetable.settings request guide
+    → IsCopyOf timetable before entries → IsCopyOf timetable after entries
+
+-- ---- charts that come and go
+
+-- by whatever timetable a client has a copy, one is the chart of the train
+abbrev pub IsChartFor : Client → Train → TrainChart → Type 0
+IsChartFor client train chart =
+    (timetable : Timetable) (entries : List Entry) → IsCopyOf timetable client entries
+    → IsChartOf timetable.net timetable.settings train chart
+
+-- what the client had a copy of, it has a copy of after, where a chart is put to what it keeps
+abbrev pub StaysCopyWithChart : TrainChart → Client → Client → Type 0
+StaysCopyWithChart chart before after =
+    (timetable : Timetable) (entries : List Entry)
+    → IsChartOf timetable.net timetable.settings chart.train chart
     → IsCopyOf timetable before entries → IsCopyOf timetable after entries

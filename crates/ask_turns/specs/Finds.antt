@@ -5,7 +5,7 @@ use Rattle.byte_fields.specs.Buffered.{Buffered}
 use Rattle.path_commit.specs.history.Legal.{IsWantedOn}
 use Rattle.path_commit.specs.history.Meanings.{IsNumbered}
 use Rattle.path_labels.specs.Answers.{IsEarliest, claims_held}
-use Rattle.path_labels.specs.Courses.{IsCourse}
+use Rattle.path_labels.specs.Guides.{IsGuide}
 use Rattle.rail_types.specs.declared.entries.Deed.TheVariants.{Grant}
 use Rattle.rail_types.specs.declared.entries.Entry.{Entry}
 use Rattle.rail_types.specs.declared.entries.Settings.{Settings}
@@ -15,7 +15,8 @@ use Rattle.rail_types.specs.declared.paths.Claim.{Claim}
 use Rattle.rail_types.specs.declared.paths.Path.{Path}
 use Rattle.rail_types.specs.declared.paths.Run.{Run}
 use Rattle.rail_types.specs.declared.tracks.Network.{Network}
-use Rattle.rail_types.specs.Limits.{IsRequestWithinLimits}
+use Rattle.rail_types.specs.Flaws.{first_flaw}
+use Rattle.rail_types.specs.Limits.{IsRequestWithinLimits, IsSettingsWithinLimits}
 use Rattle.client_lines.specs.Rooms.{PrintsRuns, room_for}
 use Rattle.ask_turns.specs.declared.client_turns.clients.Client.{Client}
 use Rattle.ask_turns.specs.declared.asks.Ask.{Ask}
@@ -36,12 +37,14 @@ entry_for owner ask path = record {
 abbrev pub IsNewNumber : List ℕ → ℕ → List Entry → Type 0
 IsNewNumber owner number entries = All (λ other. ¬ IsNumbered owner number other) entries
 
--- a request within its limits with its course, on a network without a flaw
+-- a request within its limits with what guides its search, on a network without a flaw
 pub record MayBeSearched (net : Network) (settings : Settings) (ask : Ask) : Type 0 where
   pub number : ask.number ≤ MAX_NUMBER
   pub request : IsRequestWithinLimits ask.request
   pub points : IsWantedOn net (Asked ask.request)
-  pub course : IsCourse net settings ask.request ask.course
+  pub sound : first_flaw net ≡ None
+  pub timetable : IsSettingsWithinLimits settings
+  pub guide : IsGuide net settings ask.request ask.guide
 
 -- the text has room for a reply that prints these runs
 pub record HasRoomOf (text : Buffered) (runs : List Run) : Type 0 where

@@ -1,17 +1,17 @@
 //! What is asked for, and what comes of it.
 
 use crate::client_turns::Entered;
-use path_labels::Course;
+use path_labels::Guide;
 use rail_types::{Entry, List, Request, Run};
 
 /// A path that is asked for: the client's number for it, the number of its line, the
-/// request, and the request's course.
+/// request, and what guides its search.
 #[derive(Drop)]
 pub struct Ask {
     pub number: u64,
     pub line: u32,
     pub request: Request,
-    pub course: Course,
+    pub guide: Guide,
 }
 
 /// What comes of an ask.

@@ -3,6 +3,7 @@
 ghost use Rattle.std.specs.Prelude.{◌≡◌, ◌≤◌, false, [], IfOk, IsTrue, length};
 ghost use Rattle.client_lines.specs.Within.{AreSound};
 ghost use Rattle.path_labels.specs.Answers.{IsFinding, claims_held};
+ghost use Rattle.path_labels.specs.Guides.{IsListed};
 ghost use Rattle.ask_turns.specs.Finds.{HasRoom, IsFoundBeside, MayBeSearched, entry_for};
 ghost use Rattle.ask_turns.specs.Shown.{IsShown, ShowsBeside};
 
@@ -14,7 +15,7 @@ use byte_fields::Buffer;
 use client_lines::Known;
 use client_lines::reply_texts::reply_room;
 use no_memory::NoMemory;
-use path_labels::find_along;
+use path_labels::{Guide, find_by};
 use proof_texts::{Proof, proof_text};
 use rail_types::{Deed, Entry, MAX_NUMBER, Path, Settings, Wanted};
 use std::alloc::Global;
@@ -34,6 +35,7 @@ pub(crate) fn find_entry(
 ) -> Result<Option<Found>, NoMemory>
     requires sound { AreSound known.now }
     requires may { MayBeSearched known.now.railway.network settings.now ask.now }
+    requires listed { IsTrue proves → IsListed ask.now.guide }
     requires zones { length client.now.copy ≡ known.now.railway.network.zones }
     ensures found { IfOk result
         (IsFoundBeside known.now.railway.network settings.now client.now ask.now) }
@@ -68,6 +70,7 @@ fn seek_path(
 ) -> Result<Option<Path>, NoMemory>
     requires sound { AreSound known.now }
     requires may { MayBeSearched known.now.railway.network settings.now ask.now }
+    requires listed { IsTrue proves → IsListed ask.now.guide }
     requires zones { length client.now.copy ≡ known.now.railway.network.zones }
     ensures found { IfOk result (IsFinding known.now.railway.network settings.now
         (claims_held client.now.copy) ask.now.request) }
@@ -81,23 +84,19 @@ fn seek_path(
     let railway = known.railway();
     let net = &railway.network;
     if !proves {
-        return find_along(
+        return find_by(
             alloc,
             net,
             settings,
             client.copy(),
             &ask.request,
-            &ask.course,
+            &ask.guide,
         );
     }
-    let found = seek_certified(
-        alloc,
-        net,
-        settings,
-        client.copy(),
-        &ask.request,
-        &ask.course,
-    )?;
+    let Guide::Listed(course) = &ask.guide else {
+        unreachable!()
+    };
+    let found = seek_certified(alloc, net, settings, client.copy(), &ask.request, course)?;
     let Certified {
         path,
         excluded,

@@ -1,16 +1,20 @@
 //! A path that is sought: what its number stands for, and then its searches.
-ghost use Rattle.std.specs.Prelude.{◌≡◌, ◌+◌, ◌⊎◌, ◌≤◌, IfErr, IfOk, IfSome};
+ghost use Rattle.std.specs.Prelude.{◌≡◌, ◌+◌, ◌⊎◌, ◌≤◌, IfErr, IfOk, IfSome, IsTrue};
 ghost use Rattle.book_gate.specs.Passes.{turns_left, view};
 ghost use Rattle.client_lines.specs.Within.{IsAskWithin};
 ghost use Rattle.client_lines.specs.declared.asks.Ask.TheVariants.{Path as path_of};
 ghost use Rattle.rail_types.specs.Limits.{IsClientName, IsRequestWithinLimits};
+ghost use Rattle.rail_types.specs.Limits.{IsTrainWithinLimits};
 ghost use Rattle.rail_types.specs.declared.entries.Deed.TheVariants.{Grant};
 ghost use Rattle.rail_types.specs.declared.entries.Wanted.TheVariants.{Asked};
 ghost use Rattle.rail_types.specs.declared.paths.Path.{Path as path_type};
 ghost use Rattle.client_lines.specs.Rooms.{room_for};
-ghost use Rattle.ask_turns.specs.Clients.{IsCopyOf, Knows};
+ghost use Rattle.ask_turns.specs.Clients.{HasCopy, IsCopyOf, Knows, StaysCopyOf};
 ghost use Rattle.ask_turns.specs.Sharing.{IsShared};
+ghost use Rattle.ask_turns.specs.labels.ChartCourses.{IsChartCourse};
 ghost use Rattle.ask_turns.specs.labels.Courses.{IsCourse};
+ghost use Rattle.ask_turns.specs.labels.Guides.{IsGuide, IsListed};
+ghost use Rattle.ask_turns.specs.labels.TrainCharts.{IsChartOf};
 ghost use Rattle.ask_turns.specs.tails.Listed.{Refuses};
 ghost use Rattle.ask_turns.specs.Turns.{IsReady, timetable_at};
 ghost use Rattle.line_answers.specs.Asked.{AnswersBehind, HasRoomIn, asking};
@@ -21,15 +25,15 @@ ghost use Rattle.line_answers.specs.Tells.{AddsNothing};
 use crate::lines::Sent;
 use crate::replies::{ask_told, halted, number_told};
 use ask_turns::client_turns::find_again;
-use ask_turns::labels::{Course, courses_have_the_places};
-use ask_turns::tails::{PlacesFault, places, sound_networks_are_asked};
+use ask_turns::labels::{ChartCourse, Course, Guide, TrainChart, guides_are_narrow};
+use ask_turns::tails::{PlacesFault, SpotsFault, places, sound_networks_are_asked};
 use ask_turns::{Ask, Guest, Shared, try_searches};
 use byte_fields::Buffer;
 use client_lines::reply_texts::Reply;
 use no_memory::NoMemory;
 use outside_io::{Between, Disk};
 use proof_texts::asks_can_be_told;
-use rail_types::{Deed, List, Network, Path, Request, Wanted};
+use rail_types::{Deed, List, Network, Path, Request, Train, Wanted};
 use std::alloc::Global;
 use std::sync::Wait;
 
@@ -134,9 +138,8 @@ fn seek_path<R: Wait, D: Disk, B: Between>(
     ensures held { text.new.held ≡ text.old.held }
     ensures room { HasRoomIn text.new result ⊎ AddsNothing result }
 {
-    let kept = guest.client.take_course(&request);
-    let course = match course_of(alloc, shared, kept, &request) {
-        Ok(course) => course,
+    let guide = match guide_of(alloc, shared, &mut guest.client, &request, guest.proves) {
+        Ok(guide) => guide,
         Err(PlacesFault::Wide { count: _count }) => {
             return Reply::Wide {
                 number: sent.number,
@@ -149,31 +152,108 @@ fn seek_path<R: Wait, D: Disk, B: Between>(
         number: sent.number,
         line: sent.line,
         request,
-        course,
+        guide,
     };
     let reply = search_along(rt, alloc, shared, guest, &ask, text, proof);
-    guest.client.keep_course(ask.request, ask.course);
+    guest.client.keep_guide(ask.request, ask.guide);
     reply
 }
 
-// The course of a request: the one that was kept for such a request, or else it is worked out.
-fn course_of<D: Disk>(
+// What guides the search of a request: the course that is kept for such a request; or else its
+// course over the chart of its train, where one is kept or the train was asked for before, and what
+// is found needs not be shown; or else its course over listed places, which are worked out.
+fn guide_of<D: Disk>(
     alloc: Global,
     shared: &Shared<D>,
-    kept: Option<Course>,
+    client: &mut Client,
     request: &Request,
-) -> Result<Course, PlacesFault>
+    proves: bool,
+) -> Result<Guide, PlacesFault>
     requires shared { IsShared shared.now }
     requires request { IsRequestWithinLimits request.now }
-    requires kept { IfSome kept (IsCourse (timetable_at shared.now.gate).net
+    requires copy { HasCopy (timetable_at shared.now.gate) client.old }
+    ensures guide { IfOk result (IsGuide (timetable_at shared.now.gate).net
         (timetable_at shared.now.gate).settings request.now) }
-    ensures course { IfOk result (IsCourse (timetable_at shared.now.gate).net
-        (timetable_at shared.now.gate).settings request.now) }
+    ensures listed { IfOk result (λ guide. IsTrue proves → IsListed guide) }
     ensures wide { IfErr result (Refuses (timetable_at shared.now.gate).net request.now) }
+    ensures copy { StaysCopyOf (timetable_at shared.now.gate) client.old client.new }
+    ensures name { client.new.name ≡ client.old.name }
+    ensures front { client.new.front ≡ client.old.front }
 {
-    match kept {
-        Some(course) => Ok(course),
-        None => worked_out(alloc, shared, request),
+    if let Some(course) = client.take_course(request) {
+        return Ok(Guide::Listed(course));
+    }
+    if !proves {
+        if let Some(course) = chart_course_of(alloc, shared, client, request) {
+            return Ok(Guide::Charted(course));
+        }
+    }
+    let course = worked_out(alloc, shared, request)?;
+    Ok(Guide::Listed(course))
+}
+
+// The course of a request over the chart of its train, or None where there is no chart, where it
+// does not bound the places of the request, or where memory is wanted.
+fn chart_course_of<D: Disk>(
+    alloc: Global,
+    shared: &Shared<D>,
+    client: &mut Client,
+    request: &Request,
+) -> Option<ChartCourse>
+    requires shared { IsShared shared.now }
+    requires request { IsRequestWithinLimits request.now }
+    requires copy { HasCopy (timetable_at shared.now.gate) client.old }
+    ensures course { IfSome result (IsChartCourse (timetable_at shared.now.gate).net
+        (timetable_at shared.now.gate).settings request.now) }
+    ensures copy { StaysCopyOf (timetable_at shared.now.gate) client.old client.new }
+    ensures name { client.new.name ≡ client.old.name }
+    ensures front { client.new.front ≡ client.old.front }
+{
+    let chart = chart_of(alloc, shared, client, &request.train)?;
+    if !chart.is_narrow(request) {
+        client.keep_chart(chart);
+        return None;
+    }
+    let net = network_of(shared);
+    let settings = &shared.settings;
+    let Ok(course) = ChartCourse::of(alloc, net, settings, &shared.followers, request, chart) else {
+        return None;
+    };
+    Some(course)
+}
+
+// The chart that is kept for a train. Where none is, and a course of the train's is, it is made.
+fn chart_of<D: Disk>(
+    alloc: Global,
+    shared: &Shared<D>,
+    client: &mut Client,
+    train: &Train,
+) -> Option<TrainChart>
+    requires shared { IsShared shared.now }
+    requires train { IsTrainWithinLimits train.now }
+    requires copy { HasCopy (timetable_at shared.now.gate) client.old }
+    ensures chart { IfSome result (IsChartOf (timetable_at shared.now.gate).net
+        (timetable_at shared.now.gate).settings train.now) }
+    ensures copy { StaysCopyOf (timetable_at shared.now.gate) client.old client.new }
+    ensures name { client.new.name ≡ client.old.name }
+    ensures front { client.new.front ≡ client.old.front }
+{
+    let kept = client.take_chart(train);
+    if kept.is_some() {
+        return kept;
+    }
+    if !client.has_asked(train) || client.knows_wide(train) {
+        return None;
+    }
+    sound_networks_are_asked();
+    let net = network_of(shared);
+    match TrainChart::of(alloc, net, &shared.settings, &shared.followers, train) {
+        Ok(chart) => Some(chart),
+        Err(SpotsFault::TooMany { count: _count }) => {
+            client.note_wide(alloc, train);
+            None
+        }
+        Err(SpotsFault::Memory) => None,
     }
 }
 
@@ -196,7 +276,7 @@ fn worked_out<D: Disk>(
     Ok(course)
 }
 
-// Searches a path along the course of its request, behind a turn in which the number was new.
+// Searches a path by what guides its search, behind a turn in which the number was new.
 fn search_along<R: Wait, D: Disk, B: Between>(
     rt: &R,
     alloc: Global,
@@ -214,8 +294,9 @@ fn search_along<R: Wait, D: Disk, B: Between>(
     requires shared { IsShared shared.now }
     requires within { IsAskWithin (timetable_at shared.now.gate).net
         (path_of ask.now.number ask.now.request) }
-    requires course { IsCourse (timetable_at shared.now.gate).net
-        (timetable_at shared.now.gate).settings ask.now.request ask.now.course }
+    requires guide { IsGuide (timetable_at shared.now.gate).net
+        (timetable_at shared.now.gate).settings ask.now.request ask.now.guide }
+    requires listed { IsTrue guest.old.proves → IsListed ask.now.guide }
     requires spare { room_for 0 ≤ text.old.spare }
     ensures ready { IsReady shared.now.gate guest.new.pass }
     ensures budget { turns_left guest.old.pass ≤ turns_left guest.new.pass + 3 }
@@ -231,7 +312,7 @@ fn search_along<R: Wait, D: Disk, B: Between>(
     ensures room { HasRoomIn text.new result ⊎ AddsNothing result }
 {
     asks_can_be_told();
-    courses_have_the_places();
+    guides_are_narrow();
     match try_searches(rt, alloc, shared, guest, ask, text, proof) {
         Ok(outcome) => ask_told(ask.number, outcome, guest.client.front()),
         Err(halt) => halted(halt),

@@ -28,13 +28,12 @@ use Rattle.label_search.specs.Paths.{IsMove as IsPlannedMove, IsPath, PathFits, 
 use Rattle.label_search.specs.Paths.{place_at, target_of}
 use Rattle.label_search.specs.Closed.{IsClosed as IsClosedPlan, before as trip_before}
 use Rattle.path_labels.specs.Plans.{IsPlanOf}
-use Rattle.path_labels.specs.Searched.{IsPlannedWithinLimits}
+use Rattle.path_labels.specs.Searched.{IsPlannedOver}
 use Rattle.path_labels.specs.Answers.{before, claims_held, last_leave}
 
--- what is listed for the request is what is planned
+-- from each listed place exactly the moves of the request are listed, and these are planned
 pub record IsPlannedFrom (net : Network) (settings : Settings) (request : Request) (listed : Listed)
     (plan : Plan) : Type 0 where
-  pub places : AreThePlaces net request listed.members
   pub moves : AreTheMoves net request listed
   pub planned : IsPlanOf net settings request listed plan
 
@@ -118,7 +117,7 @@ abbrev pub PlannedPathsAreGranted : Type 0
 PlannedPathsAreGranted =
     (net : Network) (settings : Settings) (request : Request) (listed : Listed) (plan : Plan)
     (book : Book) (steps : List Step)
-    → IsPlannedWithinLimits net settings request listed plan → HoldsTicks book
+    → IsPlannedOver net settings request listed plan → HoldsTicks book
     → IsPath plan (trip_of request) steps → PathFits plan book steps
     → MakesAGrant net settings request listed plan book steps
 
@@ -133,7 +132,7 @@ abbrev pub GrantedPathsArePlanned : Type 0
 GrantedPathsArePlanned =
     (net : Network) (settings : Settings) (request : Request) (listed : Listed) (plan : Plan)
     (book : Book) (path : Path)
-    → IsPlannedWithinLimits net settings request listed plan → HoldsTicks book
+    → IsPlannedOver net settings request listed plan → HoldsTicks book
     → CanBeGranted net settings (claims_held book) request path
     → (steps : List Step) × IsPlannedAs plan request book path steps
 
@@ -150,6 +149,7 @@ abbrev pub ClosedPlansAreClosed : Type 0
 ClosedPlansAreClosed =
     (net : Network) (settings : Settings) (request : Request) (listed : Listed) (plan : Plan)
     (book : Book) (members : List PlannedMember)
+    → AreThePlaces net request listed.members
     → IsPlannedFrom net settings request listed plan
     → All (IsBehindTheStart listed.members) members
     → AreClosedAlike net settings request listed plan book members

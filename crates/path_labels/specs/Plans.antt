@@ -6,6 +6,7 @@ use Rattle.rail_types.specs.declared.limits.TheConstants.{MAX_PLACES}
 use Rattle.rail_types.specs.declared.tracks.Network.{Network}
 use Rattle.rail_types.specs.declared.trains.Request.{Request}
 use Rattle.rail_types.specs.declared.trains.Stop.{Stop}
+use Rattle.rail_types.specs.declared.trains.Train.{Train}
 use Rattle.rail_types.specs.declared.entries.Settings.{Settings}
 use Rattle.rail_types.specs.declared.paths.Claim.{Claim}
 use Rattle.running_time.specs.Times.{run_ticks}
@@ -29,11 +30,14 @@ use Rattle.label_search.specs.declared.plans.Plan.{Plan}
 abbrev pub ticks_within : Settings → ℕ → ℤ
 ticks_within settings ticks = pos (min ticks (settings.horizon + 1))
 
-abbrev pub ticks_of_step : Network → Settings → Request → Place → Step → ℤ
-ticks_of_step net settings request place step =
+-- those of a step of a train, whatever a request asks of it
+abbrev pub ticks_in : Network → Settings → Train → Place → Step → ℤ
+ticks_in net settings train place step =
     ticks_within settings
-    (run_ticks (block_at net step.block) request.train settings (entry_of net request.train place)
-    step.exit)
+    (run_ticks (block_at net step.block) train settings (entry_of net train place) step.exit)
+
+abbrev pub ticks_of_step : Network → Settings → Request → Place → Step → ℤ
+ticks_of_step net settings request place step = ticks_in net settings request.train place step
 
 -- the start place has the number 0, and each listed place the number behind its own
 abbrev pub target_of : Next → Target
@@ -41,13 +45,17 @@ target_of Ends = End
 target_of (At number) = To (number + 1)
 
 -- behind an end the train keeps its zones through their release
+abbrev pub kept_at_end : Network → Settings → Train → Place → Step → List Claim
+kept_at_end net settings train place step =
+    kept
+    (standing_zones net train (place_after net train place step))
+    (ticks_in net settings train place step)
+    (ticks_in net settings train place step +ℤ pos settings.release)
+
 abbrev pub kept_behind : Network → Settings → Request → Place → Step → Next → List Claim
 kept_behind net settings request place step (At number) = []
 kept_behind net settings request place step Ends =
-    kept
-    (standing_zones net request.train (place_after net request.train place step))
-    (ticks_of_step net settings request place step)
-    (ticks_of_step net settings request place step +ℤ pos settings.release)
+    kept_at_end net settings request.train place step
 
 -- a move of the plan: its pieces at tick 0, and behind an end what is kept through its release
 abbrev pub move_in : Network → Settings → Request → Place → Move → PlannedMove

@@ -8,7 +8,7 @@ ghost use Rattle.path_labels.specs.Courses.{StayCourses, StayCoursesWith, kept_f
 
 use crate::Course;
 use no_memory::NoMemory;
-use rail_types::{Request, Stop};
+use rail_types::{Request, Stop, Train};
 use std::alloc::Global;
 use std::marker::Model;
 
@@ -72,6 +72,13 @@ impl Courses {
         };
         let one = self.kept.remove(at);
         Some(one.course)
+    }
+
+    /// Whether a course is kept for a request of that train.
+    pub fn has_train(&self, train: &Train) -> bool {
+        self.kept
+            .iter()
+            .any(|kept| kept.request.train.is_same(train))
     }
 
     /// Keeps the course of a request behind the others; of `MAX_COURSES` the first one is let go

@@ -2,6 +2,7 @@
 //! that calls other laws alone.
 
 ghost use Rattle.std.specs.Prelude.{◌≡◌};
+ghost use Rattle.path_labels.specs.ChartCourses.{ChartCoursesAreNarrow, ChartsArePlanned};
 ghost use Rattle.path_labels.specs.Courses.{CoursesHaveThePlaces};
 ghost use Rattle.path_labels.specs.Joining.{
   ClosedPlansAreClosed,
@@ -9,9 +10,13 @@ ghost use Rattle.path_labels.specs.Joining.{
   PlannedPathsAreGranted,
 };
 
+use crate::kept_charts::MAX_CHARTS;
 use crate::kept_courses::{MAX_COURSES, MAX_KEPT_PLACES};
+use crate::request_plans::plans_over_may_be_searched;
 use stair_pieces::{a_path_fits_run_by_run, a_path_is_a_list_of_moves, moves_make_a_path};
-use tail_states::windows_change_no_places;
+use tail_states::{
+    MAX_SPOTS, sound_networks_are_asked, spots_bound_places, windows_change_no_places,
+};
 
 /// The runs of a path of a request's plan that fits are a path that can be granted, which
 /// leaves last at the same tick.
@@ -46,8 +51,27 @@ pub fn courses_have_the_places()
     windows_change_no_places();
 }
 
-/// The limits of the courses that are kept.
+/// The limits of the courses and charts that are kept.
 pub fn limits_are_these()
+    ensures charts { MAX_CHARTS ≡ 8 }
+    ensures spots { MAX_SPOTS ≡ 16384 }
     ensures courses { MAX_COURSES ≡ 16 }
     ensures kept_places { MAX_KEPT_PLACES ≡ 32768 }
 {}
+
+/// A request that has a course over the chart of its train has no more places than are searched.
+pub fn chart_courses_are_narrow()
+    ensures { ChartCoursesAreNarrow }
+{
+    sound_networks_are_asked();
+    spots_bound_places();
+}
+
+/// What a request asks of the chart of its train is planned: from each of the places exactly the
+/// moves of the request. Such a plan may be lent and searched.
+pub fn charts_are_planned()
+    ensures { ChartsArePlanned }
+{
+    sound_networks_are_asked();
+    plans_over_may_be_searched();
+}

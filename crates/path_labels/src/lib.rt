@@ -3,7 +3,10 @@
 #![tactic(auto)]
 
 mod answers;
+mod chart_courses;
 mod course_searches;
+mod guides;
+mod kept_charts;
 mod kept_courses;
 mod laws;
 mod members;
@@ -11,14 +14,19 @@ mod paths;
 mod plan_searches;
 pub mod request_plans;
 mod seeks;
+mod train_charts;
 
 pub use answers::Sought;
+pub use chart_courses::{ChartCourse, find_over};
 pub use course_searches::{Course, find_along, seek_along};
+pub use guides::{Guide, find_by, guides_are_narrow};
+pub use kept_charts::{Charts, MAX_CHARTS};
 pub use kept_courses::{Courses, KeptCourse, MAX_COURSES, MAX_KEPT_PLACES};
 pub use laws::{
-    closed_plans_are_closed, courses_have_the_places, granted_paths_are_planned, limits_are_these,
-    planned_paths_are_granted,
+    chart_courses_are_narrow, charts_are_planned, closed_plans_are_closed, courses_have_the_places,
+    granted_paths_are_planned, limits_are_these, planned_paths_are_granted,
 };
 pub use seeks::{find, label_count, seek};
 pub use stair_pieces as pieces;
 pub use tail_states as tails;
+pub use train_charts::TrainChart;

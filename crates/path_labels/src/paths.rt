@@ -26,7 +26,8 @@ fn moves_at(places: &Places, number: u32) -> &[Move]
     places.moves(number - 1)
 }
 
-fn is_still(exit: Edge) -> bool
+/// Whether a train halts at the end of a run.
+pub(crate) fn is_still(exit: Edge) -> bool
     ensures { result ≡ stands_after exit }
 {
     match exit {

@@ -26,7 +26,8 @@ use rail_types::{List, Network, Path, Request, Settings};
 use std::alloc::Global;
 use tail_states::{Places, sound_networks_are_asked, windows_change_no_places};
 
-fn trip(request: &Request) -> Trip
+/// The windows of a request.
+pub(crate) fn trip(request: &Request) -> Trip
     ensures { result ≡ trip_of request.now }
 {
     Trip {
@@ -35,8 +36,8 @@ fn trip(request: &Request) -> Trip
     }
 }
 
-// The claims that a book holds have ticks.
-fn claims_have_ticks(book: &Occupations)
+/// The claims that a book holds have ticks.
+pub(crate) fn claims_have_ticks(book: &Occupations)
     ensures { HoldsTicks book.now }
 {
     book.zones();

@@ -4,6 +4,7 @@ mod laws;
 mod places;
 mod plans;
 
-pub use laws::plans_may_be_searched;
+pub use laws::{plans_may_be_searched, plans_over_may_be_searched};
 pub use places::planned_place;
+pub(crate) use places::{dwell_after, push_kept, ticks_of};
 pub use plans::plan_of;

@@ -18,7 +18,7 @@ use Rattle.stair_pieces.specs.declared.places.Step.{Step}
 use Rattle.stair_pieces.specs.Places.{start_place}
 use Rattle.stair_pieces.specs.Moves.{IsMove, IsPlace, MayLeave, Reaches, begun, gone_on}
 use Rattle.tail_states.specs.Asked.{IsAsked}
-use Rattle.tail_states.specs.Spots.{AreSpots, Follows, IsStride, IsWayOf, Spotted, SpotsBoundPlaces, with_made}
+use Rattle.tail_states.specs.Spots.{AreSpots, MayComeNext, IsStride, IsWayOf, Spotted, SpotsBoundPlaces, with_made}
 use Rattle.tail_states.proofs.Adding.{has_number, same_some}
 use Rattle.tail_states.proofs.Counting.{is_within, number_in}
 use Rattle.tail_states.proofs.Moving.{from_place}
@@ -28,7 +28,7 @@ none_contained : (numbers : List ℕ) (number : ℕ) → Contains numbers number
 none_contained numbers number has none = let there = subst (λ l. Contains l number) none has in omega (arith, there.1)
 
 module _ (net : Network) (request : Request) where
-  follows : (tail : List ℕ) (block : Block) → Reaches net request tail block → Follows net tail block
+  follows : (tail : List ℕ) (block : Block) → Reaches net request tail block → MayComeNext net tail block
   follows [] block reaches = none_contained block.serves request.origin reaches
   follows (first ∷ tail) block reaches = reaches
 

@@ -16,8 +16,8 @@ use Rattle.stair_pieces.specs.declared.places.Place.{Place}
 use Rattle.stair_pieces.specs.declared.places.Step.{Step}
 use Rattle.stair_pieces.specs.Places.{start_place, head_block, place_after}
 use Rattle.stair_pieces.specs.Steps.{IsTailIn}
-use Rattle.tail_states.specs.declared.faults.PlacesFault.{PlacesFault}
-use Rattle.tail_states.specs.declared.faults.PlacesFault.TheVariants.{Wide, Memory}
+use Rattle.tail_states.specs.declared.faults.SpotsFault.{SpotsFault}
+use Rattle.tail_states.specs.declared.faults.SpotsFault.TheVariants.{TooMany, Memory}
 use Rattle.tail_states.specs.declared.listed_spots.TheConstants.{MAX_SPOTS}
 use Rattle.tail_states.specs.declared.ways.Way.{Way}
 use Rattle.tail_states.specs.Asked.{HasPoints, IsAsked}
@@ -42,16 +42,16 @@ abbrev pub spot_after : Network → Train → Place → Step → Place
 spot_after net train spot step = with_made (place_after net train spot step) 0
 
 -- the block follows that of the train's head, or serves some operational point where a path begins
-abbrev pub Follows : Network → List ℕ → Block → Type 0
-Follows net [] block = ¬ (block.serves ≡ [])
-Follows net (first ∷ tail) block =
+abbrev pub MayComeNext : Network → List ℕ → Block → Type 0
+MayComeNext net [] block = ¬ (block.serves ≡ [])
+MayComeNext net (first ∷ tail) block =
     block.from_point ≡ (block_at net (head_block (first ∷ tail))).to_point
 
 -- a step that some request of a train may allow from a spot, or from the start: a train rolls on at
 -- the end of any block, and halts where some operational point is served
 pub record IsStride (net : Network) (spot : Place) (step : Step) : Type 0 where
   pub within : step.block < length net.blocks
-  pub follows : Follows net spot.tail (block_at net step.block)
+  pub follows : MayComeNext net spot.tail (block_at net step.block)
   pub halts : step.exit ≡ Halted → ¬ ((block_at net step.block).serves ≡ [])
 
 -- the spots that strides lead to from the start
@@ -104,8 +104,8 @@ HasMoreSpotsThan most net train =
     × All (IsSpotOf net train) spots
 
 -- why the spots of a train are not listed
-abbrev pub RefusesTrain : Network → Train → PlacesFault → Type 0
-RefusesTrain net train (Wide count) =
+abbrev pub RefusesTrain : Network → Train → SpotsFault → Type 0
+RefusesTrain net train (TooMany count) =
     (count ≡ MAX_SPOTS + 1) × HasMoreSpotsThan MAX_SPOTS net train
 RefusesTrain net train Memory = Unit {0}
 
@@ -122,15 +122,15 @@ SoundNetworksAreRun =
     → MayRun net train
 
 -- with each count of stops that can be made, the spots are no more than places that are searched
-abbrev pub AreEnough : Request → Spotted → Type 0
-AreEnough request spotted =
+abbrev pub AreFewEnough : Request → Spotted → Type 0
+AreFewEnough request spotted =
     (length spotted.spots * (length request.stops + 1)) ≤ MAX_PLACES
 
 -- so the request has no more places than are searched
 abbrev pub SpotsBoundPlaces : Type 0
 SpotsBoundPlaces =
     (net : Network) (request : Request) (spotted : Spotted) → IsAsked net request
-    → AreSpots net request.train spotted → AreEnough request spotted
+    → AreSpots net request.train spotted → AreFewEnough request spotted
     → ¬ HasMoreThan MAX_PLACES net request
 
 -- ---- inside the listing of spots
@@ -151,8 +151,8 @@ pub record AreSpotsFound (net : Network) (train : Train) (spots : List Place) : 
 -- the blocks that a train may enter from behind these
 pub record AreBlocksBehind (net : Network) (tail blocks : List ℕ) : Type 0 where
   pub sound : (block : ℕ) → Contains blocks block
-      → (block < length net.blocks) × Follows net tail (block_at net block)
-  pub whole : (block : ℕ) → block < length net.blocks → Follows net tail (block_at net block)
+      → (block < length net.blocks) × MayComeNext net tail (block_at net block)
+  pub whole : (block : ℕ) → block < length net.blocks → MayComeNext net tail (block_at net block)
       → Contains blocks block
 
 -- a step is put behind the ways, with where it leads

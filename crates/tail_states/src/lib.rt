@@ -14,7 +14,7 @@ mod ways;
 
 pub use adjacency::Followers;
 pub use certificates::{Closed, Member};
-pub use faults::PlacesFault;
+pub use faults::{PlacesFault, SpotsFault};
 pub use laws::{
     closed_members_exclude_paths, places_may_be_cut, sound_networks_are_asked,
     sound_networks_are_run, spots_bound_places, windows_change_no_places,

@@ -29,7 +29,7 @@ ghost use Rattle.tail_states.specs.Spots.{
   AddsWay,
   AddsWays,
   AreBlocksBehind,
-  AreEnough,
+  AreFewEnough,
   AreFirstWays,
   AreSpots,
   AreSpotsFound,
@@ -47,7 +47,7 @@ ghost use Rattle.tail_states.specs.Spots.{
 
 use crate::adjacency::block_of;
 use crate::interned::Members;
-use crate::{Followers, PlacesFault, Way};
+use crate::{Followers, SpotsFault, Way};
 use no_memory::NoMemory;
 use rail_types::{Block, List, MAX_PLACES, Network, Request, Train};
 use running_time::Edge;
@@ -106,7 +106,7 @@ impl Spots {
             ≡ Some (spot_after net.now train.now start_place step)) }
     {
         let start = Place::start(alloc);
-        let spot = place_behind(alloc, net, train, &start, step)?;
+        let spot = spot_reached(alloc, net, train, &start, step)?;
         let Some(next) = self.members.find(&spot) else {
             unreachable!()
         };
@@ -125,8 +125,8 @@ impl Spots {
     }
 
     /// Whether the spots are so few that no request with so many stops has too many places.
-    pub fn are_enough(&self, request: &Request) -> bool
-        ensures { IsTrue result ↔ AreEnough request.now self.now }
+    pub fn are_few_enough(&self, request: &Request) -> bool
+        ensures { IsTrue result ↔ AreFewEnough request.now self.now }
     {
         let spots = self.count();
         spots == 0 || request.stops.len() < MAX_PLACES as usize / spots
@@ -134,7 +134,7 @@ impl Spots {
 }
 
 // The same place, whatever stops it has made.
-fn spot_of(place: Place) -> Place
+fn without_stops(place: Place) -> Place
     ensures { result ≡ with_made place 0 }
 {
     Place {
@@ -160,7 +160,7 @@ fn spot_behind(
     members: &mut Members,
     spot: &Place,
     step: Step,
-) -> Result<u32, PlacesFault>
+) -> Result<u32, SpotsFault>
     requires spot { IsSpotFrom net.now train.now spot.now }
     requires step { IsStride net.now spot.now step }
     requires found { AreSpotsFound net.now train.now members.old }
@@ -168,20 +168,20 @@ fn spot_behind(
         ≡ Some (spot_after net.now train.now spot.now step)) }
     ensures found { OnOk result (AreSpotsFound net.now train.now members.new) }
     ensures grown { OnOk result (Grows members.old members.new) }
-    ensures wide { IfErr result (RefusesTrain net.now train.now) }
+    ensures many { IfErr result (RefusesTrain net.now train.now) }
 {
-    let after = place_behind(alloc, net, train, spot, step)?;
+    let after = spot_reached(alloc, net, train, spot, step)?;
     let number = members.intern(after)?;
     let count = members.len();
     if count > MAX_SPOTS {
-        return Err(PlacesFault::Wide {
+        return Err(SpotsFault::TooMany {
             count: count as u32,
         });
     }
     Ok(number as u32)
 }
 
-fn place_behind(
+fn spot_reached(
     alloc: Global,
     net: &Network,
     train: &Train,
@@ -194,7 +194,7 @@ fn place_behind(
     ensures is { IfOk result (IsSpotOf net.now train.now) }
 {
     let after = spot.after(alloc, net, train, step)?;
-    Ok(spot_of(after))
+    Ok(without_stops(after))
 }
 
 // Puts a way behind the others.
@@ -206,7 +206,7 @@ fn add_way(
     spot: &Place,
     step: Step,
     ways: &mut List<Way>,
-) -> Result<(), PlacesFault>
+) -> Result<(), SpotsFault>
     requires spot { IsSpotFrom net.now train.now spot.now }
     requires step { IsStride net.now spot.now step }
     requires found { AreSpotsFound net.now train.now members.old }
@@ -214,7 +214,7 @@ fn add_way(
         ways.new) }
     ensures found { OnOk result (AreSpotsFound net.now train.now members.new) }
     ensures grown { OnOk result (Grows members.old members.new) }
-    ensures wide { IfErr result (RefusesTrain net.now train.now) }
+    ensures many { IfErr result (RefusesTrain net.now train.now) }
 {
     let next = spot_behind(alloc, net, train, members, spot, step)?;
     ways.push(Way { step, next })?;
@@ -230,7 +230,7 @@ fn add_ways(
     spot: &Place,
     block: u32,
     ways: &mut List<Way>,
-) -> Result<(), PlacesFault>
+) -> Result<(), SpotsFault>
     requires spot { IsSpotFrom net.now train.now spot.now }
     requires block { IsStride net.now spot.now (record { block = block; exit = Rolling }) }
     requires found { AreSpotsFound net.now train.now members.old }
@@ -238,7 +238,7 @@ fn add_ways(
         ways.new) }
     ensures found { OnOk result (AreSpotsFound net.now train.now members.new) }
     ensures grown { OnOk result (Grows members.old members.new) }
-    ensures wide { IfErr result (RefusesTrain net.now train.now) }
+    ensures many { IfErr result (RefusesTrain net.now train.now) }
 {
     let rolling = Step {
         block,
@@ -263,7 +263,7 @@ fn ways_onto(
     members: &mut Members,
     spot: &Place,
     blocks: &[u32],
-) -> Result<List<Way>, PlacesFault>
+) -> Result<List<Way>, SpotsFault>
     requires spot { IsSpotFrom net.now train.now spot.now }
     requires blocks { AreBlocksBehind net.now spot.now.tail blocks.now }
     requires found { AreSpotsFound net.now train.now members.old }
@@ -271,7 +271,7 @@ fn ways_onto(
         AreWaysFrom net.now train.now members.new spot.now ways) }
     ensures found { OnOk result (AreSpotsFound net.now train.now members.new) }
     ensures grown { OnOk result (Grows members.old members.new) }
-    ensures wide { IfErr result (RefusesTrain net.now train.now) }
+    ensures many { IfErr result (RefusesTrain net.now train.now) }
 {
     let mut ways = List::new(alloc);
     for block in blocks {
@@ -301,7 +301,7 @@ fn ways_of(
     train: &Train,
     members: &mut Members,
     number: usize,
-) -> Result<List<Way>, PlacesFault>
+) -> Result<List<Way>, SpotsFault>
     requires may { MayRun net.now train.now }
     requires followers { AreFollowers net.now followers.now }
     requires found { AreSpotsFound net.now train.now members.old }
@@ -310,7 +310,7 @@ fn ways_of(
         AreWaysAt net.now train.now members.old number members.new ways) }
     ensures found { OnOk result (AreSpotsFound net.now train.now members.new) }
     ensures grown { OnOk result (Grows members.old members.new) }
-    ensures wide { IfErr result (RefusesTrain net.now train.now) }
+    ensures many { IfErr result (RefusesTrain net.now train.now) }
 {
     let spot = members.get(number).copy(alloc)?;
     let blocks = blocks_behind(net, followers, &spot);
@@ -325,7 +325,7 @@ fn ways_of_all(
     followers: &Followers,
     train: &Train,
     members: &mut Members,
-) -> Result<Vec<List<Way>>, PlacesFault>
+) -> Result<Vec<List<Way>>, SpotsFault>
     requires may { MayRun net.now train.now }
     requires followers { AreFollowers net.now followers.now }
     requires found { AreSpotsFound net.now train.now members.old }
@@ -334,7 +334,7 @@ fn ways_of_all(
     ensures all { IfOk result (λ ways. length members.new ≤ length ways.items) }
     ensures found { OnOk result (AreSpotsFound net.now train.now members.new) }
     ensures grown { OnOk result (Grows members.old members.new) }
-    ensures wide { IfErr result (RefusesTrain net.now train.now) }
+    ensures many { IfErr result (RefusesTrain net.now train.now) }
 {
     let mut ways = Vec::new(alloc);
     while ways.len() < members.len() {
@@ -349,13 +349,13 @@ fn add_starts(
     net: &Network,
     train: &Train,
     members: &mut Members,
-) -> Result<(), PlacesFault>
+) -> Result<(), SpotsFault>
     requires may { MayRun net.now train.now }
     requires empty { members.old ≡ [] }
     ensures starts { OnOk result
         (HoldStarts net.now train.now (length net.now.blocks) members.new) }
     ensures found { OnOk result (AreSpotsFound net.now train.now members.new) }
-    ensures wide { IfErr result (RefusesTrain net.now train.now) }
+    ensures many { IfErr result (RefusesTrain net.now train.now) }
 {
     let start = Place::start(alloc);
     for number in 0..net.blocks.len() {
@@ -372,7 +372,7 @@ fn add_start(
     members: &mut Members,
     start: &Place,
     block: u32,
-) -> Result<(), PlacesFault>
+) -> Result<(), SpotsFault>
     requires may { MayRun net.now train.now }
     requires start { start.now ≡ start_place }
     requires block { block < length net.now.blocks }
@@ -380,7 +380,7 @@ fn add_start(
     requires found { AreSpotsFound net.now train.now members.old }
     ensures starts { OnOk result (HoldStarts net.now train.now (block + 1) members.new) }
     ensures found { OnOk result (AreSpotsFound net.now train.now members.new) }
-    ensures wide { IfErr result (RefusesTrain net.now train.now) }
+    ensures many { IfErr result (RefusesTrain net.now train.now) }
 {
     if !is_served(block_of(net, block)) {
         return Ok(());
@@ -399,18 +399,18 @@ fn add_start(
 }
 
 /// The spots of a train, with the ways between them. Where they are more than `MAX_SPOTS`, it is
-/// `Wide`.
+/// `TooMany`.
 pub fn list_spots(
     alloc: Global,
     net: &Network,
     followers: &Followers,
     train: &Train,
-) -> Result<Spots, PlacesFault>
+) -> Result<Spots, SpotsFault>
     requires may { MayRun net.now train.now }
     requires followers { AreFollowers net.now followers.now }
     ensures spots { IfOk result (AreSpots net.now train.now) }
     ensures few { IfOk result (λ spots. length spots.spots ≤ MAX_SPOTS) }
-    ensures wide { IfErr result (RefusesTrain net.now train.now) }
+    ensures many { IfErr result (RefusesTrain net.now train.now) }
 {
     let mut members = Members::new(alloc);
     add_starts(alloc, net, train, &mut members)?;

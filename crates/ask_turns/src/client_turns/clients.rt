@@ -1,25 +1,29 @@
 //! What a client keeps for itself.
 ghost use Rattle.std.specs.Prelude.{◌≡◌, ◌++◌, ◌∷◌, [], All, IfNone, IfOk, IfSome, OnOk};
-ghost use Rattle.path_labels.specs.Courses.{IsSmall, IsTakenOut, kept_for, with_room};
+ghost use Rattle.path_labels.specs.Courses.{IsTakenOut};
+ghost use Rattle.path_labels.specs.Guides.{AreKeptWith};
+ghost use Rattle.path_labels.specs.TrainCharts.{IsChartTakenOut, with_chart_room};
 ghost use Rattle.path_labels.specs.tails.Alike.{AreAlike};
-ghost use Rattle.ask_turns.specs.Clients.{IsCopyOf, IsCourseOf, Knows, StaysCopy, StaysCopyWith};
+ghost use Rattle.ask_turns.specs.Clients.{IsChartFor, IsCopyOf, IsCourseOf, Knows, StaysCopy};
+ghost use Rattle.ask_turns.specs.Clients.{StaysCopyWith, StaysCopyWithChart};
 
 use no_memory::NoMemory;
 use outside_io::Disk;
 use path_commit::Book;
 use path_commit::claims::Occupations;
-use path_labels::{Course, Courses};
-use rail_types::{Name, Request};
+use path_labels::{Charts, Course, Courses, Guide, TrainChart};
+use rail_types::{Name, Request, Train};
 use std::alloc::Global;
 
-/// A client's name, its copy of the live claims, of how many entries they are, and the courses of
-/// requests that it keeps for the next ones like them.
+/// A client's name, its copy of the live claims, of how many entries they are, the courses of
+/// requests that it keeps for the next ones like them, and the charts of trains.
 #[derive(Drop)]
 pub struct Client {
     pub(crate) name: Name,
     pub(crate) copy: Occupations,
     pub(crate) front: u64,
     pub(crate) courses: Courses,
+    pub(crate) charts: Charts,
 }
 
 impl Client {
@@ -32,11 +36,13 @@ impl Client {
         let copy = book.occupations().copy(alloc)?;
         let front = book.front();
         let courses = Courses::new(alloc)?;
+        let charts = Charts::new(alloc)?;
         Ok(Client {
             name,
             copy,
             front,
             courses,
+            charts,
         })
     }
 
@@ -76,17 +82,63 @@ impl Client {
         self.courses.take(request)
     }
 
-    /// Keeps the course of a request for the next one like it, behind the others: of as many as are
-    /// kept the first one is let go for it. A course of too many places is let go itself.
-    pub fn keep_course(&mut self, request: Request, course: Course)
-        ensures small { IsSmall course
-            → self.new.courses ≡ with_room self.old.courses ++ kept_for request course ∷ [] }
-        ensures large { ¬ IsSmall course → self.new.courses ≡ self.old.courses }
-        ensures copy { StaysCopyWith request course self.old self.new }
+    /// Whether it keeps a course of that train's.
+    pub fn has_asked(&self, train: &Train) -> bool {
+        self.courses.has_train(train)
+    }
+
+    /// Hands out the chart that it keeps for a train, if it keeps one; it keeps it no more.
+    pub fn take_chart(&mut self, train: &Train) -> Option<TrainChart>
+        ensures taken { IfSome result
+            (IsChartTakenOut self.old.charts self.new.charts train.now) }
+        ensures some { IfSome result (IsChartFor self.old train.now) }
+        ensures none { IfNone result
+            (All (λ kept. ¬ (kept.train ≡ train.now)) self.old.charts) }
+        ensures same { IfNone result (self.new.charts ≡ self.old.charts) }
+        ensures copy { StaysCopy self.old self.new }
         ensures name { self.new.name ≡ self.old.name }
         ensures front { self.new.front ≡ self.old.front }
     {
-        self.courses.keep(request, course);
+        self.charts.take(train)
+    }
+
+    /// Whether it knows that a train has too many spots for a chart.
+    pub fn knows_wide(&self, train: &Train) -> bool {
+        self.charts.is_wide(train)
+    }
+
+    /// Notes that a train has too many spots for a chart.
+    pub fn note_wide(&mut self, alloc: Global, train: &Train)
+        ensures { self.new ≡ self.old }
+    {
+        self.charts.note_wide(alloc, train);
+    }
+
+    /// Keeps the chart of a train for the next request of it, behind the others: of as many as are
+    /// kept the first one is let go for it.
+    pub fn keep_chart(&mut self, chart: TrainChart)
+        ensures at { self.new.charts ≡ with_chart_room self.old.charts ++ chart ∷ [] }
+        ensures copy { StaysCopyWithChart chart self.old self.new }
+        ensures name { self.new.name ≡ self.old.name }
+        ensures front { self.new.front ≡ self.old.front }
+    {
+        self.charts.keep(chart);
+    }
+
+    /// Keeps what guided the search of a request: its course for the next one like it, behind the
+    /// others, where it has few enough places, or the chart of its train for the next one of that
+    /// train. Of as many as are kept the first one is let go for it.
+    pub fn keep_guide(&mut self, request: Request, guide: Guide)
+        ensures kept { AreKeptWith request guide self.old.courses self.new.courses
+            self.old.charts self.new.charts }
+        ensures copy { StaysCopyWith request guide self.old self.new }
+        ensures name { self.new.name ≡ self.old.name }
+        ensures front { self.new.front ≡ self.old.front }
+    {
+        match guide {
+            Guide::Listed(course) => self.courses.keep(request, course),
+            Guide::Charted(course) => self.charts.keep(course.into_chart()),
+        }
     }
 
     // Brings the copy up to the entries of now.

@@ -12,12 +12,13 @@ ghost use Rattle.path_labels.specs.Plans.{
   move_in,
   place_in,
   target_of as planned_target,
+  ticks_in,
   ticks_of_step,
 };
 
 use label_search::{Move as PlannedMove, Place as PlannedPlace, Target};
 use no_memory::NoMemory;
-use rail_types::{Claim, List, Network, Request, Settings, Span, Tick};
+use rail_types::{Claim, List, Network, Request, Settings, Span, Tick, Train};
 use running_time::run;
 use stair_pieces::{Place, Step, pieces, standing};
 use std::alloc::Global;
@@ -40,28 +41,28 @@ fn cut_behind_the_horizon(settings: &Settings, ticks: Tick) -> Tick
     ticks.min(i64::from(settings.horizon) + 1)
 }
 
-// The ticks of a step from a place.
-fn ticks_of(
+// The ticks of a step of a train from a place.
+pub(crate) fn ticks_of(
     net: &Network,
     settings: &Settings,
-    request: &Request,
+    train: &Train,
     place: &Place,
     step: Step,
     after: &Place,
 ) -> Tick
-    requires place { IsPlaceIn net.now settings.now request.now.train place.now }
+    requires place { IsPlaceIn net.now settings.now train.now place.now }
     requires step { step.block < length net.now.blocks }
-    requires after { after.now ≡ place_after net.now request.now.train place.now step }
+    requires after { after.now ≡ place_after net.now train.now place.now step }
     requires entered { IsEnterWithinLimits after.now.entered }
-    ensures { result ≡ ticks_of_step net.now settings.now request.now place.now step }
+    ensures { result ≡ ticks_in net.now settings.now train.now place.now step }
 {
     let block = &net.blocks.as_slice()[step.block as usize];
-    let ticks = run(block, &request.train, settings, after.entered, step.exit);
+    let ticks = run(block, train, settings, after.entered, step.exit);
     cut_behind_the_horizon(settings, ticks)
 }
 
 // Puts zones that are kept over a span behind the claims.
-fn push_kept(claims: &mut Vec<Claim>, zones: &[u32], span: &Span) -> Result<(), NoMemory>
+pub(crate) fn push_kept(claims: &mut Vec<Claim>, zones: &[u32], span: &Span) -> Result<(), NoMemory>
     ensures { OnOk result (claims.new.items
         ≡ claims.old.items ++ kept zones.now span.now.from span.now.to) }
 {
@@ -123,7 +124,7 @@ fn planned_move(
         planned ≡ move_in net.now settings.now request.now place.now one.now) }
 {
     let after = place.after(alloc, net, &request.train, one.step)?;
-    let ticks = ticks_of(net, settings, request, place, one.step, &after);
+    let ticks = ticks_of(net, settings, &request.train, place, one.step, &after);
     let claims = claims_of(alloc, net, settings, request, place, one, &after, ticks)?;
     Ok(PlannedMove {
         target: target_of(one.next),
@@ -154,14 +155,14 @@ fn planned_moves(
     Ok(planned)
 }
 
-// The dwell of the stop that was made last, where the train stands.
-fn dwell_of(request: &Request, place: &Place) -> Tick
-    ensures { result ≡ dwell_at request.now place.now.made place.now.standing }
+// The dwell of the stop that was made last of so many, where the train stands.
+pub(crate) fn dwell_after(request: &Request, made: u32, standing: bool) -> Tick
+    ensures { result ≡ dwell_at request.now made standing }
 {
-    if !place.standing {
+    if !standing {
         return 0;
     }
-    match request.stops.get(place.made.saturating_sub(1) as usize) {
+    match request.stops.get(made.saturating_sub(1) as usize) {
         Some(stop) => i64::from(stop.dwell),
         None => 0,
     }
@@ -189,7 +190,7 @@ pub fn planned_place(
     push_kept(&mut waits, zones.as_slice(), &Span { from: 0, to: 1 })?;
     Ok(PlannedPlace {
         standing: place.standing,
-        dwell: dwell_of(request, place),
+        dwell: dwell_after(request, place.made, place.standing),
         waits: List::from_vec(waits),
         moves: planned_moves(alloc, net, settings, request, place, moves)?,
     })

@@ -1,0 +1,324 @@
+//! The course of a request over the chart of its train, and the search that has it.
+
+ghost use Rattle.std.specs.Prelude.{◌≡◌, ◌≤◌, ◌+ℤ◌, ◌≤ℤ◌, All, IfOk, OnOk, length, pos};
+ghost use Rattle.rail_types.specs.declared.limits.TheConstants.{MAX_STOPS};
+ghost use Rattle.rail_types.specs.Limits.{IsRequestWithinLimits};
+ghost use Rattle.running_time.specs.declared.edges.Edge.TheVariants.{Rolling};
+ghost use Rattle.stair_pieces.specs.Places.{start_place};
+ghost use Rattle.tail_states.specs.Following.{AreFollowers};
+ghost use Rattle.tail_states.specs.Spots.{AreFewEnough, IsStride};
+ghost use Rattle.label_search.specs.declared.plans.Target.TheVariants.{Place as To};
+ghost use Rattle.label_search.specs.declared.plans.TheConstants.{LATEST};
+ghost use Rattle.label_search.specs.Charts.{HasNumbers, LeadOnChart, plan_over};
+ghost use Rattle.label_search.specs.Limits.{IsAhead, IsConsistent};
+ghost use Rattle.path_labels.specs.Answers.{IsFinding, claims_held};
+ghost use Rattle.path_labels.specs.ChartCourses.{
+  AddsStart,
+  AddsStarts,
+  AreCalls,
+  AreStarts,
+  IsCallAt,
+  IsChartCourse,
+  IsOverChart,
+  listed_along,
+  plan_along,
+};
+ghost use Rattle.path_labels.specs.Joining.{AreSteps, path_in};
+ghost use Rattle.path_labels.specs.TrainCharts.{IsChartOf};
+
+use crate::laws::{charts_are_planned, granted_paths_are_planned, planned_paths_are_granted};
+use crate::request_plans::dwell_after;
+use crate::plan_searches::{claims_have_ticks, trip};
+use crate::train_charts::{TrainChart, charted_way};
+use label_search::{
+    Ahead, ChartCall, ChartWay, Finding, LentPlan, Step as PlannedStep, Target, find_lent,
+    lent_bounds, way_on_chart,
+};
+use no_memory::NoMemory;
+use occupation_book::Occupations;
+use rail_types::{List, Network, Path, Request, Run, Settings};
+use running_time::Edge;
+use stair_pieces::{Place, Step};
+use std::alloc::Global;
+use tail_states::{Followers, sound_networks_are_run, stop_ahead};
+
+/// What a search needs of a request, whatever its windows: the chart of its train, the ways of its
+/// start, what is asked at each count of stops made, and the ticks ahead of each place.
+#[derive(Drop)]
+pub struct ChartCourse {
+    pub(crate) chart: TrainChart,
+    pub(crate) starts: List<ChartWay>,
+    pub(crate) calls: List<ChartCall>,
+    pub(crate) ahead: List<Ahead>,
+}
+
+impl ChartCourse {
+    /// The course of a request over the chart of its train. `NoMemory` alone is refused.
+    pub fn of(
+        alloc: Global,
+        net: &Network,
+        settings: &Settings,
+        followers: &Followers,
+        request: &Request,
+        chart: TrainChart,
+    ) -> Result<ChartCourse, NoMemory>
+        requires followers { AreFollowers net.now followers.now }
+        requires request { IsRequestWithinLimits request.now }
+        requires chart { IsChartOf net.now settings.now request.now.train chart }
+        requires few { AreFewEnough request.now chart.spots }
+        ensures { IfOk result (IsChartCourse net.now settings.now request.now) }
+    {
+        let starts = starts_of(alloc, net, settings, followers, request, &chart)?;
+        let calls = calls_of(alloc, net, followers, request)?;
+        let ahead = ahead_over(alloc, net, settings, request, &chart, &starts, &calls)?;
+        Ok(ChartCourse {
+            chart,
+            starts,
+            calls,
+            ahead,
+        })
+    }
+
+    /// Its chart, to be kept for the next request.
+    pub fn into_chart(self) -> TrainChart
+        ensures { result ≡ self.chart }
+    {
+        self.chart
+    }
+
+    // The plan of the course.
+    fn plan<'a>(&'a self, settings: &Settings) -> LentPlan<'a>
+        requires leads { LeadOnChart self.now.chart.chart.spots self.now.starts }
+        requires numbers { HasNumbers self.now.chart.chart.spots self.now.calls }
+        ensures { result ≡ plan_along settings.now self.now }
+    {
+        LentPlan::charted(
+            &self.chart.chart,
+            &self.starts,
+            &self.calls,
+            settings.horizon,
+        )
+    }
+}
+
+// The ticks ahead of each place of a plan over a chart.
+fn ahead_over(
+    alloc: Global,
+    net: &Network,
+    settings: &Settings,
+    request: &Request,
+    chart: &TrainChart,
+    starts: &List<ChartWay>,
+    calls: &List<ChartCall>,
+) -> Result<List<Ahead>, NoMemory>
+    requires request { IsRequestWithinLimits request.now }
+    requires over { IsOverChart net.now settings.now request.now chart.now starts.now calls.now }
+    ensures ahead { IfOk result (All IsAhead) }
+    ensures consistent { IfOk result (IsConsistent (plan_over chart.now.chart.spots starts.now
+        calls.now (pos settings.now.horizon))) }
+{
+    charts_are_planned();
+    let plan = LentPlan::charted(&chart.chart, starts, calls, settings.horizon);
+    let ahead = lent_bounds(alloc, &plan)?;
+    Ok(ahead)
+}
+
+// The ways with which a path of the request begins.
+fn starts_of(
+    alloc: Global,
+    net: &Network,
+    settings: &Settings,
+    followers: &Followers,
+    request: &Request,
+    chart: &TrainChart,
+) -> Result<List<ChartWay>, NoMemory>
+    requires followers { AreFollowers net.now followers.now }
+    requires chart { IsChartOf net.now settings.now request.now.train chart.now }
+    ensures { IfOk result
+        (AreStarts net.now settings.now request.now chart.now.spots.spots) }
+{
+    let start = Place::start(alloc);
+    let mut starts = List::new(alloc);
+    for block in followers.serving(request.origin) {
+        add_starts(alloc, net, settings, chart, &start, *block, &mut starts)?;
+    }
+    Ok(starts)
+}
+
+// Puts both ways from the start onto a block behind the others.
+fn add_starts(
+    alloc: Global,
+    net: &Network,
+    settings: &Settings,
+    chart: &TrainChart,
+    start: &Place,
+    block: u32,
+    starts: &mut List<ChartWay>,
+) -> Result<(), NoMemory>
+    requires chart { IsChartOf net.now settings.now chart.now.train chart.now }
+    requires start { start.now ≡ start_place }
+    requires block { IsStride net.now start_place (record { block = block; exit = Rolling }) }
+    ensures { OnOk result
+        (AddsStarts net.now settings.now chart.now block starts.old starts.new) }
+{
+    add_start(
+        alloc,
+        net,
+        settings,
+        chart,
+        start,
+        block,
+        Edge::Rolling,
+        starts,
+    )?;
+    add_start(
+        alloc,
+        net,
+        settings,
+        chart,
+        start,
+        block,
+        Edge::Still,
+        starts,
+    )?;
+    Ok(())
+}
+
+fn add_start(
+    alloc: Global,
+    net: &Network,
+    settings: &Settings,
+    chart: &TrainChart,
+    start: &Place,
+    block: u32,
+    exit: Edge,
+    starts: &mut List<ChartWay>,
+) -> Result<(), NoMemory>
+    requires chart { IsChartOf net.now settings.now chart.now.train chart.now }
+    requires start { start.now ≡ start_place }
+    requires step { IsStride net.now start_place (record { block = block; exit = exit }) }
+    ensures { OnOk result (AddsStart net.now settings.now chart.now
+        (record { block = block; exit = exit }) starts.old starts.new) }
+{
+    sound_networks_are_run();
+    let step = Step { block, exit };
+    let way = chart.spots.start_way(alloc, net, &chart.train, step)?;
+    starts.push(charted_way(alloc, net, settings, &chart.train, start, &way)?)?;
+    Ok(())
+}
+
+// What is asked at each count of stops made.
+fn calls_of(
+    alloc: Global,
+    net: &Network,
+    followers: &Followers,
+    request: &Request,
+) -> Result<List<ChartCall>, NoMemory>
+    requires followers { AreFollowers net.now followers.now }
+    requires stops { length request.now.stops ≤ MAX_STOPS }
+    ensures { IfOk result (AreCalls net.now request.now) }
+{
+    let mut calls = List::new(alloc);
+    for made in 0..request.stops.len() + 1 {
+        calls.push(call_of(alloc, net, followers, request, made as u32)?)?;
+    }
+    Ok(calls)
+}
+
+fn call_of(
+    alloc: Global,
+    net: &Network,
+    followers: &Followers,
+    request: &Request,
+    made: u32,
+) -> Result<ChartCall, NoMemory>
+    requires followers { AreFollowers net.now followers.now }
+    ensures { IfOk result (IsCallAt net.now request.now made) }
+{
+    let blocks = Vec::from_slice(alloc, followers.serving(stop_ahead(request, made)))?;
+    Ok(ChartCall {
+        blocks: List::from_vec(blocks),
+        dwell: dwell_after(request, made, true),
+    })
+}
+
+/// The path of a request that leaves last as early as any that can be granted beside what the book
+/// holds, or None where none can, found by the request's course over the chart of its train.
+/// `NoMemory` alone is refused.
+pub fn find_over(
+    alloc: Global,
+    net: &Network,
+    settings: &Settings,
+    book: &Occupations,
+    request: &Request,
+    course: &ChartCourse,
+) -> Result<Option<Path>, NoMemory>
+    requires zones { length book.now ≡ net.now.zones }
+    requires request { IsRequestWithinLimits request.now }
+    requires course { IsChartCourse net.now settings.now request.now course.now }
+    ensures { IfOk result
+        (IsFinding net.now settings.now (claims_held book.now) request.now) }
+{
+    planned_paths_are_granted();
+    granted_paths_are_planned();
+    charts_are_planned();
+    claims_have_ticks(book);
+    let plan = course.plan(settings);
+    match find_lent(alloc, &plan, book, &trip(request), &course.ahead)? {
+        Finding::Found(steps) => {
+            let path = told_over(alloc, settings, request, course, &plan, &steps)?;
+            Ok(Some(path))
+        }
+        Finding::NoPath => Ok(None),
+    }
+}
+
+// The run of a step that is a way.
+fn run_of_way(way: &ChartWay, step: &PlannedStep) -> Run
+    requires begins { pos 0 ≤ℤ step.now.enter }
+    requires ends { (step.now.enter +ℤ way.now.run) ≤ℤ LATEST }
+    ensures block { result.block ≡ way.now.block }
+    ensures enter { result.enter ≡ step.now.enter }
+    ensures leave { result.leave ≡ step.now.enter +ℤ way.now.run }
+    ensures stops { result.stops ≡ way.now.halts }
+{
+    Run {
+        block: way.block,
+        enter: step.enter,
+        leave: step.enter + way.run,
+        stops: way.halts,
+    }
+}
+
+// The path that the steps of a planned path make.
+fn told_over(
+    alloc: Global,
+    settings: &Settings,
+    request: &Request,
+    course: &ChartCourse,
+    plan: &LentPlan,
+    steps: &List<PlannedStep>,
+) -> Result<Path, NoMemory>
+    requires plan { plan.now ≡ plan_along settings.now course.now }
+    requires numbers { HasNumbers course.now.chart.chart.spots course.now.calls }
+    requires horizon { plan.now.horizon ≤ℤ LATEST }
+    requires steps { AreSteps plan.now (To 0) steps.now }
+    ensures { IfOk result (λ path.
+        path ≡ path_in request.now (listed_along course.now) plan.now steps.now) }
+{
+    let mut runs = List::new(alloc);
+    let mut target = Target::Place(0);
+    for step in steps.as_slice() {
+        let Target::Place(number) = target else {
+            unreachable!()
+        };
+        let chart = &course.chart.chart;
+        let way = way_on_chart(chart, &course.starts, &course.calls, number, step.number);
+        runs.push(run_of_way(way, step))?;
+        target = plan.target(number, step.number);
+    }
+    Ok(Path {
+        train: request.train.copy(alloc)?,
+        runs,
+    })
+}

@@ -1,0 +1,227 @@
+//! The chart of a train: its spots, with what each way between them takes.
+
+ghost use Rattle.std.specs.Prelude.{◌≡◌, ◌↔◌, ◌<◌, ◌≤◌, ◌^◌, ◌++◌, ◌+◌, ◌+ℤ◌, ◌≤ℤ◌, [], false, true, pos};
+ghost use Rattle.std.specs.Prelude.{All, IfOk, IsTrue, None, length, map};
+ghost use Rattle.rail_types.specs.Flaws.{first_flaw};
+ghost use Rattle.rail_types.specs.Limits.{IsSettingsWithinLimits, IsTrainWithinLimits};
+ghost use Rattle.stair_pieces.specs.Pieces.{kept};
+ghost use Rattle.stair_pieces.specs.Places.{standing_zones, stands_after};
+ghost use Rattle.stair_pieces.specs.Steps.{IsPlaceIn, IsTailIn};
+ghost use Rattle.tail_states.specs.declared.listed_spots.TheConstants.{MAX_SPOTS};
+ghost use Rattle.tail_states.specs.Following.{AreFollowers};
+ghost use Rattle.tail_states.specs.Spots.{AreFewEnough, AreSpots};
+ghost use Rattle.path_labels.specs.TrainCharts.{AreCharted, IsChartOf, IsChartedAt};
+ghost use Rattle.path_labels.specs.TrainCharts.{spot_in, way_in};
+
+use crate::paths::is_still;
+use crate::request_plans::{push_kept, ticks_of};
+use label_search::{Chart, ChartSpot, ChartWay};
+use no_memory::NoMemory;
+use rail_types::{Claim, List, Network, Request, Settings, Span, Tick, Train};
+use running_time::Edge;
+use stair_pieces::{Place, pieces, standing};
+use std::alloc::Global;
+use tail_states::{Followers, Spots, SpotsFault, Way, list_spots, sound_networks_are_run};
+
+/// A train, its spots on a network, and what their ways take.
+#[derive(Drop)]
+pub struct TrainChart {
+    pub(crate) train: Train,
+    pub(crate) spots: Spots,
+    pub(crate) chart: Chart,
+}
+
+impl TrainChart {
+    /// The chart of a train. Where it has more spots than are listed, it is `TooMany`.
+    pub fn of(
+        alloc: Global,
+        net: &Network,
+        settings: &Settings,
+        followers: &Followers,
+        train: &Train,
+    ) -> Result<TrainChart, SpotsFault>
+        requires flawless { first_flaw net.now ≡ None }
+        requires settings { IsSettingsWithinLimits settings.now }
+        requires followers { AreFollowers net.now followers.now }
+        requires train { IsTrainWithinLimits train.now }
+        ensures { IfOk result (IsChartOf net.now settings.now train.now) }
+    {
+        sound_networks_are_run();
+        let spots = list_spots(alloc, net, followers, train)?;
+        let chart = chart_of(alloc, net, settings, train, &spots)?;
+        Ok(TrainChart {
+            train: train.copy(alloc)?,
+            spots,
+            chart,
+        })
+    }
+
+    /// Whether it is the chart of a train.
+    pub fn is_of(&self, train: &Train) -> bool
+        ensures { IsTrue result ↔ (self.now.train ≡ train.now) }
+    {
+        self.train.is_same(train)
+    }
+
+    /// Whether its spots are so few that the request has no more places than are searched.
+    pub fn is_narrow(&self, request: &Request) -> bool
+        ensures { IsTrue result → AreFewEnough request.now self.now.spots }
+    {
+        self.spots.are_few_enough(request)
+    }
+}
+
+// The chart of the spots of a train.
+fn chart_of(
+    alloc: Global,
+    net: &Network,
+    settings: &Settings,
+    train: &Train,
+    spots: &Spots,
+) -> Result<Chart, NoMemory>
+    requires settings { IsSettingsWithinLimits settings.now }
+    requires spots { AreSpots net.now train.now spots.now }
+    requires few { length spots.now.spots ≤ MAX_SPOTS }
+    ensures { IfOk result (AreCharted net.now settings.now train.now spots.now) }
+{
+    let mut charted = List::new(alloc);
+    for number in 0..spots.count() {
+        charted.push(listed_spot(alloc, net, settings, train, spots, number as u32)?)?;
+    }
+    Ok(Chart { spots: charted })
+}
+
+fn listed_spot(
+    alloc: Global,
+    net: &Network,
+    settings: &Settings,
+    train: &Train,
+    spots: &Spots,
+    number: u32,
+) -> Result<ChartSpot, NoMemory>
+    requires settings { IsSettingsWithinLimits settings.now }
+    requires spots { AreSpots net.now train.now spots.now }
+    requires number { number < length spots.now.spots }
+    ensures { IfOk result (IsChartedAt net.now settings.now train.now spots.now number) }
+{
+    let spot = spots.spot(number);
+    let ways = spots.ways(number);
+    let charted = charted_spot(alloc, net, settings, train, spot, ways)?;
+    Ok(charted)
+}
+
+fn charted_spot(
+    alloc: Global,
+    net: &Network,
+    settings: &Settings,
+    train: &Train,
+    spot: &Place,
+    ways: &[Way],
+) -> Result<ChartSpot, NoMemory>
+    requires spot { IsPlaceIn net.now settings.now train.now spot.now }
+    requires made { spot.now.made < 2 ^ 31 }
+    requires steps { All (λ way. way.step.block < length net.now.blocks) ways.now }
+    ensures { IfOk result (λ charted.
+        charted ≡ spot_in net.now settings.now train.now spot.now ways.now) }
+{
+    let zones = standing(alloc, net, train, spot)?;
+    let mut waits = Vec::new(alloc);
+    push_kept(&mut waits, zones.as_slice(), &Span { from: 0, to: 1 })?;
+    Ok(ChartSpot {
+        standing: spot.standing,
+        waits: List::from_vec(waits),
+        ways: charted_ways(alloc, net, settings, train, spot, ways)?,
+    })
+}
+
+fn charted_ways(
+    alloc: Global,
+    net: &Network,
+    settings: &Settings,
+    train: &Train,
+    spot: &Place,
+    ways: &[Way],
+) -> Result<List<ChartWay>, NoMemory>
+    requires spot { IsPlaceIn net.now settings.now train.now spot.now }
+    requires made { spot.now.made < 2 ^ 31 }
+    requires steps { All (λ way. way.step.block < length net.now.blocks) ways.now }
+    ensures { IfOk result (λ charted.
+        charted ≡ map (way_in net.now settings.now train.now spot.now) ways.now) }
+{
+    let mut charted = List::new(alloc);
+    for way in ways {
+        charted.push(charted_way(alloc, net, settings, train, spot, way)?)?;
+    }
+    Ok(charted)
+}
+
+/// A way of a train with what it takes.
+pub(crate) fn charted_way(
+    alloc: Global,
+    net: &Network,
+    settings: &Settings,
+    train: &Train,
+    spot: &Place,
+    way: &Way,
+) -> Result<ChartWay, NoMemory>
+    requires spot { IsPlaceIn net.now settings.now train.now spot.now }
+    requires made { spot.now.made < 2 ^ 31 }
+    requires step { way.now.step.block < length net.now.blocks }
+    ensures { IfOk result (λ charted.
+        charted ≡ way_in net.now settings.now train.now spot.now way.now) }
+{
+    let after = spot.after(alloc, net, train, way.step)?;
+    let ticks = ticks_of(net, settings, train, spot, way.step, &after);
+    let claims = pieces(alloc, net, settings, train, spot, way.step)?;
+    let ending = ending_of(
+        alloc,
+        net,
+        settings,
+        train,
+        way,
+        &after,
+        claims.as_slice(),
+        ticks,
+    )?;
+    Ok(ChartWay {
+        block: way.step.block,
+        halts: is_still(way.step.exit),
+        next: way.next,
+        run: ticks,
+        pieces: List::from_vec(claims),
+        ending: List::from_vec(ending),
+    })
+}
+
+// What a train claims with a step where it halts and the path ends: nothing more is
+// told of one that rolls on.
+fn ending_of(
+    alloc: Global,
+    net: &Network,
+    settings: &Settings,
+    train: &Train,
+    way: &Way,
+    after: &Place,
+    claims: &[Claim],
+    ticks: Tick,
+) -> Result<Vec<Claim>, NoMemory>
+    requires tail { IsTailIn net.now train.now after.now.tail }
+    requires ticks { ticks ≤ℤ pos (settings.now.horizon + 1) }
+    ensures halts { IfOk result (λ ending. stands_after way.now.step.exit ≡ true → ending.items
+        ≡ claims.now ++ kept (standing_zones net.now train.now after.now) ticks
+        (ticks +ℤ pos settings.now.release)) }
+    ensures rolls { IfOk result
+        (λ ending. stands_after way.now.step.exit ≡ false → ending.items ≡ []) }
+{
+    if way.step.exit == Edge::Rolling {
+        return Ok(Vec::new(alloc));
+    }
+    let mut ending = Vec::from_slice(alloc, claims)?;
+    let zones = standing(alloc, net, train, after)?;
+    let release = Span {
+        from: ticks,
+        to: ticks + i64::from(settings.release),
+    };
+    push_kept(&mut ending, zones.as_slice(), &release)?;
+    Ok(ending)
+}
