@@ -9,5 +9,7 @@ pub mod Steps
 pub mod PlanningPlaces
 pub mod Searching
 pub mod Keeping
+pub mod Charting
+pub mod KeepingCharts
 pub mod Narrow
 pub use Rattle.running_time.proofs as running_lemmas

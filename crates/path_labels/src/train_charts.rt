@@ -1,11 +1,11 @@
 //! The chart of a train: its spots, with what each way between them takes.
 
-ghost use Rattle.std.specs.Prelude.{◌≡◌, ◌↔◌, ◌<◌, ◌≤◌, ◌^◌, ◌++◌, ◌+◌, ◌+ℤ◌, ◌≤ℤ◌, [], false, true, pos};
+ghost use Rattle.std.specs.Prelude.{◌≡◌, ◌↔◌, ◌<◌, ◌≤◌, ◌^◌, ◌++◌, [], false, true};
 ghost use Rattle.std.specs.Prelude.{All, IfOk, IsTrue, None, length, map};
 ghost use Rattle.rail_types.specs.Flaws.{first_flaw};
 ghost use Rattle.rail_types.specs.Limits.{IsSettingsWithinLimits, IsTrainWithinLimits};
 ghost use Rattle.stair_pieces.specs.Pieces.{kept};
-ghost use Rattle.stair_pieces.specs.Places.{standing_zones, stands_after};
+ghost use Rattle.stair_pieces.specs.Places.{standing_zones};
 ghost use Rattle.stair_pieces.specs.Steps.{IsPlaceIn, IsTailIn};
 ghost use Rattle.tail_states.specs.declared.listed_spots.TheConstants.{MAX_SPOTS};
 ghost use Rattle.tail_states.specs.Following.{AreFollowers};
@@ -17,8 +17,7 @@ use crate::paths::is_still;
 use crate::request_plans::{push_kept, ticks_of};
 use label_search::{Chart, ChartSpot, ChartWay};
 use no_memory::NoMemory;
-use rail_types::{Claim, List, Network, Request, Settings, Span, Tick, Train};
-use running_time::Edge;
+use rail_types::{Claim, List, Network, Request, Settings, Span, Train};
 use stair_pieces::{Place, pieces, standing};
 use std::alloc::Global;
 use tail_states::{Followers, Spots, SpotsFault, Way, list_spots, sound_networks_are_run};
@@ -173,19 +172,15 @@ pub(crate) fn charted_way(
     let after = spot.after(alloc, net, train, way.step)?;
     let ticks = ticks_of(net, settings, train, spot, way.step, &after);
     let claims = pieces(alloc, net, settings, train, spot, way.step)?;
-    let ending = ending_of(
-        alloc,
-        net,
-        settings,
-        train,
-        way,
-        &after,
-        claims.as_slice(),
-        ticks,
-    )?;
+    let halts = is_still(way.step.exit);
+    let release = Span {
+        from: ticks,
+        to: ticks + i64::from(settings.release),
+    };
+    let ending = ending_of(alloc, net, train, halts, &after, claims.as_slice(), &release)?;
     Ok(ChartWay {
         block: way.step.block,
-        halts: is_still(way.step.exit),
+        halts,
         next: way.next,
         run: ticks,
         pieces: List::from_vec(claims),
@@ -193,35 +188,27 @@ pub(crate) fn charted_way(
     })
 }
 
-// What a train claims with a step where it halts and the path ends: nothing more is
-// told of one that rolls on.
+// What a train claims with a step where it halts and the path ends, its zones through their
+// release; nothing is told of a step where it rolls on.
 fn ending_of(
     alloc: Global,
     net: &Network,
-    settings: &Settings,
     train: &Train,
-    way: &Way,
+    halts: bool,
     after: &Place,
     claims: &[Claim],
-    ticks: Tick,
+    release: &Span,
 ) -> Result<Vec<Claim>, NoMemory>
     requires tail { IsTailIn net.now train.now after.now.tail }
-    requires ticks { ticks ≤ℤ pos (settings.now.horizon + 1) }
-    ensures halts { IfOk result (λ ending. stands_after way.now.step.exit ≡ true → ending.items
-        ≡ claims.now ++ kept (standing_zones net.now train.now after.now) ticks
-        (ticks +ℤ pos settings.now.release)) }
-    ensures rolls { IfOk result
-        (λ ending. stands_after way.now.step.exit ≡ false → ending.items ≡ []) }
+    ensures halted { IfOk result (λ ending. halts ≡ true → ending.items ≡ claims.now
+        ++ kept (standing_zones net.now train.now after.now) release.now.from release.now.to) }
+    ensures rolling { IfOk result (λ ending. halts ≡ false → ending.items ≡ []) }
 {
-    if way.step.exit == Edge::Rolling {
+    if !halts {
         return Ok(Vec::new(alloc));
     }
     let mut ending = Vec::from_slice(alloc, claims)?;
     let zones = standing(alloc, net, train, after)?;
-    let release = Span {
-        from: ticks,
-        to: ticks + i64::from(settings.release),
-    };
-    push_kept(&mut ending, zones.as_slice(), &release)?;
+    push_kept(&mut ending, zones.as_slice(), release)?;
     Ok(ending)
 }
