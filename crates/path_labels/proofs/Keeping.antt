@@ -53,10 +53,18 @@ IsKept net settings kept = IsCourse net settings kept.request kept.course
 abbrev HasFewPlaces : KeptCourse → Type 0
 HasFewPlaces kept = IsSmall kept.course
 
-stands_between : (courses : List KeptCourse) (at : ℕ) (one : KeptCourse) → at < length courses → one ≡ get_or courses at one → courses ≡ take at courses ++ one ∷ drop (suc at) courses
-stands_between courses at one within is =
-    sym (take-append-drop at courses)
-    ∙ ap (λ (rest : List KeptCourse). take at courses ++ rest) (drop-cons courses at one within ∙ ap (λ (first : KeptCourse). first ∷ drop (suc at) courses) (sym is))
+module _ {X : Type 0} where
+  pub stands_between : (all : List X) (at : ℕ) (one : X) → at < length all → one ≡ get_or all at one → all ≡ take at all ++ one ∷ drop (suc at) all
+  stands_between all at one within is =
+      sym (take-append-drop at all)
+      ∙ ap (λ (rest : List X). take at all ++ rest) (drop-cons all at one within ∙ ap (λ (first : X). first ∷ drop (suc at) all) (sym is))
+
+  -- what is true of all is true of one among them, and of the others
+  pub All-apart : (P : X → Type 0) (front : List X) (kept : X) (back : List X) → All P (front ++ kept ∷ back) → P kept × All P (front ++ back)
+  All-apart P [] kept back all = (All-head P kept back all, All-tail P kept back all)
+  All-apart P (one ∷ front) kept back all =
+      let rest = All-apart P front kept back (All-tail P one (front ++ kept ∷ back) all) in
+      (rest.0, All-cons P one (front ++ back) (All-head P one (front ++ kept ∷ back) all) rest.1)
 
 pub taken_out : (before inside after : List KeptCourse) (request : Request) (at : ℕ) (one : KeptCourse) → inside ≡ before → IsAlikeAt inside request at → one ≡ get_or inside at one → after ≡ remove inside at
     → IsTakenOut before after request one.course
@@ -69,12 +77,6 @@ taken_out before inside after request at one same found is left = record {
   its_course = refl;
   others = left;
 }
-
-All-apart : (P : KeptCourse → Type 0) (front : List KeptCourse) (kept : KeptCourse) (back : List KeptCourse) → All P (front ++ kept ∷ back) → P kept × All P (front ++ back)
-All-apart P [] kept back all = (All-head P kept back all, All-tail P kept back all)
-All-apart P (one ∷ front) kept back all =
-    let rest = All-apart P front kept back (All-tail P one (front ++ kept ∷ back) all) in
-    (rest.0, All-cons P one (front ++ back) (All-head P one (front ++ kept ∷ back) all) rest.1)
 
 module _ (before after : List KeptCourse) (request : Request) (course : Course) (out : IsTakenOut before after request course) where
   apart : (P : KeptCourse → Type 0) → All P before → P out.kept × All P after

@@ -1,25 +1,21 @@
 -- Charts that are kept.
-use Rattle.std.proofs.Common.{◌≡◌, refl, sym, ◌∙◌, ap, subst, ℕ, suc, ◌<◌, ◌≤◌, Bool, true, false, List, ◌∷◌, [], ◌++◌, All, length, take, drop, drop-cons, remove, get_or, arith, if◌then◌else◌}
+use Rattle.std.proofs.Common.{◌≡◌, refl, sym, ◌∙◌, ap, subst, ℕ, suc, ◌<◌, ◌≤◌, Bool, true, false, List, ◌∷◌, [], ◌++◌, All, length, take, drop, remove, get_or, arith, if◌then◌else◌}
 use Rattle.std.specs.Prelude.{nat_lt}
 use Rattle.std.proofs.lemmas.Bool.Decides.{nat_tests}
-use Rattle.std.proofs.lemmas.List.{length-append, length-drop, take-append-drop}
-use Rattle.std.proofs.lemmas.List.Elements.{All-cons, All-drop, All-head, All-push, All-tail}
+use Rattle.std.proofs.lemmas.List.{length-append, length-drop}
+use Rattle.std.proofs.lemmas.List.Elements.{All-drop, All-push}
 use Rattle.rail_types.specs.declared.tracks.Network.{Network}
 use Rattle.rail_types.specs.declared.trains.Train.{Train}
 use Rattle.rail_types.specs.declared.entries.Settings.{Settings}
 use Rattle.path_labels.specs.declared.kept_charts.TheConstants.{MAX_CHARTS}
 use Rattle.path_labels.specs.declared.train_charts.TrainChart.{TrainChart}
 use Rattle.path_labels.specs.TrainCharts.{AreCharts, IsChartAmong, IsChartAt, IsChartOf, IsChartTakenOut, StayCharts, StayChartsWith, with_chart_room}
+use Rattle.path_labels.proofs.Keeping.{All-apart, stands_between}
 
 -- ---- a chart is taken out
 
 abbrev IsKept : Network → Settings → TrainChart → Type 0
 IsKept net settings kept = IsChartOf net settings kept.train kept
-
-stands_between : (charts : List TrainChart) (at : ℕ) (one : TrainChart) → at < length charts → one ≡ get_or charts at one → charts ≡ take at charts ++ one ∷ drop (suc at) charts
-stands_between charts at one within is =
-    sym (take-append-drop at charts)
-    ∙ ap (λ (rest : List TrainChart). take at charts ++ rest) (drop-cons charts at one within ∙ ap (λ (first : TrainChart). first ∷ drop (suc at) charts) (sym is))
 
 pub taken_out : (before inside after : List TrainChart) (train : Train) (at : ℕ) (one : TrainChart) → inside ≡ before → IsChartAt inside train at → one ≡ get_or inside at one → after ≡ remove inside at
     → IsChartTakenOut before after train one
@@ -30,12 +26,6 @@ taken_out before inside after train at one same found is left = record {
   train_is = subst (λ (kept : TrainChart). kept.train ≡ train) (sym is) (found.train_is one);
   others = left;
 }
-
-All-apart : (P : TrainChart → Type 0) (front : List TrainChart) (kept : TrainChart) (back : List TrainChart) → All P (front ++ kept ∷ back) → P kept × All P (front ++ back)
-All-apart P [] kept back all = (All-head P kept back all, All-tail P kept back all)
-All-apart P (one ∷ front) kept back all =
-    let rest = All-apart P front kept back (All-tail P one (front ++ kept ∷ back) all) in
-    (rest.0, All-cons P one (front ++ back) (All-head P one (front ++ kept ∷ back) all) rest.1)
 
 module _ (before after : List TrainChart) (train : Train) (chart : TrainChart) (out : IsChartTakenOut before after train chart) where
   apart : (P : TrainChart → Type 0) → All P before → P chart × All P after
