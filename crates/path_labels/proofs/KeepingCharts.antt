@@ -9,7 +9,7 @@ use Rattle.rail_types.specs.declared.trains.Train.{Train}
 use Rattle.rail_types.specs.declared.entries.Settings.{Settings}
 use Rattle.path_labels.specs.declared.kept_charts.TheConstants.{MAX_CHARTS}
 use Rattle.path_labels.specs.declared.train_charts.TrainChart.{TrainChart}
-use Rattle.path_labels.specs.TrainCharts.{AreCharts, IsChartAmong, IsChartAt, IsChartOf, IsChartTakenOut, StayCharts, StayChartsWith, with_chart_room}
+use Rattle.path_labels.specs.TrainCharts.{IsChartAmong, IsChartAt, IsChartOf, IsChartTakenOut, StayCharts, StayChartsWith, with_chart_room}
 use Rattle.path_labels.proofs.Keeping.{All-apart, stands_between}
 
 -- ---- a chart is taken out
