@@ -42,7 +42,6 @@ pub planned_alike : WindowsChangeNoPlaces → (net : Network) (settings : Settin
 planned_alike windows net settings one other listed plan alike all =
     let same = windows net one other alike in
     record {
-      places = same.places listed.members all.places;
       moves = same.moves listed all.moves;
       planned = subst (λ (request : Request). IsPlanOf net settings request listed plan) (is_the_other one other alike) (in_other_windows net settings one other listed plan all.planned);
     }
@@ -50,13 +49,13 @@ planned_alike windows net settings one other listed plan alike all =
 pub within_limits_alike : WindowsChangeNoPlaces → (net : Network) (settings : Settings) (one other : Request) (listed : Listed) (plan : Plan) → AreAlike one other → IsRequestWithinLimits other → IsPlannedWithinLimits net settings one listed plan
     → IsPlannedWithinLimits net settings other listed plan
 within_limits_alike windows net settings one other listed plan alike within all =
-    let from : IsPlannedFrom net settings one listed plan = record { places = all.places; moves = all.moves; planned = all.planned } in
+    let from : IsPlannedFrom net settings one listed plan = record { moves = all.moves; planned = all.planned } in
     let too = planned_alike windows net settings one other listed plan alike from in
     record {
       flawless = all.flawless;
       asked = within;
       timetable = all.timetable;
-      places = too.places;
+      places = (windows net one other alike).places listed.members all.places;
       moves = too.moves;
       few = all.few;
       planned = too.planned;

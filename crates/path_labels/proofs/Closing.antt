@@ -19,7 +19,7 @@ use Rattle.stair_pieces.specs.Moves.{IsEnd, IsPlace}
 use Rattle.tail_states.specs.declared.moves.Next.TheVariants.{End as Ends}
 use Rattle.tail_states.specs.Alike.{WindowsChangeNoPlaces}
 use Rattle.tail_states.specs.Closing.{GoesOn, IsAdmitted, IsClosed, IsFreeMove, IsHeld, leaves_at}
-use Rattle.tail_states.specs.Listed.{Listed}
+use Rattle.tail_states.specs.Listed.{AreThePlaces, Listed}
 use Rattle.label_search.specs.declared.plans.Target.TheVariants.{End}
 use Rattle.label_search.specs.declared.plans.Plan.{Plan}
 use Rattle.label_search.specs.declared.plans.Move.{Move as PlannedMove}
@@ -171,25 +171,29 @@ module _ (net : Network) (settings : Settings) (request : Request) (listed : Lis
         admitted_as free allows its.0 its.1
 
   -- members that are closed for the plan, in the windows of the request
-  module _ (trip : Trip) (depart : trip.depart ≡ request.depart) (arrive : trip.arrive ≡ request.arrive) (members : List PlannedMember) (behind : All (IsBehindTheStart listed.members) members) (closed : IsClosedPlan plan trip book members) where
+  module _ (places : AreThePlaces net request listed.members) (trip : Trip) (depart : trip.depart ≡ request.depart) (arrive : trip.arrive ≡ request.arrive) (members : List PlannedMember) (behind : All (IsBehindTheStart listed.members) members) (closed : IsClosedPlan plan trip book members) where
     pub closed_there : IsClosed net settings request (claims_held book) (members_in listed.members members)
     closed_there = record {
       start = λ step enter inside free below. admitted trip arrive members 0 start_place (at_start net settings request listed plan all) step enter free
           (λ k one. closed.start (record { number = k; enter = enter }) (subst (λ (w : Window). Holds w enter) (sym depart) inside) one);
       moves = λ place step tick enter is_held on free below. (let at = held_from members behind place tick is_held in
           let is = at_listed net settings request listed plan all at.0 place at.1.at in
-          let among : IsPlace net request place = subst (IsPlace net request) (get_or_from_slice_get listed.members at.0 place place at.1.at) (all.places.sound at.0 place (slice_get_within listed.members at.0 place at.1.at)) in
+          let among : IsPlace net request place = subst (IsPlace net request) (get_or_from_slice_get listed.members at.0 place place at.1.at) (places.sound at.0 place (slice_get_within listed.members at.0 place at.1.at)) in
           admitted trip arrive members (at.0 + 1) place is step enter free
           (λ k one. closed.moves (at.0 + 1) tick (record { number = k; enter = enter }) at.1.there (enters_there (at.0 + 1) place is among tick enter on) (wait_fits (at.0 + 1) place is tick enter on) one));
     }
 
--- a request with another window of arrival is planned alike
+-- a request with another window of arrival has the same places, and is planned alike
+pub places_before : WindowsChangeNoPlaces → (net : Network) (request : Request) (listed : Listed) (tick : ℤ) → AreThePlaces net request listed.members → AreThePlaces net (before request tick) listed.members
+places_before windows net request listed tick places =
+    (windows net request (before request tick) (record { train = refl; origin = refl; destination = refl; stops = refl })).places listed.members places
+
 pub planned_before : WindowsChangeNoPlaces → (net : Network) (settings : Settings) (request : Request) (listed : Listed) (plan : Plan) (tick : ℤ) → IsPlannedFrom net settings request listed plan → IsPlannedFrom net settings (before request tick) listed plan
 planned_before windows net settings request listed plan tick all =
     planned_alike windows net settings request (before request tick) listed plan (record { train = refl; origin = refl; destination = refl; stops = refl }) all
 
-pub closed_alike : WindowsChangeNoPlaces → (net : Network) (settings : Settings) (request : Request) (listed : Listed) (plan : Plan) (book : Book) (members : List PlannedMember) → IsPlannedFrom net settings request listed plan → All (IsBehindTheStart listed.members) members → AreClosedAlike net settings request listed plan book members
-closed_alike alike net settings request listed plan book members all behind = record {
-  all = λ closed. closed_there net settings request listed plan all book (trip_of request) refl refl members behind closed;
-  earlier = λ tick closed. closed_there net settings (before request tick) listed plan (planned_before alike net settings request listed plan tick all) book (trip_before (trip_of request) tick) refl refl members behind closed;
+pub closed_alike : WindowsChangeNoPlaces → (net : Network) (settings : Settings) (request : Request) (listed : Listed) (plan : Plan) (book : Book) (members : List PlannedMember) → AreThePlaces net request listed.members → IsPlannedFrom net settings request listed plan → All (IsBehindTheStart listed.members) members → AreClosedAlike net settings request listed plan book members
+closed_alike alike net settings request listed plan book members places all behind = record {
+  all = λ closed. closed_there net settings request listed plan all book places (trip_of request) refl refl members behind closed;
+  earlier = λ tick closed. closed_there net settings (before request tick) listed plan (planned_before alike net settings request listed plan tick all) book (places_before alike net request listed tick places) (trip_before (trip_of request) tick) refl refl members behind closed;
 }

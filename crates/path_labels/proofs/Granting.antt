@@ -192,7 +192,7 @@ last_is Said d (first ∷ (second ∷ runs)) said = subst (λ n. Said (get_or (f
 pub planned_granted : MovesAreAPath → FitsRunByRun → PlannedPathsAreGranted
 planned_granted moves_law fits_law net settings request listed plan book [] all ticks path fits = absurd path
 planned_granted moves_law fits_law net settings request listed plan book (step ∷ steps) all ticks (move, departs, rest) (move_fits, rest_fits) =
-    let from : IsPlannedFrom net settings request listed plan = record { places = all.places; moves = all.moves; planned = all.planned } in
+    let from : IsPlannedFrom net settings request listed plan = record { moves = all.moves; planned = all.planned } in
     let good = well net settings request listed plan from book ticks steps step 0 start_place (at_start net settings request listed plan from) move move_fits (target_of plan 0 step) refl rest rest_fits in
     let path = path_in request listed plan (step ∷ steps) in
     let long = all.asked.train.length_m.0 in

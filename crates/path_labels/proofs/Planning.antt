@@ -146,7 +146,7 @@ module _ (net : Network) (settings : Settings) (request : Request) (listed : Lis
 
 pub granted_planned : PathsAreMoves → FitsRunByRun → GrantedPathsArePlanned
 granted_planned moves_law fits_law net settings request listed plan book path all ticks can =
-    let from : IsPlannedFrom net settings request listed plan = record { places = all.places; moves = all.moves; planned = all.planned } in
+    let from : IsPlannedFrom net settings request listed plan = record { moves = all.moves; planned = all.planned } in
     let long = all.asked.train.length_m.0 in
     let both = moves_law net settings request path long can.some can.blocks can.keeps in
     let made = both.0 in

@@ -24,12 +24,12 @@ use Rattle.stair_pieces.specs.Claiming.{PiecesAreClaims, StandingZonesAreOfTheNe
 use Rattle.tail_states.specs.declared.moves.Move.{Move}
 use Rattle.tail_states.specs.declared.moves.Next.{Next}
 use Rattle.tail_states.specs.declared.moves.Next.TheVariants.{End as Ends, At}
-use Rattle.tail_states.specs.Asked.{SoundNetworksAreAsked, PlacesMayBeCut}
+use Rattle.tail_states.specs.Asked.{IsAsked, SoundNetworksAreAsked, PlacesMayBeCut}
 use Rattle.tail_states.specs.Listed.{Listed, LeadsTo, IsListedMove, AreMovesFrom}
 use Rattle.label_search.specs.declared.plans.Plan.{Plan}
 use Rattle.label_search.specs.Plans.{IsShort, IsTarget, IsMoveOf, IsPlaceOf, IsPlan}
 use Rattle.path_labels.specs.Plans.{ticks_of_step, target_of, kept_behind, move_in, dwell_of, dwell_at, place_in, planned_at}
-use Rattle.path_labels.specs.Searched.{IsPlannedWithinLimits, PlansMayBeSearched}
+use Rattle.path_labels.specs.Searched.{AreCut, IsPlannedOver, IsPlannedWithinLimits, PlansMayBeSearched, PlansOverMayBeSearched}
 use Rattle.path_labels.proofs.PlanningPlaces.{listed_is}
 
 module _ (claims : PiecesAreClaims) (stands : StandingZonesAreOfTheNetwork) (leads : StepsLeadToPlaces) (net : Network) (settings : Settings) (request : Request) (flawless : first_flaw net ≡ None) (asked : IsRequestWithinLimits request) (timetable : IsSettingsWithinLimits settings) (book : List Zone) (same : length book ≡ net.zones) where
@@ -93,8 +93,7 @@ module _ (claims : PiecesAreClaims) (stands : StandingZonesAreOfTheNetwork) (lea
       moves = All-map (IsMoveOf (length members + 1) book) (move_in net settings request place) moves (λ k one within. move_within (get_or moves k one) (from.sound k one within));
     }
 
-  module _ (listed : Listed) (plan : Plan) (all : IsPlannedWithinLimits net settings request listed plan) (start : IsPlaceIn net settings request.train start_place)
-      (others : (number : ℕ) (place : Place) → slice_get listed.members number ≡ Some place → IsPlaceIn net settings request.train place) where
+  module _ (listed : Listed) (plan : Plan) (all : IsPlannedOver net settings request listed plan) (start : IsPlaceIn net settings request.train start_place) (others : AreCut net settings request listed) where
     long : length plan.places ≡ length listed.members + 1
     long = all.planned.places.counted
 
@@ -119,9 +118,34 @@ module _ (claims : PiecesAreClaims) (stands : StandingZonesAreOfTheNetwork) (lea
       places = subst (λ n. All (IsPlaceOf n book) plan.places) (sym long) (λ k one within. subst (IsPlaceOf (length listed.members + 1) book) (get_or_default plan.places k _ one within) (at_number k within));
     }
 
+-- pieces and standing zones may be asked of the start
+start_in : (net : Network) (settings : Settings) (request : Request) → IsAsked net request → IsSettingsWithinLimits settings → IsPlaceIn net settings request.train start_place
+start_in net settings request asked timetable = record {
+  under = record { blocks = asked.blocks; train_fits = asked.train; numbers = All-nil (λ block. block < length net.blocks) };
+  timetable = timetable;
+  entered = tt;
+  begins = λ none. refl;
+}
+
+pub plans_over_may_be_searched : SoundNetworksAreAsked → PiecesAreClaims → StandingZonesAreOfTheNetwork → StepsLeadToPlaces → PlansOverMayBeSearched
+plans_over_may_be_searched sound claims stands leads net settings request listed plan book all cut same =
+    let asked = sound net request all.flawless all.asked.train all.asked.count in
+    is_plan claims stands leads net settings request all.flawless all.asked all.timetable book same listed plan all
+    (start_in net settings request asked all.timetable) cut
+
+-- the plan of all places of a request is one over such places
+pub over_of : (net : Network) (settings : Settings) (request : Request) (listed : Listed) (plan : Plan) → IsPlannedWithinLimits net settings request listed plan → IsPlannedOver net settings request listed plan
+over_of net settings request listed plan all = record {
+  flawless = all.flawless;
+  asked = all.asked;
+  timetable = all.timetable;
+  moves = all.moves;
+  planned = all.planned;
+}
+
 pub plans_may_be_searched : SoundNetworksAreAsked → PlacesMayBeCut → PiecesAreClaims → StandingZonesAreOfTheNetwork → StepsLeadToPlaces → PlansMayBeSearched
 plans_may_be_searched sound cut claims stands leads net settings request listed plan book all same =
     let asked = sound net request all.flawless all.asked.train all.asked.count in
     let may = cut net settings request asked all.timetable in
-    is_plan claims stands leads net settings request all.flawless all.asked all.timetable book same listed plan all may.start
-    (λ number place at. may.places place (listed_is net request listed.members all.places number place at))
+    plans_over_may_be_searched sound claims stands leads net settings request listed plan book (over_of net settings request listed plan all)
+    (λ number place at. may.places place (listed_is net request listed.members all.places number place at)) same
