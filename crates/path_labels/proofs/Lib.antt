@@ -12,4 +12,7 @@ pub mod Keeping
 pub mod Charting
 pub mod KeepingCharts
 pub mod Narrow
+pub mod ChartSteps
+pub mod Starting
+pub mod Calling
 pub use Rattle.running_time.proofs as running_lemmas
