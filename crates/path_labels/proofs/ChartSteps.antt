@@ -1,22 +1,19 @@
 -- The moves that ways are in the plan over a chart, and the runs of a path along it.
-use Rattle.std.proofs.Common.{◌≡◌, ◌∙◌, sym, ap, refl, subst, arith, ℕ, zero, suc, ◌+◌, ◌*◌, ◌<◌, ℤ, pos, ◌+ℤ◌, ◌≤ℤ◌, Bool, true, false, List, [], ◌∷◌, ◌++◌, length, map, get_or, replicate, Some}
+use Rattle.std.proofs.Common.{◌≡◌, ◌∙◌, sym, ap, refl, subst, arith, ℕ, zero, suc, ◌+◌, ◌*◌, ◌<◌, ℤ, pos, ◌+ℤ◌, ◌≤ℤ◌, Bool, true, false, List, [], ◌∷◌, ◌++◌, length, map, get_or, replicate}
 use Rattle.std.proofs.lemmas.Int.{ints}
 use Rattle.std.proofs.lemmas.List.{length-map, length-replicate, get_or-map}
 use Rattle.std.proofs.lemmas.List.FromFn.{get_or-map-range_with_len, length-map-range_with_len}
 use Rattle.rail_types.specs.declared.tracks.Network.{Network}
 use Rattle.rail_types.specs.declared.trains.Request.{Request}
 use Rattle.rail_types.specs.declared.entries.Settings.{Settings}
-use Rattle.rail_types.specs.declared.paths.Path.{Path}
 use Rattle.rail_types.specs.declared.paths.Run.{Run}
 use Rattle.rail_types.specs.Limits.{IsRequestWithinLimits}
 use Rattle.occupation_book.specs.Zones.{Zone}
-use Rattle.blocking_time.specs.Possible.{IsPossible}
 use Rattle.running_time.specs.declared.edges.Edge.TheVariants.{Still as Halted}
 use Rattle.blocking_time.specs.Runs.{exit_of}
 use Rattle.stair_pieces.specs.Places.{stands_after}
 use Rattle.tail_states.specs.declared.moves.Move.{Move as ListedMove}
 use Rattle.tail_states.specs.declared.moves.Next.TheVariants.{End as Ends}
-use Rattle.tail_states.specs.Listed.{Listed}
 use Rattle.label_search.specs.declared.charts.ChartCall.{ChartCall}
 use Rattle.label_search.specs.declared.charts.ChartSpot.{ChartSpot}
 use Rattle.label_search.specs.declared.charts.ChartWay.{ChartWay}
@@ -28,15 +25,13 @@ use Rattle.label_search.specs.declared.plans.Target.{Target}
 use Rattle.label_search.specs.declared.plans.Target.TheVariants.{Place as To, End}
 use Rattle.label_search.specs.declared.plans.TheConstants.{LATEST}
 use Rattle.label_search.specs.Charts.{count_over, made_over, move_among, move_of_way, moves_over, open_ways, place_over, plan_over, way_over, ways_over}
-use Rattle.label_search.specs.Found.{IsLeast}
 use Rattle.label_search.specs.Free.{Book}
-use Rattle.label_search.specs.Paths.{IsMove, Possible, arrival, leave_of, move_at, place_at, target_of}
+use Rattle.label_search.specs.Paths.{IsMove, leave_of, move_at, place_at, target_of}
 use Rattle.label_search.specs.Plans.{IsPlan}
 use Rattle.path_labels.specs.declared.chart_courses.ChartCourse.{ChartCourse}
 use Rattle.path_labels.specs.declared.train_charts.TrainChart.{TrainChart}
-use Rattle.path_labels.specs.Answers.{IsEarliest, IsFinding, claims_held, last_leave}
 use Rattle.path_labels.specs.ChartCourses.{ChartsArePlanned, IsChartCourse, IsPlannedAlong, listed_along, listed_move, moves_along, plan_along}
-use Rattle.path_labels.specs.Joining.{GrantedPathsArePlanned, HoldsTicks, PlannedPathsAreGranted, move_of, path_in, run_of, trip_of}
+use Rattle.path_labels.specs.Joining.{move_of, run_of}
 use Rattle.path_labels.specs.Searched.{IsPlannedOver}
 use Rattle.path_labels.proofs.Steps.{AreTold, move_told, never_past, next_told, place_told}
 
@@ -60,25 +55,6 @@ pub lent_somewhere : (net : Network) (settings : Settings) (request : Request) (
 lent_somewhere net settings request chart starts calls plan planned lent =
     let zone : Zone = record { claims = []; spare = 0 } in
     (replicate net.zones zone, subst (λ (p : Plan). IsPlan p (replicate net.zones zone)) (sym lent) (planned.searched (replicate net.zones zone) (length-replicate net.zones zone)))
-
--- ---- what is found along a plan over places of which some may not be the request's
-
-module _ (granted : PlannedPathsAreGranted) (planned : GrantedPathsArePlanned) (net : Network) (settings : Settings) (request : Request) (listed : Listed) (plan : Plan) (over : IsPlannedOver net settings request listed plan) (book : Book) (ticks : HoldsTicks book) where
-  -- the least planned path is told as the earliest
-  earliest_over : (steps : List Step) → IsLeast plan (trip_of request) book steps → IsEarliest net settings (claims_held book) request (path_in request listed plan steps)
-  earliest_over steps least =
-      let made = granted net settings request listed plan book steps over ticks least.path least.fits in
-      record {
-        granted = made.granted;
-        least = λ other can. (let as_planned = planned net settings request listed plan book other over ticks can in
-            subst (λ leave. leave ≤ℤ last_leave other) (sym made.leaves) (subst (λ leave. arrival plan steps ≤ℤ leave) as_planned.1.leaves (least.least as_planned.0 as_planned.1.path_is as_planned.1.fits)));
-      }
-
-  pub found_over : (steps : List Step) (path : Path) → path ≡ path_in request listed plan steps → IsLeast plan (trip_of request) book steps → IsFinding net settings (claims_held book) request (Some path)
-  found_over steps path same least = subst (IsEarliest net settings (claims_held book) request) (sym same) (earliest_over steps least)
-
-  pub impossible_over : ¬ Possible plan (trip_of request) book → ¬ IsPossible net settings (claims_held book) request
-  impossible_over none (path, can) = let as_planned = planned net settings request listed plan book path over ticks can in none (as_planned.0, as_planned.1.path_is, as_planned.1.fits)
 
 -- ---- the ways of a course by the numbers of its places
 

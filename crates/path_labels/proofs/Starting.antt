@@ -20,7 +20,7 @@ use Rattle.tail_states.specs.Following.{AreServing}
 use Rattle.tail_states.specs.Spots.{HasWay, IsStride, MayRun, SoundNetworksAreRun, spot_after}
 use Rattle.label_search.specs.declared.charts.ChartWay.{ChartWay}
 use Rattle.path_labels.specs.declared.train_charts.TrainChart.{TrainChart}
-use Rattle.path_labels.specs.ChartCourses.{AddsStart, AddsStarts, AreStarts, IsBeginning, IsStartWay}
+use Rattle.path_labels.specs.ChartCourses.{AddsStarts, AreStarts, IsBeginning, IsStartWay}
 use Rattle.path_labels.specs.TrainCharts.{IsChartOf, way_in}
 
 -- the chart of a train is that of its own

@@ -5,8 +5,8 @@ use Rattle.label_search.specs.Found.{IsFinding, IsLeast}
 use Rattle.label_search.specs.Limits.{IsConsistent}
 use Rattle.label_search.specs.Paths.{Possible}
 use Rattle.path_labels.specs.ChartCourses.{listed_along}
-use Rattle.path_labels.proofs.ChartSteps.{found_over, impossible_over, lent_in, planned_along, planned_lent}
-use Rattle.path_labels.proofs.Telling.{path_steps}
+use Rattle.path_labels.proofs.ChartSteps.{lent_in, planned_along, planned_lent}
+use Rattle.path_labels.proofs.Telling.{found_told, impossible, path_steps}
 use Rattle.path_labels.proofs.chart_courses.find_over.Goals as goal
 
 pub plan-plan-requires-clause-leads : goal.plan-plan-requires-clause-leads
@@ -39,7 +39,7 @@ told_over-requires-clause-steps c =
 pub returns-in-NoPath : goal.returns-in-NoPath
 returns-in-NoPath c =
     let none : ¬ Possible c.plan-plan.result c.trip.result c.args.book.now = subst (IsFinding c.plan-plan.result c.trip.result c.args.book.now) c.in-NoPath.is c.in_ok-steps.ensures in
-    impossible_over c.planned_paths_are_granted.ensures c.granted_paths_are_planned.ensures c.args.net.now c.args.settings.now c.args.request.now (listed_along c.args.course.now) c.plan-plan.result
+    impossible c.planned_paths_are_granted.ensures c.granted_paths_are_planned.ensures c.args.net.now c.args.settings.now c.args.request.now (listed_along c.args.course.now) c.plan-plan.result
     (planned_lent c.charts_are_planned.ensures c.args.net.now c.args.settings.now c.args.request.now c.args.course.now c.requires.request c.requires.course c.plan-plan.result c.plan-plan.ensures)
     c.args.book.now c.claims_have_ticks.ensures
     (subst (λ (trip : Trip). ¬ Possible c.plan-plan.result trip c.args.book.now) c.trip.ensures none)
@@ -47,7 +47,7 @@ returns-in-NoPath c =
 pub returns-in_ok-path-in-Found : goal.returns-in_ok-path-in-Found
 returns-in_ok-path-in-Found c =
     let least : IsLeast c.plan-plan.result c.trip.result c.args.book.now c.in-Found.steps = subst (IsFinding c.plan-plan.result c.trip.result c.args.book.now) c.in-Found.is c.in_ok-steps.ensures in
-    found_over c.planned_paths_are_granted.ensures c.granted_paths_are_planned.ensures c.args.net.now c.args.settings.now c.args.request.now (listed_along c.args.course.now) c.plan-plan.result
+    found_told c.planned_paths_are_granted.ensures c.granted_paths_are_planned.ensures c.args.net.now c.args.settings.now c.args.request.now (listed_along c.args.course.now) c.plan-plan.result
     (planned_lent c.charts_are_planned.ensures c.args.net.now c.args.settings.now c.args.request.now c.args.course.now c.requires.request c.requires.course c.plan-plan.result c.plan-plan.ensures)
     c.args.book.now c.claims_have_ticks.ensures
     c.in-Found.steps c.in_ok-path-in-Found.path c.in_ok-path-in-Found.ensures
