@@ -98,9 +98,8 @@ module _ (net : Network) (settings : Settings) (request : Request) (chart : Trai
 
   planned_more : (old new : List ChartWay) (ways : List Way) (way : Way) → old ≡ map planned_way ways → new ≡ old ++ way_in net settings chart.train start_place way ∷ [] → new ≡ map planned_way (ways ++ way ∷ [])
   planned_more old new ways way is added =
-      added
-      ∙ (λ j. is j ++ way_in net settings (train j) start_place way ∷ [])
-      ∙ sym (map-append planned_way ways (way ∷ []))
+      let longer : old ++ way_in net settings chart.train start_place way ∷ [] ≡ map planned_way ways ++ planned_way way ∷ [] = λ j. is j ++ way_in net settings (train j) start_place way ∷ [] in
+      added ∙ longer ∙ sym (map-append planned_way ways (way ∷ []))
 
   -- the ways onto one block more
   starts_more : (blocks : List ℕ) (block : ℕ) (old new : List ChartWay) → (block < length net.blocks) × Contains (block_at net block).serves request.origin
