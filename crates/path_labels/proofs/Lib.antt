@@ -15,4 +15,7 @@ pub mod Narrow
 pub mod ChartSteps
 pub mod Starting
 pub mod Calling
+pub mod Product
+pub mod Alongside
+pub mod Walking
 pub use Rattle.running_time.proofs as running_lemmas

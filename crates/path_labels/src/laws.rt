@@ -72,6 +72,5 @@ pub fn chart_courses_are_narrow()
 pub fn charts_are_planned()
     ensures { ChartsArePlanned }
 {
-    sound_networks_are_asked();
     plans_over_may_be_searched();
 }
