@@ -24,9 +24,9 @@ use Rattle.label_search.specs.declared.charts.ChartWay.{ChartWay}
 use Rattle.label_search.specs.declared.plans.Move.{Move as PlannedMove}
 use Rattle.label_search.specs.declared.plans.Target.{Target}
 use Rattle.label_search.specs.declared.plans.Target.TheVariants.{Place as To, End}
-use Rattle.label_search.specs.Charts.{call_at, count_over, dwell_over, is_open, move_of_way, moves_over, open_ways, place_over, plan_over, spot_at, stay_over}
+use Rattle.label_search.specs.Charts.{call_at, count_over, dwell_over, is_open, move_of_way, moves_over, open_ways, place_over, plan_over, stay_over}
 use Rattle.path_labels.specs.declared.train_charts.TrainChart.{TrainChart}
-use Rattle.path_labels.specs.Plans.{AreFirstPlanned, IsPlanOf, dwell_at, kept_at_end, kept_behind, move_in, place_in, planned_at, target_of, ticks_in}
+use Rattle.path_labels.specs.Plans.{IsPlanOf, dwell_at, kept_at_end, kept_behind, move_in, place_in, target_of, ticks_in}
 use Rattle.path_labels.specs.TrainCharts.{spot_in, way_in}
 use Rattle.path_labels.specs.ChartCourses.{IsOverChart, listed_move, listed_moves, listed_over, member_along, members_along, moves_along}
 use Rattle.path_labels.proofs.Product.{members_count, numbered_count, numbered_is, numbered_or, spot_is}
