@@ -38,6 +38,7 @@ same_claims_known timetable client copy entries same long knows = (
     live = subst (λ (l : List HeldClaim). AreLive timetable l knows.0)
         (ap (λ (claims : List (List HeldClaim)). flat_map (λ one. one) claims) (sym same)) knows.2.live;
     courses = knows.2.courses;
+    charts = knows.2.charts;
   },
 )
 

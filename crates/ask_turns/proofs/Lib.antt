@@ -7,6 +7,7 @@ pub mod Searching
 pub mod Short
 pub mod Showing
 pub mod Ended
+pub mod Guided
 pub mod Kept
 pub mod Known
 pub mod Opened

@@ -139,7 +139,7 @@ module _ (counts : (net : Network) → first_flaw net ≡ None → HasCountsWith
   train_within = subst IsTrainWithinLimits (sym its_train) may.request.train
 
   horizon_is : settings.horizon ≤ 17280
-  horizon_is = may.course.planned.timetable.horizon.1
+  horizon_is = may.timetable.horizon.1
 
   by_horizon : length path.runs ≤ 17280
   by_horizon =
@@ -165,6 +165,6 @@ module _ (counts : (net : Network) → first_flaw net ≡ None → HasCountsWith
     each = λ k other within. (
       within_limits net settings path keeps horizon_is k other within,
       let block = can.blocks k other within in
-          let most : length net.blocks ≤ 65536 = (counts net may.course.planned.flawless).blocks in omega arith,
+          let most : length net.blocks ≤ 65536 = (counts net may.sound).blocks in omega arith,
     );
   }

@@ -7,6 +7,7 @@ use Rattle.client_lines.specs.Names.{Names}
 use Rattle.path_commit.specs.history.Live.{live_claims}
 use Rattle.path_commit.specs.claims.Held.{held}
 use Rattle.path_labels.specs.Answers.{claims_held}
+use Rattle.path_labels.specs.Guides.{places_of}
 use Rattle.proof_texts.specs.declared.refusals.Proof.{Proof}
 use Rattle.proof_texts.specs.Texts.{proof_text}
 use Rattle.proof_texts.specs.Told.{IsProofOf, IsRequestOf}
@@ -46,7 +47,7 @@ of_excluded known request (Some path) of within = record {
 
 module _ (law : CertificatesCanBeTold) (known : Names) (settings : Settings) (live : List Claim) (ask : Ask)
     (may : MayBeSearched known.railway.network settings ask) (found : Certified)
-    (is : IsCertified known.railway.network settings live ask.request ask.course.places found) (front : ℕ)
+    (is : IsCertified known.railway.network settings live ask.request (places_of ask.guide) found) (front : ℕ)
     (early : front ≤ MAX_NUMBER) (few : length found.closed.members ≤ MAX_NUMBER) where
   abbrev pub its_proof : Proof
   its_proof = record { at = front; number = ask.number; request = found.excluded; closed = found.closed }
@@ -55,7 +56,7 @@ module _ (law : CertificatesCanBeTold) (known : Names) (settings : Settings) (li
       → IsProofOf known (record { at = front; number = ask.number; request = found.excluded; closed = found.closed })
   told of =
       let within : IsRequestWithinLimits (excluded ask.request found.path) = subst IsRequestWithinLimits is.excludes is.passes.within in
-      law known settings live its_proof may.course.planned.flawless may.course.planned.timetable is.passes.within
+      law known settings live its_proof may.sound may.timetable is.passes.within
       (subst (IsRequestOf known) (sym is.excludes) (of_excluded known ask.request found.path of within))
       is.certificate early may.number few
 
@@ -92,9 +93,9 @@ shown_at known timetable settings net_is settings_is client entries copy ask pat
   number = is.number;
   request = is.request;
   passes = passes_alike timetable.net timetable.settings is.proof.request (held client.copy)
-      (live_claims timetable entries) copy.live ask.course.places is.proof.closed
+      (live_claims timetable entries) copy.live (places_of ask.guide) is.proof.closed
       (moved timetable known.railway.network settings net_is settings_is
-      (λ n s. Passes n s (claims_held client.copy) is.proof.request ask.course.places is.proof.closed) is.passes);
+      (λ n s. Passes n s (claims_held client.copy) is.proof.request (places_of ask.guide) is.proof.closed) is.passes);
   text_is = is.text_is;
   told = is.told;
 }

@@ -43,15 +43,17 @@ StaysCopy before after =
     (timetable : Timetable) (entries : List Entry)
     → IsCopyOf timetable before entries → IsCopyOf timetable after entries
 
--- the client has a copy of some entries by a timetable, and stays so
-abbrev pub HasCopy : Timetable → Client → Type 0
-HasCopy timetable client = (entries : List Entry) × IsCopyOf timetable client entries
-
+-- the same by this timetable
 abbrev pub StaysCopyOf : Timetable → Client → Client → Type 0
 StaysCopyOf timetable before after =
     (entries : List Entry) → IsCopyOf timetable before entries → IsCopyOf timetable after entries
 
--- the same where what guided the search of a request is put to what it keeps
+-- the client has a copy of some entries by this timetable
+abbrev pub HasCopy : Timetable → Client → Type 0
+HasCopy timetable client = (entries : List Entry) × IsCopyOf timetable client entries
+
+-- what the client had a copy of, it has a copy of after, where what guided the search of a request
+-- is put to what it keeps
 abbrev pub StaysCopyWith : Request → Guide → Client → Client → Type 0
 StaysCopyWith request guide before after =
     (timetable : Timetable) (entries : List Entry)
@@ -66,7 +68,8 @@ IsChartFor client train chart =
     (timetable : Timetable) (entries : List Entry) → IsCopyOf timetable client entries
     → IsChartOf timetable.net timetable.settings train chart
 
--- what the client had a copy of, it has a copy of after, where a chart is put to what it keeps
+-- what the client had a copy of, it has a copy of after, where the chart of a train is put to what
+-- it keeps
 abbrev pub StaysCopyWithChart : TrainChart → Client → Client → Type 0
 StaysCopyWithChart chart before after =
     (timetable : Timetable) (entries : List Entry)

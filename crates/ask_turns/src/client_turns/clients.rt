@@ -16,7 +16,8 @@ use rail_types::{Name, Request, Train};
 use std::alloc::Global;
 
 /// A client's name, its copy of the live claims, of how many entries they are, the courses of
-/// requests that it keeps for the next ones like them, and the charts of trains.
+/// requests that it keeps for the next ones like them, and the charts of trains that it keeps for
+/// their next requests.
 #[derive(Drop)]
 pub struct Client {
     pub(crate) name: Name,
@@ -27,7 +28,8 @@ pub struct Client {
 }
 
 impl Client {
-    /// A client of this name, with a copy of the claims that are live now, and no course yet.
+    /// A client of this name, with a copy of the claims that are live now, and no course and no
+    /// chart yet.
     pub fn new<D: Disk>(alloc: Global, name: Name, book: &Book<D>) -> Result<Client, NoMemory>
         ensures name { IfOk result (λ client. client.name ≡ name) }
         ensures copy { IfOk result (λ client.
@@ -82,11 +84,6 @@ impl Client {
         self.courses.take(request)
     }
 
-    /// Whether it keeps a course of that train's.
-    pub fn has_asked(&self, train: &Train) -> bool {
-        self.courses.has_train(train)
-    }
-
     /// Hands out the chart that it keeps for a train, if it keeps one; it keeps it no more.
     pub fn take_chart(&mut self, train: &Train) -> Option<TrainChart>
         ensures taken { IfSome result
@@ -102,12 +99,13 @@ impl Client {
         self.charts.take(train)
     }
 
-    /// Whether it knows that a train has too many spots for a chart.
-    pub fn knows_wide(&self, train: &Train) -> bool {
-        self.charts.is_wide(train)
+    /// Whether the chart of a train is worth its making: it keeps a course of a request of that
+    /// train, and has not noted that the train has too many spots.
+    pub fn wants_chart(&self, train: &Train) -> bool {
+        self.courses.has_train(train) && !self.charts.is_wide(train)
     }
 
-    /// Notes that a train has too many spots for a chart.
+    /// Notes that a train has too many spots for a chart. What it keeps stays.
     pub fn note_wide(&mut self, alloc: Global, train: &Train)
         ensures { self.new ≡ self.old }
     {

@@ -5,6 +5,9 @@ use Rattle.ask_turns.specs.Finds.{HasRoomOf}
 use Rattle.ask_turns.specs.Shown.{IsShown}
 use Rattle.ask_turns.proofs.searches.find_entry.Goals as goal
 
+pub seek_path-requires-clause-listed : goal.seek_path-requires-clause-listed
+seek_path-requires-clause-listed c = c.requires.listed
+
 pub overflow_cast-len : goal.overflow_cast-len
 overflow_cast-len c =
     let net = c.args.known.now.railway.network in let settings = c.args.settings.now in let ask = c.args.ask.now in

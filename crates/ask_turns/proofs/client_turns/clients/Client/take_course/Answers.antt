@@ -12,4 +12,5 @@ returns-clause-copy c timetable entries copy = record {
   zones = copy.zones;
   live = copy.live;
   courses = c.take.ensures.kept timetable.net timetable.settings copy.courses;
+  charts = copy.charts;
 }

@@ -1,9 +1,0 @@
-use Rattle.ask_turns.proofs.client_turns.clients.Client.keep_course.Goals as goal
-
-pub returns-clause-copy : goal.returns-clause-copy
-returns-clause-copy c timetable entries is copy = record {
-  front = copy.front;
-  zones = copy.zones;
-  live = copy.live;
-  courses = c.keep.ensures.kept timetable.net timetable.settings is copy.courses;
-}

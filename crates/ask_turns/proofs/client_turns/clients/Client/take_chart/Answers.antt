@@ -1,0 +1,16 @@
+use Rattle.std.proofs.lemmas.Option.{IfSome_then}
+use Rattle.ask_turns.proofs.client_turns.clients.Client.take_chart.Goals as goal
+
+pub returns-clause-some : goal.returns-clause-some
+returns-clause-some c =
+    IfSome_then c.take.result c.take.ensures.some
+    (λ chart its timetable entries copy. its timetable.net timetable.settings copy.charts)
+
+pub returns-clause-copy : goal.returns-clause-copy
+returns-clause-copy c timetable entries copy = record {
+  front = copy.front;
+  zones = copy.zones;
+  live = copy.live;
+  courses = copy.courses;
+  charts = c.take.ensures.kept timetable.net timetable.settings copy.charts;
+}
