@@ -4,6 +4,7 @@ pub mod Many
 pub mod Quiet
 pub mod Rooms
 pub mod Rows
+pub mod Timetabled
 pub mod Told
 pub mod Behind
 pub mod Denied

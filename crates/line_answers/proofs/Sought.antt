@@ -21,7 +21,7 @@ use Rattle.rail_types.specs.declared.paths.Run.{Run}
 use Rattle.rail_types.specs.declared.trains.Request.{Request}
 use Rattle.client_lines.specs.declared.reply_texts.replies.Reply.{Reply}
 use Rattle.client_lines.specs.declared.reply_texts.replies.Reply.TheVariants as reply
-use Rattle.ask_turns.specs.labels.declared.course_searches.Course.{Course}
+use Rattle.ask_turns.specs.labels.declared.guides.Guide.{Guide}
 use Rattle.ask_turns.specs.tails.Listed.{HasMoreThan}
 use Rattle.ask_turns.specs.declared.client_turns.halts.Halt.{Halt}
 use Rattle.ask_turns.specs.declared.client_turns.halts.Halt.TheVariants as halt
@@ -207,9 +207,9 @@ module _ (caller : Caller) (number : ℕ) (request : Request) (after : Option �
     want_line bytes read =
         looked caller bytes v u reply.NoMemory looks looks.same refl tt (λ ts all. all) (λ ts some. tt)
 
-    module _ (narrow : IsNarrow caller request) (course : Course) where
+    module _ (narrow : IsNarrow caller request) (guide : Guide) where
       abbrev its_ask : Ask
-      its_ask = record { number = number; line = caller.line_number; request = request; course = course }
+      its_ask = record { number = number; line = caller.line_number; request = request; guide = guide }
 
       so : (bytes : List ℕ) → SoFar caller bytes v u u.found.list (u.found.list ∷ [])
       so bytes = first_look caller bytes v u looks

@@ -1,5 +1,5 @@
 //! A path that is sought: what its number stands for, and then its searches.
-ghost use Rattle.std.specs.Prelude.{◌≡◌, ◌+◌, ◌⊎◌, ◌≤◌, IfErr, IfOk, IfSome, IsTrue};
+ghost use Rattle.std.specs.Prelude.{◌≡◌, ◌+◌, ◌⊎◌, ◌≤◌, IfErr, IfOk, IfSome, IsTrue, false};
 ghost use Rattle.book_gate.specs.Passes.{turns_left, view};
 ghost use Rattle.client_lines.specs.Within.{IsAskWithin};
 ghost use Rattle.client_lines.specs.declared.asks.Ask.TheVariants.{Path as path_of};
@@ -24,7 +24,7 @@ ghost use Rattle.line_answers.specs.Tells.{AddsNothing};
 
 use crate::lines::Sent;
 use crate::replies::{ask_told, halted, number_told};
-use ask_turns::client_turns::find_again;
+use ask_turns::client_turns::{Client, find_again};
 use ask_turns::labels::{ChartCourse, Course, Guide, TrainChart, guides_are_narrow};
 use ask_turns::tails::{PlacesFault, SpotsFault, places, sound_networks_are_asked};
 use ask_turns::{Ask, Guest, Shared, try_searches};
@@ -160,8 +160,8 @@ fn seek_path<R: Wait, D: Disk, B: Between>(
 }
 
 // What guides the search of a request: the course that is kept for such a request; or else its
-// course over the chart of its train, where one is kept or the train was asked for before, and what
-// is found needs not be shown; or else its course over listed places, which are worked out.
+// course over the chart of its train, where there is one; or else its course over listed places,
+// which are worked out.
 fn guide_of<D: Disk>(
     alloc: Global,
     shared: &Shared<D>,
@@ -183,33 +183,39 @@ fn guide_of<D: Disk>(
     if let Some(course) = client.take_course(request) {
         return Ok(Guide::Listed(course));
     }
-    if !proves {
-        if let Some(course) = chart_course_of(alloc, shared, client, request) {
-            return Ok(Guide::Charted(course));
-        }
+    if let Some(course) = chart_course_of(alloc, shared, client, request, proves) {
+        return Ok(Guide::Charted(course));
     }
     let course = worked_out(alloc, shared, request)?;
     Ok(Guide::Listed(course))
 }
 
-// The course of a request over the chart of its train, or None where there is no chart, where it
-// does not bound the places of the request, or where memory is wanted.
+// The course of a request over the chart of its train. None where proofs are wanted, since these
+// tell listed places; where there is no chart, or it does not bound the places of the request; and
+// where memory is wanted.
 fn chart_course_of<D: Disk>(
     alloc: Global,
     shared: &Shared<D>,
     client: &mut Client,
     request: &Request,
+    proves: bool,
 ) -> Option<ChartCourse>
     requires shared { IsShared shared.now }
     requires request { IsRequestWithinLimits request.now }
     requires copy { HasCopy (timetable_at shared.now.gate) client.old }
     ensures course { IfSome result (IsChartCourse (timetable_at shared.now.gate).net
         (timetable_at shared.now.gate).settings request.now) }
+    ensures unproved { IfSome result (λ _. proves ≡ false) }
     ensures copy { StaysCopyOf (timetable_at shared.now.gate) client.old client.new }
     ensures name { client.new.name ≡ client.old.name }
     ensures front { client.new.front ≡ client.old.front }
 {
-    let chart = chart_of(alloc, shared, client, &request.train)?;
+    if proves {
+        return None;
+    }
+    let Some(chart) = chart_of(alloc, shared, client, &request.train) else {
+        return None;
+    };
     if !chart.is_narrow(request) {
         client.keep_chart(chart);
         return None;
@@ -222,7 +228,8 @@ fn chart_course_of<D: Disk>(
     Some(course)
 }
 
-// The chart that is kept for a train. Where none is, and a course of the train's is, it is made.
+// The chart of a train: the one that the client keeps, or else one that is made, where the client
+// wants it. None where it does not, where the train has too many spots, and where memory is wanted.
 fn chart_of<D: Disk>(
     alloc: Global,
     shared: &Shared<D>,
@@ -238,14 +245,12 @@ fn chart_of<D: Disk>(
     ensures name { client.new.name ≡ client.old.name }
     ensures front { client.new.front ≡ client.old.front }
 {
-    let kept = client.take_chart(train);
-    if kept.is_some() {
-        return kept;
+    if let Some(chart) = client.take_chart(train) {
+        return Some(chart);
     }
-    if !client.has_asked(train) || client.knows_wide(train) {
+    if !client.wants_chart(train) {
         return None;
     }
-    sound_networks_are_asked();
     let net = network_of(shared);
     match TrainChart::of(alloc, net, &shared.settings, &shared.followers, train) {
         Ok(chart) => Some(chart),

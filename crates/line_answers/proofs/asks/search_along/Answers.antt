@@ -1,8 +1,7 @@
 use Rattle.std.proofs.Common.{◌⊎◌, ℕ, List, sym, subst, refl, arith}
 use Rattle.book_gate.specs.Passes.{view}
 use Rattle.ask_turns.specs.history.Legal.{IsWantedOn}
-use Rattle.ask_turns.specs.labels.Courses.{IsCourse}
-use Rattle.rail_types.specs.declared.entries.Settings.{Settings}
+use Rattle.ask_turns.specs.labels.Guides.{IsGuide}
 use Rattle.rail_types.specs.declared.entries.Wanted.TheVariants.{Asked}
 use Rattle.rail_types.specs.declared.tracks.Network.{Network}
 use Rattle.rail_types.specs.Timetables.{Timetable}
@@ -17,22 +16,27 @@ use Rattle.line_answers.specs.Proved.{ProvedOr}
 use Rattle.line_answers.specs.Tells.{AddsNothing}
 use Rattle.line_answers.proofs.Rooms.{halt_room}
 use Rattle.line_answers.proofs.Sought.{asked_line, halted_ask}
+use Rattle.line_answers.proofs.Timetabled.{from_timetable}
 use Rattle.line_answers.proofs.Proved.{ask_shows, shows_halt}
 use Rattle.line_answers.proofs.asks.search_along.Goals as goal
 
 pub try_searches-requires-clause-may : goal.try_searches-requires-clause-may
 try_searches-requires-clause-may g c =
-    let timetable : Timetable = timetable_at c.args.shared.now.gate in
     let ask : Ask = c.args.ask.now in
     let points = c.requires.within.2 in record {
       number = c.requires.within.0;
       request = c.requires.within.1;
       points = subst (λ (net : Network). IsWantedOn net (Asked ask.request)) (sym c.requires.shared.network)
           (points.origin, points.destination, points.stops);
-      course = subst (λ (net : Network). IsCourse net c.args.shared.now.settings ask.request ask.course) (sym c.requires.shared.network)
-          (subst (λ (by : Settings). IsCourse timetable.net by ask.request ask.course) (sym c.requires.shared.settings)
-          c.requires.course);
+      sound = c.requires.shared.known.named.sound;
+      timetable = c.requires.shared.within;
+      guide = from_timetable (λ net settings. IsGuide net settings ask.request ask.guide) (timetable_at c.args.shared.now.gate)
+          c.args.shared.now.known.railway.network c.args.shared.now.settings c.requires.shared.network c.requires.shared.settings
+          c.requires.guide;
     }
+
+pub try_searches-requires-clause-listed : goal.try_searches-requires-clause-listed
+try_searches-requires-clause-listed g c = c.requires.listed
 
 pub returns-in-Ok-clause-answers : goal.returns-in-Ok-clause-answers
 returns-in-Ok-clause-answers g c v after looks reached is_new rules allowed =
@@ -40,9 +44,9 @@ returns-in-Ok-clause-answers g c v after looks reached is_new rules allowed =
     let ask : Ask = c.args.ask.now in
     let u : Sight = view c.args.guest.now.pass in let w : Sight = view c.try_searches.new.guest.pass in
     let told = c.in-Ok.outcome in
-    let has = c.courses_have_the_places.ensures caller.timetable.net caller.timetable.settings ask.request ask.course c.requires.course in
-    asked_line caller ask.number ask.request after v u looks reached is_new (λ may. allowed) has.narrow
-    ask.course w told c.front.result c.ask_told.result
+    let narrow = c.guides_are_narrow.ensures caller.timetable.net caller.timetable.settings ask.request ask.guide c.requires.within.1 c.requires.guide in
+    asked_line caller ask.number ask.request after v u looks reached is_new (λ may. allowed) narrow
+    ask.guide w told c.front.result c.ask_told.result
     (subst (λ n. IsTheFront told n w) (sym c.front.ensures) c.in-Ok.ensures.front)
     c.in-Ok.ensures.searched c.ask_told.ensures.tells
 
@@ -67,10 +71,10 @@ returns-in-Err-clause-answers g c v after looks reached is_new rules allowed =
     let caller : Caller = caller_of c.args.shared.now rules c.args.guest.now.client.name c.args.ask.now.line in
     let ask : Ask = c.args.ask.now in
     let u : Sight = view c.args.guest.now.pass in let w : Sight = view c.try_searches.new.guest.pass in
-    let has = c.courses_have_the_places.ensures caller.timetable.net caller.timetable.settings ask.request ask.course c.requires.course in
+    let narrow = c.guides_are_narrow.ensures caller.timetable.net caller.timetable.settings ask.request ask.guide c.requires.within.1 c.requires.guide in
     subst (λ (r : Reply). AnswersLine caller (asking after ask.number ask.request) r v w) (sym c.halted.ensures)
-    (halted_ask caller ask.number ask.request after v u looks reached is_new (λ may. allowed) has.narrow
-    ask.course w c.in-Err.halt c.in-Err.ensures.stopped)
+    (halted_ask caller ask.number ask.request after v u looks reached is_new (λ may. allowed) narrow
+    ask.guide w c.in-Err.halt c.in-Err.ensures.stopped)
 
 pub returns-in-Err-clause-room : goal.returns-in-Err-clause-room
 returns-in-Err-clause-room g c =

@@ -1,5 +1,4 @@
 use Rattle.std.proofs.Common.{ℕ, List, length, ap, sym, ◌∙◌, subst}
-use Rattle.std.proofs.lemmas.Option.{IfSome_then}
 use Rattle.book_gate.specs.Passes.{view}
 use Rattle.rail_types.specs.declared.entries.Entry.{Entry}
 use Rattle.rail_types.specs.Limits.{IsClientName}
@@ -12,29 +11,32 @@ use Rattle.line_answers.proofs.Calls.{starts_refl}
 use Rattle.line_answers.proofs.Sought.{want_line, wide_line}
 use Rattle.line_answers.proofs.asks.seek_path.Goals as goal
 
--- ---- the course
+-- ---- what guides the search
 
-pub course_of-requires-clause-kept : goal.course_of-requires-clause-kept
-course_of-requires-clause-kept g c =
-    IfSome_then c.take_course-kept.result c.take_course-kept.ensures.some
-    (λ course its. its (timetable_at c.args.shared.now.gate) (view c.args.guest.now.pass).seen c.requires.copy)
+pub guide_of-requires-clause-request : goal.guide_of-requires-clause-request
+guide_of-requires-clause-request g c = c.requires.within.1
+
+pub guide_of-requires-clause-copy : goal.guide_of-requires-clause-copy
+guide_of-requires-clause-copy g c = ((view c.args.guest.now.pass).seen, c.requires.copy)
 
 pub search_along-reply-requires-clause-copy : goal.search_along-reply-requires-clause-copy
-search_along-reply-requires-clause-copy g c =
-    c.take_course-kept.ensures.copy (timetable_at c.args.shared.now.gate) (view c.args.guest.now.pass).seen c.requires.copy
+search_along-reply-requires-clause-copy g c = c.guide_of.ensures.copy (view c.args.guest.now.pass).seen c.requires.copy
 
 pub search_along-reply-requires-clause-name : goal.search_along-reply-requires-clause-name
-search_along-reply-requires-clause-name g c = subst IsClientName (sym c.take_course-kept.ensures.name) c.requires.name
+search_along-reply-requires-clause-name g c = subst IsClientName (sym c.guide_of.ensures.name) c.requires.name
+
+pub search_along-reply-requires-clause-guide : goal.search_along-reply-requires-clause-guide
+search_along-reply-requires-clause-guide g c = c.in-Ok.ensures.guide
+
+pub search_along-reply-requires-clause-listed : goal.search_along-reply-requires-clause-listed
+search_along-reply-requires-clause-listed g c = c.in-Ok.ensures.listed
 
 -- ---- too many places, or no memory for them
 
 pub returns-in-Err-Wide-clause-knows : goal.returns-in-Err-Wide-clause-knows
 returns-in-Err-Wide-clause-knows g c =
-    let seen : List Entry = (view c.args.guest.now.pass).seen in (
-      seen,
-      starts_refl seen,
-      c.take_course-kept.ensures.copy (timetable_at c.args.shared.now.gate) seen c.requires.copy,
-    )
+    let seen : List Entry = (view c.args.guest.now.pass).seen in
+    (seen, starts_refl seen, c.guide_of.ensures.copy seen c.requires.copy)
 
 pub returns-in-Err-Wide-clause-answers : goal.returns-in-Err-Wide-clause-answers
 returns-in-Err-Wide-clause-answers g c v after looks reached is_new rules allowed =
@@ -42,18 +44,15 @@ returns-in-Err-Wide-clause-answers g c v after looks reached is_new rules allowe
     let u : Sight = view c.args.guest.now.pass in
     let refuses = subst (Refuses caller.timetable.net c.args.request) c.in-Err-Wide.field-0-is c.in-Err-Wide.ensures.wide in
     wide_line caller c.args.sent.number c.args.request after v u looks reached is_new (λ may. allowed) c.front.result
-    (c.front.ensures ∙ c.take_course-kept.ensures.front ∙ c.requires.copy.front ∙ ap length looks.same) refuses.1
+    (c.front.ensures ∙ c.guide_of.ensures.front ∙ c.requires.copy.front ∙ ap length looks.same) refuses.1
 
 pub returns-in-Err-Wide-clause-shown : goal.returns-in-Err-Wide-clause-shown
 returns-in-Err-Wide-clause-shown g c v after looks reached bytes read wanted = tt
 
 pub returns-in-Err-Memory-clause-knows : goal.returns-in-Err-Memory-clause-knows
 returns-in-Err-Memory-clause-knows g c =
-    let seen : List Entry = (view c.args.guest.now.pass).seen in (
-      seen,
-      starts_refl seen,
-      c.take_course-kept.ensures.copy (timetable_at c.args.shared.now.gate) seen c.requires.copy,
-    )
+    let seen : List Entry = (view c.args.guest.now.pass).seen in
+    (seen, starts_refl seen, c.guide_of.ensures.copy seen c.requires.copy)
 
 pub returns-in-Err-Memory-clause-answers : goal.returns-in-Err-Memory-clause-answers
 returns-in-Err-Memory-clause-answers g c v after looks reached is_new rules allowed =
@@ -70,11 +69,11 @@ returns-clause-knows g c =
     let knows = c.search_along-reply.ensures.knows in (
       knows.0,
       knows.1,
-      c.keep_course.ensures.copy (timetable_at c.args.shared.now.gate) knows.0 c.in-Ok.ensures.course knows.2,
+      c.keep_guide.ensures.copy (timetable_at c.args.shared.now.gate) knows.0 c.in-Ok.ensures.guide knows.2,
     )
 
 pub returns-clause-answers : goal.returns-clause-answers
 returns-clause-answers g c =
     let u : Sight = view c.args.guest.now.pass in let w : Sight = view c.search_along-reply.new.guest.pass in
     subst (λ (name : List ℕ). AnswersBehind c.args.shared.now name c.args.sent.line c.args.sent.number c.args.request
-    c.search_along-reply.result u w) c.take_course-kept.ensures.name c.search_along-reply.ensures.answers
+    c.search_along-reply.result u w) c.guide_of.ensures.name c.search_along-reply.ensures.answers
