@@ -1,5 +1,5 @@
 //! A path that is sought: what its number stands for, and then its searches.
-ghost use Rattle.std.specs.Prelude.{◌≡◌, ◌+◌, ◌⊎◌, ◌≤◌, IfErr, IfOk, IfSome, IsTrue, false};
+ghost use Rattle.std.specs.Prelude.{◌≡◌, ◌+◌, ◌⊎◌, ◌≤◌, false, IfErr, IfOk, IfSome, IsTrue};
 ghost use Rattle.book_gate.specs.Passes.{turns_left, view};
 ghost use Rattle.client_lines.specs.Within.{IsAskWithin};
 ghost use Rattle.client_lines.specs.declared.asks.Ask.TheVariants.{Path as path_of};
