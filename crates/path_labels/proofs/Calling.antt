@@ -1,6 +1,6 @@
 -- What is asked at each count of stops made.
 use Rattle.std.proofs.Common.{◌≡◌, inl, inr, sym, ap, subst, arith, ℕ, ◌+◌, ◌<◌, true, List, [], ◌∷◌, ◌++◌, length, get_or, Contains, eq-eqb, length-append}
-use Rattle.std.specs.Prelude.{nat_eq}
+use Rattle.std.specs.Prelude.{◌↔◌, nat_eq}
 use Rattle.std.specs.List.{list_any}
 use Rattle.std.proofs.lemmas.Bool.{cases_lt, eqb-true}
 use Rattle.std.proofs.lemmas.List.{get_or_append_left, get_or_push}
@@ -8,12 +8,11 @@ use Rattle.std.proofs.lemmas.List.Folds.{list_any_at}
 use Rattle.std.proofs.lemmas.Map.Views.{Contains-from_any}
 use Rattle.rail_types.specs.declared.tracks.Network.{Network}
 use Rattle.rail_types.specs.declared.trains.Request.{Request}
-use Rattle.tail_states.specs.Asked.{next_stop}
+use Rattle.blocking_time.specs.Runs.{block_at}
 use Rattle.tail_states.specs.Following.{AreServing}
 use Rattle.label_search.specs.declared.charts.ChartCall.{ChartCall}
 use Rattle.label_search.specs.Charts.{call_at}
 use Rattle.path_labels.specs.ChartCourses.{AreCalls, IsCallAt}
-use Rattle.path_labels.specs.Plans.{dwell_at}
 
 -- a train is called to halt on the blocks of the call
 among_called : (blocks : List ℕ) (block : ℕ) → list_any (λ one. nat_eq one block) blocks ≡ true → Contains blocks block
@@ -22,16 +21,13 @@ among_called blocks block called = Contains-from_any {K = ℕ} {eq = λ one othe
 called_among : (blocks : List ℕ) (block : ℕ) → Contains blocks block → list_any (λ one. nat_eq one block) blocks ≡ true
 called_among blocks block (k, within, is) = list_any_at (λ one. nat_eq one block) blocks k block within (eq-eqb (get_or blocks k block) block is)
 
--- the blocks that serve the next stop are those of the call
-pub call_serving : (net : Network) (request : Request) (made : ℕ) (lists : List (List ℕ)) (call : ChartCall) → AreServing net (length net.blocks) lists
-    → call.blocks ≡ get_or lists (next_stop request made) [] → call.dwell ≡ dwell_at request made true → IsCallAt net request made call
-call_serving net request made lists call are blocks dwells = record {
-  dwells = dwells;
-  halts = λ block within. (
-    (λ called. (are.sound (next_stop request made) block (subst (λ l. Contains l block) blocks (among_called call.blocks block called))).1),
-    (λ serves. called_among call.blocks block (subst (λ l. Contains l block) (sym blocks) (are.whole (next_stop request made) block within serves))),
-  );
-}
+-- a train is called on the blocks that serve a stop
+pub called_where_served : (net : Network) (stop : ℕ) (lists : List (List ℕ)) (blocks : List ℕ) → AreServing net (length net.blocks) lists → blocks ≡ get_or lists stop []
+    → (block : ℕ) → block < length net.blocks → (list_any (λ one. nat_eq one block) blocks ≡ true) ↔ Contains (block_at net block).serves stop
+called_where_served net stop lists blocks are same block within = (
+  (λ called. (are.sound stop block (subst (λ l. Contains l block) same (among_called blocks block called))).1),
+  (λ serves. called_among blocks block (subst (λ l. Contains l block) (sym same) (are.whole stop block within serves))),
+)
 
 -- so many calls are made, one for each count of stops made
 pub record AreFirstCalls (net : Network) (request : Request) (count : ℕ) (calls : List ChartCall) : Type 0 where

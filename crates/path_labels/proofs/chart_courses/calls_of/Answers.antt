@@ -12,4 +12,4 @@ loop-made-preserved c =
 pub returns : goal.returns
 returns c =
     all_called c.args.net.now c.args.request.now c.loop-made.made c.loop-made.calls c.loop-made.invariant
-    (omega (arith, c.loop-made.auto.made-end, c.loop-made-test.false, c.len.ensures))
+    (omega (arith, c.loop-made.auto.made-end, c.loop-made-test.false, c.len-made-end.ensures))
