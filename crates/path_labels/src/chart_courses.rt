@@ -27,8 +27,8 @@ ghost use Rattle.path_labels.specs.Joining.{AreSteps, path_in};
 ghost use Rattle.path_labels.specs.TrainCharts.{IsChartOf};
 
 use crate::laws::{charts_are_planned, granted_paths_are_planned, planned_paths_are_granted};
-use crate::request_plans::dwell_after;
 use crate::plan_searches::{claims_have_ticks, trip};
+use crate::request_plans::dwell_after;
 use crate::train_charts::{TrainChart, charted_way};
 use label_search::{
     Ahead, ChartCall, ChartWay, Finding, LentPlan, Step as PlannedStep, Target, find_lent,

@@ -177,7 +177,15 @@ pub(crate) fn charted_way(
         from: ticks,
         to: ticks + i64::from(settings.release),
     };
-    let ending = ending_of(alloc, net, train, halts, &after, claims.as_slice(), &release)?;
+    let ending = ending_of(
+        alloc,
+        net,
+        train,
+        halts,
+        &after,
+        claims.as_slice(),
+        &release,
+    )?;
     Ok(ChartWay {
         block: way.step.block,
         halts,

@@ -24,6 +24,6 @@ returns c = (
   c.in_ok-way.ensures.step,
   c.in_ok-way.ensures.leads,
   c.in_ok-push.ensures.ok
-  ∙ ap (λ (one : ChartWay). c.args.starts.now ++ one ∷ [])
-  (c.in_ok-charted_way.ensures ∙ ap (λ (p : Place). way_in c.args.net.now c.args.settings.now c.args.chart.now.train p c.in_ok-way.way) c.requires.start),
+      ∙ ap (λ (one : ChartWay). c.args.starts.now ++ one ∷ [])
+      (c.in_ok-charted_way.ensures ∙ ap (λ (p : Place). way_in c.args.net.now c.args.settings.now c.args.chart.now.train p c.in_ok-way.way) c.requires.start),
 )

@@ -19,5 +19,5 @@ returns c =
     let took = begins ∙ c.ticks_of-ticks.ensures in
     way_is net settings train spot way halts (to_z w64 (of_z w64 ticks)) c.from_vec.result c.from_vec-2.result c.is_still-halts.ensures took (c.from_vec.ensures ∙ c.in_ok-claims.ensures)
     (c.from_vec-2.ensures ∙ ending_is net settings train spot way.step way.step.exit halts c.in_ok-after.after c.as_slice.result.now c.in_ok-ending.ending.items
-        (to_z w64 (of_z w64 ticks)) (to_z w64 (of_z w64 (to_z w64 (of_z w64 ticks) +ℤ to_z w64 (of_z w64 c.from.result))))
-        c.is_still-halts.ensures c.in_ok-after.ensures.value (c.as_slice.ensures.value ∙ c.in_ok-claims.ensures) took ends told.halted told.rolling)
+    (to_z w64 (of_z w64 ticks)) (to_z w64 (of_z w64 (to_z w64 (of_z w64 ticks) +ℤ to_z w64 (of_z w64 c.from.result))))
+    c.is_still-halts.ensures c.in_ok-after.ensures.value (c.as_slice.ensures.value ∙ c.in_ok-claims.ensures) took ends told.halted told.rolling)
