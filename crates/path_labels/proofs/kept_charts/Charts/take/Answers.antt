@@ -1,7 +1,7 @@
-use Rattle.std.proofs.Common.{List, arith, refl, subst}
+use Rattle.std.proofs.Common.{List, subst}
 use Rattle.path_labels.specs.declared.train_charts.TrainChart.{TrainChart}
 use Rattle.path_labels.specs.TrainCharts.{IsChartAt}
-use Rattle.path_labels.proofs.KeepingCharts.{among, few_without, stay_without, taken_out}
+use Rattle.path_labels.proofs.KeepingCharts.{stay_without, taken_out}
 use Rattle.path_labels.proofs.kept_charts.Charts.take.Goals as goal
 
 pub returns-clause-taken : goal.returns-clause-taken
@@ -10,29 +10,9 @@ returns-clause-taken c =
     let found : IsChartAt inside c.args.train.now c.in-Some.at = subst (λ (charts : List TrainChart). IsChartAt charts c.args.train.now c.in-Some.at) c.as_slice.ensures.value c.in-Some.ensures.some in
     taken_out c.args.self.now inside c.remove-one.new.self.items c.args.train.now c.in-Some.at c.remove-one.result c.self.view_is found c.remove-one.ensures.value c.remove-one.ensures.items
 
-pub returns-clause-some : goal.returns-clause-some
-returns-clause-some c =
-    let inside = c.self.inside.kept.items in
-    let found : IsChartAt inside c.args.train.now c.in-Some.at = subst (λ (charts : List TrainChart). IsChartAt charts c.args.train.now c.in-Some.at) c.as_slice.ensures.value c.in-Some.ensures.some in
-    among c.args.self.now c.remove-one.new.self.items c.args.train.now c.remove-one.result
-    (taken_out c.args.self.now inside c.remove-one.new.self.items c.args.train.now c.in-Some.at c.remove-one.result c.self.view_is found c.remove-one.ensures.value c.remove-one.ensures.items)
-
 pub returns-clause-kept : goal.returns-clause-kept
 returns-clause-kept c =
     let inside = c.self.inside.kept.items in
     let found : IsChartAt inside c.args.train.now c.in-Some.at = subst (λ (charts : List TrainChart). IsChartAt charts c.args.train.now c.in-Some.at) c.as_slice.ensures.value c.in-Some.ensures.some in
     stay_without c.args.self.now c.remove-one.new.self.items c.args.train.now c.remove-one.result
     (taken_out c.args.self.now inside c.remove-one.new.self.items c.args.train.now c.in-Some.at c.remove-one.result c.self.view_is found c.remove-one.ensures.value c.remove-one.ensures.items)
-
-pub invariant_of-self : goal.invariant_of-self
-invariant_of-self c =
-    let inside = c.self.inside.kept.items in
-    let found : IsChartAt inside c.args.train.now c.in-Some.at = subst (λ (charts : List TrainChart). IsChartAt charts c.args.train.now c.in-Some.at) c.as_slice.ensures.value c.in-Some.ensures.some in
-    record {
-      few = few_without inside c.remove-one.new.self.items c.args.train.now c.remove-one.result
-          (taken_out inside inside c.remove-one.new.self.items c.args.train.now c.in-Some.at c.remove-one.result refl found c.remove-one.ensures.value c.remove-one.ensures.items)
-          c.self.invariant.few;
-      room = omega arith;
-      few_wide = c.self.invariant.few_wide;
-      room_for_wide = c.self.invariant.room_for_wide;
-    }
