@@ -25,3 +25,6 @@ pub mod Advancing
 pub mod Going
 pub mod Doing
 pub mod Lending
+pub mod Calling
+pub mod Resting
+pub mod Summing

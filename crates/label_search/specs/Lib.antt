@@ -14,3 +14,4 @@ pub mod Queues
 pub mod Pending
 pub mod Charts
 pub mod Lent
+pub mod Nearing

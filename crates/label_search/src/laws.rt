@@ -1,6 +1,10 @@
 //! Laws of the definitions, each on a function that does nothing.
 
-ghost use Rattle.std.specs.Prelude.{◌≡◌, ℤ, ◌<ℤ◌, ◌≤ℤ◌, ◌-ℤ◌, ◌↔◌, pos, List, []};
+ghost use Rattle.std.specs.Prelude.{◌≡◌, ℤ, ◌<ℤ◌, ◌≤ℤ◌, ◌-ℤ◌, ◌↔◌, pos, List, [], All};
+ghost use Rattle.label_search.specs.declared.charts.ChartCall.{ChartCall as call_type};
+ghost use Rattle.label_search.specs.declared.charts.ChartSpot.{ChartSpot as spot_type};
+ghost use Rattle.label_search.specs.declared.limits.Ahead.{Ahead as ahead_type};
+ghost use Rattle.label_search.specs.declared.nearing.Near.{Near as near_type};
 ghost use Rattle.label_search.specs.declared.plans.Plan.{Plan as plan_type};
 ghost use Rattle.label_search.specs.declared.plans.Trip.{Trip as trip_type};
 ghost use Rattle.label_search.specs.declared.plans.Step.{Step as step_type};
@@ -8,8 +12,10 @@ ghost use Rattle.label_search.specs.declared.plans.Member.{Member as member_type
 ghost use Rattle.label_search.specs.Free.{Book};
 ghost use Rattle.label_search.specs.Paths.{Possible, IsPath, PathFits, arrival};
 ghost use Rattle.label_search.specs.declared.limits.Limits.{Limits as limits_type};
-ghost use Rattle.label_search.specs.Limits.{IsConsistent, IsUnlimited};
+ghost use Rattle.label_search.specs.Limits.{IsAhead, IsConsistent, IsUnlimited};
 ghost use Rattle.label_search.specs.Closed.{IsClosed, IsClosedBelow, IsHeld, before};
+ghost use Rattle.label_search.specs.Nearing.{AreNears, AreRests, HaveShortDwells};
+ghost use Rattle.label_search.specs.Nearing.{IsConsistentOver, aheads_over};
 
 use crate::plans::LATEST;
 
@@ -41,6 +47,18 @@ pub fn closed_below_all_is_closed()
     ensures same { (plan : plan_type) (trip : trip_type) (book : Book) (limits : limits_type)
         (members : List member_type) → IsUnlimited plan limits
         → (IsClosed plan trip book members ↔ IsClosedBelow plan limits trip book (IsHeld members)) }
+{}
+
+/// The sums of what is ahead over a chart are numbers of ticks that are not negative and not too
+/// great to be added, and consistent.
+pub fn aheads_are_consistent()
+    ensures ahead { (spots : List spot_type) (calls : List call_type) (nears : List near_type)
+        (rests : List ahead_type) → HaveShortDwells calls → AreNears spots calls nears
+        → AreRests spots calls nears rests → All IsAhead (aheads_over spots calls nears rests) }
+    ensures consistent { (spots : List spot_type) (calls : List call_type)
+        (nears : List near_type) (rests : List ahead_type) → HaveShortDwells calls
+        → AreNears spots calls nears → AreRests spots calls nears rests
+        → IsConsistentOver spots calls (aheads_over spots calls nears rests) }
 {}
 
 /// The limit of the ticks of a plan.
