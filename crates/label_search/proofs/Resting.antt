@@ -1,5 +1,5 @@
 -- What is left behind calls, worked out from the last of them on.
-use Rattle.std.proofs.Common.{◌≡◌, ◌≢◌, ◌∙◌, ℕ, suc, zero, ◌+◌, ◌-◌, ◌<◌, ◌≤◌, List, [], ◌∷◌, length, set, replicate, All, sym, ap, subst, refl, arith, inl, inr}
+use Rattle.std.proofs.Common.{◌≡◌, ◌≢◌, ◌∙◌, ℕ, suc, zero, ◌+◌, ◌-◌, ◌<◌, ◌≤◌, List, [], ◌∷◌, length, set, replicate, All, Bool, sym, ap, subst, refl, arith, inl, inr}
 use Rattle.std.specs.Prelude.{pos, ◌≤ℤ◌}
 use Rattle.std.proofs.lemmas.Int.{ints}
 use Rattle.std.proofs.lemmas.Bool.{cases_eq}
@@ -33,6 +33,16 @@ pub ahead_other : (list : List Ahead) (at other : ℕ) (one : Ahead) → other �
 ahead_other list at other one differs =
     unwrap_or-slice_get (set list at one) other nothing
     ∙ (get_or-set_other list at other one nothing differs ∙ sym (unwrap_or-slice_get list other nothing))
+
+-- the sum by what is told of the spot and the call
+pub sum_there : (spots : List ChartSpot) (calls : List ChartCall) (nears : List Near) (rests : List Ahead) (spot made : ℕ) (standing : Bool) (call : ChartCall) (near : Near) (rest : Ahead)
+    → standing ≡ (spot_at spots spot).standing → call ≡ call_at calls made → near ≡ near_at nears made → rest ≡ ahead_at rests made
+    → sum_ahead standing call near rest spot ≡ stay_ahead spots calls nears rests spot made
+sum_there spots calls nears rests spot made standing call near rest standing_is call_is near_is rest_is =
+    ap (λ (one : Bool). sum_ahead one call near rest spot) standing_is
+    ∙ (ap (λ (one : ChartCall). sum_ahead (spot_at spots spot).standing one near rest spot) call_is
+    ∙ (ap (λ (one : Near). sum_ahead (spot_at spots spot).standing (call_at calls made) one rest spot) near_is
+    ∙ ap (λ (one : Ahead). sum_ahead (spot_at spots spot).standing (call_at calls made) (near_at nears made) one spot) rest_is))
 
 module _ (spots : List ChartSpot) (calls : List ChartCall) (nears : List Near) where
   -- nothing is left behind the last call

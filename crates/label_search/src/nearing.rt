@@ -32,8 +32,8 @@ use no_memory::NoMemory;
 use rail_types::{FAR_TICK, List};
 use std::alloc::Global;
 
-/// How near a train is to its next call: the least ticks from each spot, 0 where the list has none,
-/// and the spots behind its calls.
+/// How near a train is to its next call: ticks from each spot that no train falls short of, 0 where
+/// the list has none, and the spots behind its calls.
 #[derive(Debug, Drop)]
 pub struct Near {
     pub(crate) ticks: List<Ahead>,
