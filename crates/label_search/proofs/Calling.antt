@@ -37,24 +37,3 @@ module _ (P : ℕ → Type 0) where
         All-cons (λ (spot : ChartSpot). All Leads spot.ways) spot spots
         (ways_lead spot.ways (all_left (behind_ways blocks spot.ways) (behind_calls blocks spots) all))
         (spots_lead spots (all_right (behind_ways blocks spot.ways) (behind_calls blocks spots) all))
-
--- one way more
-module _ (blocks : List ℕ) (ways : List ChartWay) (at : ℕ) (d : ChartWay) (within : at < length ways) where
-  behind_next : (called : Bool) → is_call blocks (get_or ways at d) ≡ called → behind_ways blocks (take (at + 1) ways) ≡ behind_ways blocks (take at ways) ++ map (λ (one : ChartWay). one.next) (cond called (get_or ways at d ∷ []) [])
-  behind_next called is =
-      ap (map (λ (one : ChartWay). one.next)) (filter_more (is_call blocks) ways at d within)
-      ∙ (map-append (λ (one : ChartWay). one.next) (filter (is_call blocks) (take at ways)) (cond (is_call blocks (get_or ways at d)) (get_or ways at d ∷ []) [])
-      ∙ ap (λ b. behind_ways blocks (take at ways) ++ map (λ (one : ChartWay). one.next) (cond b (get_or ways at d ∷ []) [])) is)
-
-  pub behind_called : is_call blocks (get_or ways at d) ≡ true → behind_ways blocks (take (at + 1) ways) ≡ behind_ways blocks (take at ways) ++ (get_or ways at d).next ∷ []
-  behind_called is = behind_next true is
-
-  pub behind_other : is_call blocks (get_or ways at d) ≡ false → behind_ways blocks (take (at + 1) ways) ≡ behind_ways blocks (take at ways)
-  behind_other is = behind_next false is ∙ append-nil (behind_ways blocks (take at ways))
-
--- one spot more
-pub behind_spot : (blocks : List ℕ) (spots : List ChartSpot) (at : ℕ) (d : ChartSpot) → at < length spots → behind_calls blocks (take (at + 1) spots) ≡ behind_calls blocks (take at spots) ++ behind_ways blocks (get_or spots at d).ways
-behind_spot blocks spots at d within =
-    ap (behind_calls blocks) (take_more spots at d within)
-    ∙ (flat_map-append (λ (spot : ChartSpot). behind_ways blocks spot.ways) (take at spots) (get_or spots at d ∷ [])
-    ∙ ap (λ last. behind_calls blocks (take at spots) ++ last) (append-nil (behind_ways blocks (get_or spots at d).ways)))

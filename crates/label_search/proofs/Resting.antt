@@ -1,10 +1,10 @@
 -- What is left behind calls, worked out from the last of them on.
-use Rattle.std.proofs.Common.{◌≡◌, ◌≢◌, ◌∙◌, ℕ, suc, zero, ◌+◌, ◌-◌, ◌<◌, ◌≤◌, List, [], ◌∷◌, length, set, replicate, All, Bool, sym, ap, subst, refl, arith, inl, inr}
-use Rattle.std.specs.Prelude.{pos, ◌≤ℤ◌}
+use Rattle.std.proofs.Common.{◌≡◌, ◌≢◌, ◌∙◌, ℕ, suc, zero, ◌+◌, ◌-◌, ◌<◌, ◌≤◌, List, [], ◌∷◌, length, get_or, set, replicate, All, Bool, false, None, slice_get, sym, ap, subst, refl, arith, inl, inr}
+use Rattle.std.specs.Prelude.{ℤ, pos, ◌≤ℤ◌}
 use Rattle.std.proofs.lemmas.Int.{ints}
 use Rattle.std.proofs.lemmas.Bool.{cases_eq}
 use Rattle.std.proofs.lemmas.Option.{unwrap_or-slice_get}
-use Rattle.std.proofs.lemmas.List.{get_or-replicate, get_or-set_same, get_or-set_other, length-replicate, length-set}
+use Rattle.std.proofs.lemmas.List.{get_or_read, get_or-replicate, get_or-set_same, get_or-set_other, length-replicate, length-set}
 use Rattle.std.proofs.lemmas.List.Elements.{All-head, All-tail, All-replicate, All-set}
 use Rattle.label_search.specs.declared.charts.ChartCall.{ChartCall}
 use Rattle.label_search.specs.declared.charts.ChartSpot.{ChartSpot}
@@ -26,6 +26,9 @@ ahead_is [] at all = nothing_is
 ahead_is (first ∷ list) zero all = All-head IsAhead first list all
 ahead_is (first ∷ list) (suc at) all = ahead_is list at (All-tail IsAhead first list all)
 
+pub ahead_read : (list : List Ahead) (at : ℕ) (one : Ahead) → at < length list → one ≡ get_or list at one → one ≡ ahead_at list at
+ahead_read list at one within is = get_or_read list at one within is nothing ∙ sym (unwrap_or-slice_get list at nothing)
+
 pub ahead_set : (list : List Ahead) (at : ℕ) (one : Ahead) → at < length list → ahead_at (set list at one) at ≡ one
 ahead_set list at one within = unwrap_or-slice_get (set list at one) at nothing ∙ get_or-set_same list at one nothing within
 
@@ -33,6 +36,15 @@ pub ahead_other : (list : List Ahead) (at other : ℕ) (one : Ahead) → other �
 ahead_other list at other one differs =
     unwrap_or-slice_get (set list at one) other nothing
     ∙ (get_or-set_other list at other one nothing differs ∙ sym (unwrap_or-slice_get list other nothing))
+
+-- a train stands at no spot that is not on the chart
+pub spot_past : (spots : List ChartSpot) (number : ℕ) → None ≡ slice_get spots number → false ≡ (spot_at spots number).standing
+spot_past [] number past = refl
+spot_past (spot ∷ spots) zero past = absurd (cc)
+spot_past (spot ∷ spots) (suc number) past = spot_past spots number past
+
+pub at_most : (one other third : ℤ) → one ≤ℤ other → other ≤ℤ third → one ≤ℤ third
+at_most one other third first second = omega (arith, ints)
 
 -- the sum by what is told of the spot and the call
 pub sum_there : (spots : List ChartSpot) (calls : List ChartCall) (nears : List Near) (rests : List Ahead) (spot made : ℕ) (standing : Bool) (call : ChartCall) (near : Near) (rest : Ahead)

@@ -1,8 +1,9 @@
 //! How near a train is to its next call from each spot of a chart, which is the same for all
 //! requests with that call, and what is ahead by that at each place of a request over the chart.
 
-ghost use Rattle.std.specs.Prelude.{◌≡◌, ℕ, ◌+◌, ◌*◌, ◌<◌, ◌++◌, pos, ◌≤ℤ◌, false, length, map};
-ghost use Rattle.std.specs.Prelude.{All, IfOk, IsTrue, OnOk, if◌then◌else◌, replicate};
+ghost use Rattle.std.specs.Prelude.{◌≡◌, ℕ, ◌+◌, ◌*◌, ◌<◌, pos, ◌+ℤ◌, ◌≤ℤ◌, ◌++◌, length, map};
+ghost use Rattle.std.specs.Prelude.{replicate, false, true, if◌then◌else◌};
+ghost use Rattle.std.specs.Prelude.{All, IfOk, IsTrue, OnOk};
 ghost use Rattle.label_search.specs.Charts.{call_at, spot_at};
 ghost use Rattle.label_search.specs.Limits.{IsAhead, ahead_at as ahead_there};
 ghost use Rattle.label_search.specs.Nearing.{
@@ -64,11 +65,7 @@ fn is_call(blocks: &[u32], way: &ChartWay) -> bool
     way.halts && blocks.contains(&way.block)
 }
 
-fn spots_behind(
-    alloc: Global,
-    spots: &[ChartSpot],
-    blocks: &[u32],
-) -> Result<List<u32>, NoMemory>
+fn spots_behind(alloc: Global, spots: &[ChartSpot], blocks: &[u32]) -> Result<List<u32>, NoMemory>
     ensures { IfOk result (λ behind. behind ≡ behind_calls blocks.now spots.now) }
 {
     let mut behind = List::new(alloc);
@@ -79,11 +76,7 @@ fn spots_behind(
 }
 
 // Puts the spots that the calls among ways lead to behind the others.
-fn push_behind(
-    blocks: &[u32],
-    ways: &[ChartWay],
-    behind: &mut List<u32>,
-) -> Result<(), NoMemory>
+fn push_behind(blocks: &[u32], ways: &[ChartWay], behind: &mut List<u32>) -> Result<(), NoMemory>
     ensures { OnOk result (behind.new ≡ behind.old ++ behind_ways blocks.now ways.now) }
 {
     for way in ways {
@@ -115,7 +108,8 @@ fn spot_of(chart: &Chart, number: usize) -> &ChartSpot
     ensures spot { result.now ≡ spot_at chart.now.spots number }
     ensures runs { All (λ way. IsShort way.run) result.now.ways }
 {
-    &chart.spots.as_slice()[number]
+    let spots = chart.spots.as_slice();
+    &spots[number]
 }
 
 fn are_near_from(ways: &[ChartWay], blocks: &[u32], ticks: &List<Ahead>, number: usize) -> bool
@@ -280,10 +274,7 @@ fn rests_of(
 fn no_rests(alloc: Global, count: usize) -> Result<Vec<Ahead>, NoMemory>
     ensures { IfOk result (λ rests. rests.items ≡ replicate count (record { ticks = pos 0 })) }
 {
-    let mut rests = Vec::with_capacity(alloc, count)?;
-    for _ in 0..count {
-        rests.push(Ahead { ticks: 0 })?;
-    }
+    let rests = vec![in alloc; Ahead { ticks: 0 }; count]?;
     Ok(rests)
 }
 
@@ -317,13 +308,7 @@ fn put_rest(
 }
 
 // The least that is ahead at any of these spots.
-fn least_ahead(
-    chart: &Chart,
-    behind: &[u32],
-    call: &ChartCall,
-    near: &Near,
-    rest: &Ahead,
-) -> Ahead
+fn least_ahead(chart: &Chart, behind: &[u32], call: &ChartCall, near: &Near, rest: &Ahead) -> Ahead
     requires dwell { IsShort call.now.dwell }
     requires near { All IsAhead near.now.ticks }
     requires rest { IsAhead rest.now }
@@ -395,7 +380,8 @@ fn call_of(calls: &List<ChartCall>, made: usize) -> &ChartCall
     ensures call { result.now ≡ call_at calls.now made }
     ensures dwell { IsShort result.now.dwell }
 {
-    &calls.as_slice()[made]
+    let listed = calls.as_slice();
+    &listed[made]
 }
 
 fn near_of<'a>(nears: &[&'a Near], made: usize) -> &'a Near
