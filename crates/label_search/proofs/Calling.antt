@@ -1,10 +1,7 @@
 -- The spots behind the calls of a chart.
-use Rattle.std.proofs.Common.{◌≡◌, ◌∙◌, ℕ, ◌+◌, ◌<◌, List, [], ◌∷◌, ◌++◌, length, map, filter, take, get_or, All, Bool, true, false, cond, sym, ap, subst, refl, arith, append-nil, length-append}
-use Rattle.std.proofs.lemmas.List.{map-append, get_or_append_left, get_or-append-add, take_more}
-use Rattle.std.proofs.lemmas.List.Concat.{flat_map-cons}
-use Rattle.std.proofs.lemmas.List.Elements.{All-nil, All-cons, All-head, All-tail, filter_more}
-use Rattle.std.proofs.lemmas.Grind.{flat_map-append}
-use Rattle.std.specs.List.{flat_map}
+use Rattle.std.proofs.Common.{◌≡◌, ℕ, ◌+◌, List, [], ◌∷◌, ◌++◌, length, map, filter, All, Bool, true, false, cond, subst, refl, arith, length-append}
+use Rattle.std.proofs.lemmas.List.{get_or_append_left, get_or-append-add}
+use Rattle.std.proofs.lemmas.List.Elements.{All-nil, All-cons, All-head, All-tail}
 use Rattle.label_search.specs.declared.charts.ChartSpot.{ChartSpot}
 use Rattle.label_search.specs.declared.charts.ChartWay.{ChartWay}
 use Rattle.label_search.specs.Nearing.{behind_calls, behind_ways, is_call}

@@ -8,7 +8,7 @@ use Rattle.std.proofs.lemmas.Bool.{cases_lt, leb-true, leb-false}
 use Rattle.std.proofs.lemmas.Nat.{div-mul-add, mod-mul-add, div_below, mod_below}
 use Rattle.std.proofs.lemmas.Option.{unwrap_or-slice_get}
 use Rattle.std.proofs.lemmas.List.{get_or_past, get_or-map, length-map}
-use Rattle.std.proofs.lemmas.List.Elements.{All-nil, All-cons, All-get_or, All-contains, All-filter, All-map, filter_passes}
+use Rattle.std.proofs.lemmas.List.Elements.{All-nil, All-cons, All-get_or, All-filter, All-map, filter_passes}
 use Rattle.std.proofs.lemmas.List.FromFn.{get_or-map-range_with_len, length-map-range_with_len, map-range_with_len_more}
 use Rattle.rail_types.specs.declared.limits.TheConstants.{FAR_TICK}
 use Rattle.label_search.specs.declared.charts.ChartCall.{ChartCall}
@@ -21,10 +21,10 @@ use Rattle.label_search.specs.declared.plans.Place.{Place}
 use Rattle.label_search.specs.declared.plans.Plan.{Plan}
 use Rattle.label_search.specs.declared.plans.Target.{Target}
 use Rattle.label_search.specs.declared.plans.Target.TheVariants.{Place as To, End}
-use Rattle.label_search.specs.Charts.{call_at, count_over, dwell_over, ends_path, is_called, is_open, made_behind, move_among, move_of_way, number_over, open_among, place_over, plan_over, spot_at, stay_over, target_over}
+use Rattle.label_search.specs.Charts.{call_at, count_over, dwell_over, is_called, is_open, made_behind, move_among, move_of_way, number_over, open_among, place_over, plan_over, spot_at, stay_over, target_over}
 use Rattle.label_search.specs.Free.{Book}
-use Rattle.label_search.specs.Limits.{IsAhead, IsBound, IsConsistent, ahead_at, ahead_of, least_wait}
-use Rattle.label_search.specs.Nearing.{AreNears, AreRests, HaveShortDwells, IsConsistentOver, IsNearAlong, ahead_over, aheads_over, aheads_to, behind_calls, is_call, near_at, stay_ahead}
+use Rattle.label_search.specs.Limits.{IsAhead, IsBound, ahead_at, ahead_of, least_wait}
+use Rattle.label_search.specs.Nearing.{AreNears, AreRests, HaveShortDwells, IsNearAlong, ahead_over, aheads_over, aheads_to, is_call, near_at, stay_ahead}
 use Rattle.label_search.specs.Paths.{move_at, place_at}
 use Rattle.label_search.specs.Plans.{IsMoveOf, IsPlaceOf, IsPlan, IsShort, IsTarget}
 use Rattle.label_search.proofs.Calling.{Leads, spots_lead}

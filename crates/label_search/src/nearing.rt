@@ -5,7 +5,7 @@ ghost use Rattle.std.specs.Prelude.{◌≡◌, ℕ, ◌+◌, ◌*◌, ◌<◌, p
 ghost use Rattle.std.specs.Prelude.{replicate, false, true, if◌then◌else◌};
 ghost use Rattle.std.specs.Prelude.{All, IfOk, IsTrue, OnOk};
 ghost use Rattle.label_search.specs.Charts.{call_at, spot_at};
-ghost use Rattle.label_search.specs.Limits.{IsAhead, ahead_at as ahead_there};
+ghost use Rattle.label_search.specs.Limits.{IsAhead};
 ghost use Rattle.label_search.specs.Nearing.{
   AreNears,
   AreRests,
