@@ -25,8 +25,8 @@ pub fn bounds(alloc: Global, plan: &Plan) -> Result<List<Ahead>, NoMemory>
     Ok(ahead)
 }
 
-/// The same along a plan that is lent.
-pub fn lent_bounds(alloc: Global, plan: &LentPlan) -> Result<List<Ahead>, NoMemory>
+// The same along a plan that is lent.
+fn lent_bounds(alloc: Global, plan: &LentPlan) -> Result<List<Ahead>, NoMemory>
     requires plan { (book : Book) × IsPlan plan.now book }
     ensures ahead { IfOk result (All IsAhead) }
     ensures consistent { IfOk result (IsConsistent plan.now) }

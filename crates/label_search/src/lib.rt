@@ -20,7 +20,7 @@ mod seeks;
 mod seen;
 mod stretches;
 
-pub use bounding::{bounds, lent_bounds};
+pub use bounding::bounds;
 pub use charts::{Chart, ChartCall, ChartSpot, ChartWay};
 pub use finds::{Finding, find, find_below, find_lent};
 pub use labels::{Label, Origin};

@@ -3,6 +3,7 @@ pub mod ChartCourses
 pub mod Courses
 pub mod Guides
 pub mod Joining
+pub mod KeptNears
 pub mod Plans
 pub mod Searched
 pub mod TrainCharts

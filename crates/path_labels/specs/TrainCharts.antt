@@ -23,6 +23,7 @@ use Rattle.label_search.specs.declared.charts.ChartWay.{ChartWay}
 use Rattle.label_search.specs.Charts.{spot_at}
 use Rattle.path_labels.specs.declared.kept_charts.TheConstants.{MAX_CHARTS}
 use Rattle.path_labels.specs.declared.train_charts.TrainChart.{TrainChart}
+use Rattle.path_labels.specs.KeptNears.{IsNearKept}
 use Rattle.path_labels.specs.Plans.{kept_at_end, ticks_in}
 
 -- what a train claims with a step where it halts and the path ends
@@ -63,7 +64,8 @@ pub record AreCharted (net : Network) (settings : Settings) (train : Train) (spo
   pub spots : (number : ℕ) → number < length spotted.spots
       → IsChartedAt net settings train spotted number (spot_at chart.spots number)
 
--- The chart of a train on a network without a flaw.
+-- The chart of a train on a network without a flaw, with how near the train is to the calls that
+-- were asked for.
 pub record IsChartOf (net : Network) (settings : Settings) (train : Train) (chart : TrainChart)
     : Type 0 where
   pub train_is : chart.train ≡ train
@@ -73,6 +75,7 @@ pub record IsChartOf (net : Network) (settings : Settings) (train : Train) (char
   pub spots : AreSpots net train chart.spots
   pub few : length chart.spots.spots ≤ MAX_SPOTS
   pub charted : AreCharted net settings train chart.spots chart.chart
+  pub nears : All (IsNearKept chart.chart.spots) chart.nears
 
 -- ---- charts that are kept
 

@@ -9,8 +9,9 @@ ghost use Rattle.tail_states.specs.Following.{AreFollowers};
 ghost use Rattle.tail_states.specs.Spots.{AreFewEnough, IsStride};
 ghost use Rattle.label_search.specs.declared.plans.Target.TheVariants.{Place as To};
 ghost use Rattle.label_search.specs.declared.plans.TheConstants.{LATEST};
-ghost use Rattle.label_search.specs.Charts.{HasNumbers, LeadOnChart, plan_over};
-ghost use Rattle.label_search.specs.Limits.{IsAhead, IsConsistent};
+ghost use Rattle.label_search.specs.Charts.{HasNumbers, LeadOnChart};
+ghost use Rattle.label_search.specs.Limits.{IsAhead};
+ghost use Rattle.label_search.specs.Nearing.{HaveShortDwells, IsConsistentOver};
 ghost use Rattle.path_labels.specs.Answers.{IsFinding, claims_held};
 ghost use Rattle.path_labels.specs.ChartCourses.{
   AddsStart,
@@ -19,11 +20,11 @@ ghost use Rattle.path_labels.specs.ChartCourses.{
   AreStarts,
   IsCallAt,
   IsChartCourse,
-  IsOverChart,
   listed_along,
   plan_along,
 };
 ghost use Rattle.path_labels.specs.Joining.{AreSteps, path_in};
+ghost use Rattle.path_labels.specs.KeptNears.{AreNearAt, IsNearKept};
 ghost use Rattle.path_labels.specs.TrainCharts.{IsChartOf};
 
 use crate::laws::{charts_are_planned, granted_paths_are_planned, planned_paths_are_granted};
@@ -31,8 +32,8 @@ use crate::plan_searches::{claims_have_ticks, trip};
 use crate::request_plans::dwell_after;
 use crate::train_charts::{TrainChart, charted_way};
 use label_search::{
-    Ahead, ChartCall, ChartWay, Finding, LentPlan, Step as PlannedStep, Target, find_lent,
-    lent_bounds, way_on_chart,
+    Ahead, ChartCall, ChartWay, Finding, LentPlan, Step as PlannedStep, Target, aheads, find_lent,
+    way_on_chart,
 };
 use no_memory::NoMemory;
 use occupation_book::Occupations;
@@ -68,9 +69,12 @@ impl ChartCourse {
         requires few { AreFewEnough request.now chart.spots }
         ensures { IfOk result (IsChartCourse net.now settings.now request.now) }
     {
-        let starts = starts_of(alloc, net, settings, followers, request, &chart)?;
+        charts_are_planned();
+        let mut chart = chart;
         let calls = calls_of(alloc, net, followers, request)?;
-        let ahead = ahead_over(alloc, net, settings, request, &chart, &starts, &calls)?;
+        let numbers = chart.near_numbers(alloc, &calls)?;
+        let starts = starts_of(alloc, net, settings, followers, request, &chart)?;
+        let ahead = ahead_over(alloc, &chart, &calls, &numbers)?;
         Ok(ChartCourse {
             chart,
             starts,
@@ -101,25 +105,21 @@ impl ChartCourse {
     }
 }
 
-// The ticks ahead of each place of a plan over a chart.
+// The ticks ahead of each place of a plan over a chart, by how near the train is to its calls.
 fn ahead_over(
     alloc: Global,
-    net: &Network,
-    settings: &Settings,
-    request: &Request,
     chart: &TrainChart,
-    starts: &List<ChartWay>,
     calls: &List<ChartCall>,
+    numbers: &[usize],
 ) -> Result<List<Ahead>, NoMemory>
-    requires request { IsRequestWithinLimits request.now }
-    requires over { IsOverChart net.now settings.now request.now chart.now starts.now calls.now }
+    requires dwells { HaveShortDwells calls.now }
+    requires kept { All (IsNearKept chart.now.chart.spots) chart.now.nears }
+    requires numbers { AreNearAt chart.now.nears calls.now numbers.now }
     ensures ahead { IfOk result (All IsAhead) }
-    ensures consistent { IfOk result (IsConsistent (plan_over chart.now.chart.spots starts.now
-        calls.now (pos settings.now.horizon))) }
+    ensures consistent { IfOk result (IsConsistentOver chart.now.chart.spots calls.now) }
 {
-    charts_are_planned();
-    let plan = LentPlan::charted(&chart.chart, starts, calls, settings.horizon);
-    let ahead = lent_bounds(alloc, &plan)?;
+    let nears = chart.nears.at(alloc, numbers)?;
+    let ahead = aheads(alloc, &chart.chart, calls, &nears)?;
     Ok(ahead)
 }
 

@@ -12,6 +12,7 @@ ghost use Rattle.path_labels.specs.Joining.{
 
 use crate::kept_charts::MAX_CHARTS;
 use crate::kept_courses::{MAX_COURSES, MAX_KEPT_PLACES};
+use crate::kept_nears::MAX_NEARS;
 use crate::request_plans::plans_over_may_be_searched;
 use stair_pieces::{a_path_fits_run_by_run, a_path_is_a_list_of_moves, moves_make_a_path};
 use tail_states::{
@@ -55,6 +56,7 @@ pub fn courses_have_the_places()
 pub fn limits_are_these()
     ensures charts { MAX_CHARTS ≡ 8 }
     ensures spots { MAX_SPOTS ≡ 16384 }
+    ensures nears { MAX_NEARS ≡ 64 }
     ensures courses { MAX_COURSES ≡ 16 }
     ensures kept_places { MAX_KEPT_PLACES ≡ 32768 }
 {}

@@ -8,6 +8,7 @@ mod course_searches;
 mod guides;
 mod kept_charts;
 mod kept_courses;
+mod kept_nears;
 mod laws;
 mod members;
 mod paths;
@@ -22,6 +23,7 @@ pub use course_searches::{Course, find_along, seek_along};
 pub use guides::{Guide, find_by, guides_are_narrow};
 pub use kept_charts::{Charts, MAX_CHARTS};
 pub use kept_courses::{Courses, KeptCourse, MAX_COURSES, MAX_KEPT_PLACES};
+pub use kept_nears::MAX_NEARS;
 pub use laws::{
     chart_courses_are_narrow, charts_are_planned, closed_plans_are_closed, courses_have_the_places,
     granted_paths_are_planned, limits_are_these, planned_paths_are_granted,

@@ -10,24 +10,30 @@ ghost use Rattle.stair_pieces.specs.Steps.{IsPlaceIn, IsTailIn};
 ghost use Rattle.tail_states.specs.declared.listed_spots.TheConstants.{MAX_SPOTS};
 ghost use Rattle.tail_states.specs.Following.{AreFollowers};
 ghost use Rattle.tail_states.specs.Spots.{AreFewEnough, AreSpots};
+ghost use Rattle.label_search.specs.Nearing.{HaveShortRuns};
+ghost use Rattle.path_labels.specs.declared.kept_nears.TheConstants.{MAX_NEARS};
+ghost use Rattle.path_labels.specs.KeptNears.{AreNearAt, IsNearKept};
 ghost use Rattle.path_labels.specs.TrainCharts.{AreCharted, IsChartOf, IsChartedAt};
 ghost use Rattle.path_labels.specs.TrainCharts.{spot_in, way_in};
 
+use crate::kept_nears::Nears;
 use crate::paths::is_still;
 use crate::request_plans::{push_kept, ticks_of};
-use label_search::{Chart, ChartSpot, ChartWay};
+use label_search::{Chart, ChartCall, ChartSpot, ChartWay};
 use no_memory::NoMemory;
 use rail_types::{Claim, List, Network, Request, Settings, Span, Train};
 use stair_pieces::{Place, pieces, standing};
 use std::alloc::Global;
 use tail_states::{Followers, Spots, SpotsFault, Way, list_spots, sound_networks_are_run};
 
-/// A train, its spots on a network, and what their ways take.
+/// A train, its spots on a network, what their ways take, and how near the train is from each of
+/// them to calls that were asked for.
 #[derive(Drop)]
 pub struct TrainChart {
     pub(crate) train: Train,
     pub(crate) spots: Spots,
     pub(crate) chart: Chart,
+    pub(crate) nears: Nears,
 }
 
 impl TrainChart {
@@ -52,6 +58,7 @@ impl TrainChart {
             train: train.copy(alloc)?,
             spots,
             chart,
+            nears: Nears::new(alloc),
         })
     }
 
@@ -67,6 +74,27 @@ impl TrainChart {
         ensures { IsTrue result → AreFewEnough request.now self.now.spots }
     {
         self.spots.are_few_enough(request)
+    }
+
+    /// Where it stands among what is kept how near the train is to each of these calls; what is not
+    /// kept is worked out. `NoMemory` alone is refused.
+    pub(crate) fn near_numbers(
+        &mut self,
+        alloc: Global,
+        calls: &List<ChartCall>,
+    ) -> Result<Vec<usize>, NoMemory>
+        requires runs { HaveShortRuns self.old.chart.spots }
+        requires few { length calls.now ≤ MAX_NEARS }
+        requires kept { All (IsNearKept self.old.chart.spots) self.old.nears }
+        ensures train { self.new.train ≡ self.old.train }
+        ensures spots { self.new.spots ≡ self.old.spots }
+        ensures chart { self.new.chart ≡ self.old.chart }
+        ensures kept { All (IsNearKept self.old.chart.spots) self.new.nears }
+        ensures numbers { IfOk result (λ numbers.
+            AreNearAt self.new.nears calls.now numbers.items) }
+    {
+        let numbers = self.nears.numbers(alloc, &self.chart, calls)?;
+        Ok(numbers)
     }
 }
 

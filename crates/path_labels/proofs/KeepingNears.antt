@@ -1,0 +1,87 @@
+-- How near a train is to its calls, as it is kept with its chart.
+use Rattle.std.proofs.Common.{◌≡◌, ◌∙◌, inl, inr, sym, ap, subst, arith, ℕ, ◌+◌, ◌<◌, ◌≤◌, List, [], ◌∷◌, ◌++◌, length, map, get_or, All, append-nil, length-append}
+use Rattle.std.proofs.lemmas.Bool.{cases_lt}
+use Rattle.std.proofs.lemmas.List.{get_or_append_left, get_or_default, get_or_push, length-map, get_or-map}
+use Rattle.label_search.specs.declared.charts.ChartCall.{ChartCall}
+use Rattle.label_search.specs.declared.charts.ChartSpot.{ChartSpot}
+use Rattle.label_search.specs.declared.nearing.Near.{Near}
+use Rattle.label_search.specs.Charts.{call_at}
+use Rattle.label_search.specs.Nearing.{AreNears, IsNearTo, near_at}
+use Rattle.path_labels.specs.declared.kept_nears.KeptNear.{KeptNear}
+use Rattle.path_labels.specs.KeptNears.{AreNearAt, IsNearAt, IsNearKept, PutsNears, kept_at, near_kept}
+
+-- ---- one is put behind the others
+
+pub puts_none : (kept : List KeptNear) → PutsNears kept kept
+puts_none kept = ([], sym (append-nil kept), omega arith)
+
+pub puts_one : (before after : List KeptNear) (one : KeptNear) → after ≡ before ++ one ∷ [] → PutsNears before after
+puts_one before after one put = (one ∷ [], put, omega arith)
+
+pub stands_on : (before after : List KeptNear) (blocks : List ℕ) (number : ℕ) → PutsNears before after → IsNearAt before blocks number → IsNearAt after blocks number
+stands_on before after blocks number (more, put, few) at = subst (λ (kept : List KeptNear). IsNearAt kept blocks number) (sym put) (record {
+  within = let less = at.within in omega (arith, less, length-append before more);
+  blocks_are = ap (λ (one : KeptNear). one.blocks) (get_or_append_left before more _ number at.within) ∙ at.blocks_are;
+})
+
+pub grows_by_one : (before after : List KeptNear) → PutsNears before after → length after ≤ length before + 1
+grows_by_one before after (more, put, few) = let long = ap length put in omega (arith, few, long, length-append before more)
+
+-- ---- the calls of a request, of which so many were looked up
+
+pub record AreFirstNear (kept : List KeptNear) (calls : List ChartCall) (count : ℕ) (numbers : List ℕ) : Type 0 where
+  pub counted : length numbers ≡ count
+  pub each : (made : ℕ) → made < count → IsNearAt kept (call_at calls made).blocks (get_or numbers made 0)
+
+module _ (calls : List ChartCall) where
+  pub near_none : (kept : List KeptNear) (numbers : List ℕ) → numbers ≡ [] → AreFirstNear kept calls 0 numbers
+  near_none kept numbers none = record {
+    counted = ap length none;
+    each = λ made less. absurd (omega (arith, less));
+  }
+
+  pub near_next : (before after : List KeptNear) (count : ℕ) (old new : List ℕ) (number : ℕ) → PutsNears before after → AreFirstNear before calls count old
+      → IsNearAt after (call_at calls count).blocks number → new ≡ old ++ number ∷ [] → AreFirstNear after calls (count + 1) new
+  near_next before after count old new number puts are at added = subst (AreFirstNear after calls (count + 1)) (sym added) (record {
+    counted = let long = are.counted in omega (arith, long, length-append old (number ∷ []));
+    each = λ made less. elim (cases_lt made count) [
+      | inl sooner ↦
+          let there : get_or (old ++ number ∷ []) made 0 ≡ get_or old made 0 = get_or_append_left old (number ∷ []) 0 made (let long = are.counted in omega (arith, long, sooner)) in
+          subst (IsNearAt after (call_at calls made).blocks) (sym there) (stands_on before after (call_at calls made).blocks (get_or old made 0) puts (are.each made sooner))
+      | inr last ↦
+          let now : made ≡ count = omega (arith, less, last) in
+          let long : length old ≡ made = (let counted = are.counted in omega (arith, now, counted)) in
+          let there : get_or (old ++ number ∷ []) made 0 ≡ number = get_or_push old number 0 made long in
+          subst (IsNearAt after (call_at calls made).blocks) (sym there) (subst (λ n. IsNearAt after (call_at calls n).blocks number) (sym now) at)
+    ];
+  })
+
+  pub near_all : (kept : List KeptNear) (count : ℕ) (numbers : List ℕ) → AreFirstNear kept calls count numbers → count ≡ length calls → AreNearAt kept calls numbers
+  near_all kept count numbers are all = record {
+    count = are.counted ∙ all;
+    each = λ made less. are.each made (omega (arith, all, less));
+  }
+
+-- ---- what stands at the numbers
+
+pub numbers_within : (kept : List KeptNear) (calls : List ChartCall) (numbers : List ℕ) → AreNearAt kept calls numbers → All (λ number. number < length kept) numbers
+numbers_within kept calls numbers at k d within =
+    subst (λ number. number < length kept) (get_or_default numbers k 0 d within)
+    (at.each k (let same = at.count in omega (arith, same, within))).within
+
+pub near_calls : (spots : List ChartSpot) (kept : List KeptNear) (calls : List ChartCall) (numbers : List ℕ) (nears : List Near) → nears ≡ map (near_kept kept) numbers
+    → All (IsNearKept spots) kept → AreNearAt kept calls numbers → AreNears spots calls nears
+near_calls spots kept calls numbers nears same all at = subst (AreNears spots calls) (sym same) (record {
+  count = length-map numbers (near_kept kept) ∙ at.count;
+  each = λ made within. each made within;
+})
+  where
+    each : (made : ℕ) → made < length calls → IsNearTo spots (call_at calls made).blocks (near_at (map (near_kept kept) numbers) made)
+    each made within =
+        let there = at.each made within in
+        let number = get_or numbers made 0 in
+        let is : IsNearTo spots (kept_at kept number).blocks (near_kept kept number) = all number _ there.within in
+        let inside : made < length numbers = let count = at.count in omega (arith, count, within) in
+        let here : near_at (map (near_kept kept) numbers) made ≡ near_kept kept number = get_or-map (near_kept kept) numbers made _ _ inside in
+        subst (IsNearTo spots (call_at calls made).blocks) (sym here)
+        (subst (λ (blocks : List ℕ). IsNearTo spots blocks (near_kept kept number)) there.blocks_are is)

@@ -1,0 +1,184 @@
+//! How near a train is to its calls, kept with its chart for the next requests.
+
+ghost use Rattle.std.specs.Prelude.{◌≡◌, ◌↔◌, ◌+◌, ◌<◌, ◌≤◌, [], All, IfOk, IfSome, IsTrue, length};
+ghost use Rattle.std.specs.Prelude.{map};
+ghost use Rattle.label_search.specs.Nearing.{HaveShortRuns};
+ghost use Rattle.path_labels.specs.KeptNears.{
+  AreNearAt,
+  IsNearAt,
+  IsNearKept,
+  PutsNears,
+  StayNears,
+  near_kept,
+};
+
+use label_search::{Chart, ChartCall, Near, near_to};
+use no_memory::NoMemory;
+use rail_types::List;
+use std::alloc::Global;
+use std::marker::Model;
+
+/// Greatest number of calls of which it is kept how near a train is to them.
+pub const MAX_NEARS: usize = 64;
+
+/// How near a train is to a call at the ends of these blocks.
+#[derive(Drop)]
+pub struct KeptNear {
+    pub(crate) blocks: List<u32>,
+    pub(crate) near: Near,
+}
+
+/// How near a train is to its calls, the one that was worked out last behind the others: at most
+/// `MAX_NEARS`. Contracts see the list of them.
+#[derive(Drop)]
+pub struct Nears {
+    kept: Vec<KeptNear>,
+}
+
+impl Model for Nears {
+    ghost use Rattle.std.specs.Prelude.{◌≤◌, List as list_of, length};
+    ghost use Rattle.path_labels.specs.declared.kept_nears.KeptNear.{KeptNear as one_kept};
+    ghost use Rattle.path_labels.specs.declared.kept_nears.TheConstants.{MAX_NEARS};
+
+    ghost Value = { list_of one_kept };
+
+    ghost view = { λ a. a.kept.items };
+
+    ghost invariant = { λ a. record { few : length a.kept.items ≤ MAX_NEARS } };
+}
+
+impl Nears {
+    /// None yet.
+    pub fn new(alloc: Global) -> Nears
+        ensures { result ≡ [] }
+    {
+        Nears {
+            kept: Vec::new(alloc),
+        }
+    }
+
+    /// Where it stands among them how near the train of a chart is to each of these calls. What is
+    /// not kept is worked out, and the first ones are let go where no more could be kept.
+    /// `NoMemory` alone is refused.
+    pub(crate) fn numbers(
+        &mut self,
+        alloc: Global,
+        chart: &Chart,
+        calls: &List<ChartCall>,
+    ) -> Result<Vec<usize>, NoMemory>
+        requires runs { HaveShortRuns chart.now.spots }
+        requires few { length calls.now ≤ MAX_NEARS }
+        requires kept { All (IsNearKept chart.now.spots) self.old }
+        ensures kept { All (IsNearKept chart.now.spots) self.new }
+        ensures numbers { IfOk result (λ numbers. AreNearAt self.new calls.now numbers.items) }
+    {
+        make_room(&mut self.kept, calls.len());
+        let numbers = numbers_of(alloc, &mut self.kept, chart, calls.as_slice())?;
+        Ok(numbers)
+    }
+
+    /// How near the train is to the calls that stand there.
+    pub(crate) fn at<'a>(
+        &'a self,
+        alloc: Global,
+        numbers: &[usize],
+    ) -> Result<Vec<&'a Near>, NoMemory>
+        requires { All (λ number. number < length self.now) numbers.now }
+        ensures { IfOk result (λ nears.
+            map (λ near. near.now) nears.items ≡ map (near_kept self.now) numbers.now) }
+    {
+        let nears = nears_at(alloc, self.kept.as_slice(), numbers)?;
+        Ok(nears)
+    }
+}
+
+// Lets the first ones go until so many more may be kept.
+fn make_room(kept: &mut Vec<KeptNear>, more: usize)
+    requires { more ≤ MAX_NEARS }
+    ensures room { length kept.new.items + more ≤ MAX_NEARS }
+    ensures stay { StayNears kept.old.items kept.new.items }
+{
+    while kept.len() > MAX_NEARS - more {
+        kept.remove(0);
+    }
+}
+
+fn numbers_of(
+    alloc: Global,
+    kept: &mut Vec<KeptNear>,
+    chart: &Chart,
+    calls: &[ChartCall],
+) -> Result<Vec<usize>, NoMemory>
+    requires runs { HaveShortRuns chart.now.spots }
+    requires room { length kept.old.items + length calls.now ≤ MAX_NEARS }
+    requires kept { All (IsNearKept chart.now.spots) kept.old.items }
+    ensures few { length kept.new.items ≤ MAX_NEARS }
+    ensures kept { All (IsNearKept chart.now.spots) kept.new.items }
+    ensures numbers { IfOk result (λ numbers. AreNearAt kept.new.items calls.now numbers.items) }
+{
+    let mut numbers = Vec::with_capacity(alloc, calls.len())?;
+    for call in calls {
+        numbers.push(number_of(alloc, kept, chart, &call.blocks)?)?;
+    }
+    Ok(numbers)
+}
+
+// Where it stands how near the train is to a call at the ends of these blocks, behind the others
+// where it was not kept.
+fn number_of(
+    alloc: Global,
+    kept: &mut Vec<KeptNear>,
+    chart: &Chart,
+    blocks: &List<u32>,
+) -> Result<usize, NoMemory>
+    requires runs { HaveShortRuns chart.now.spots }
+    requires kept { All (IsNearKept chart.now.spots) kept.old.items }
+    ensures puts { PutsNears kept.old.items kept.new.items }
+    ensures kept { All (IsNearKept chart.now.spots) kept.new.items }
+    ensures number { IfOk result (IsNearAt kept.new.items blocks.now) }
+{
+    if let Some(at) = first_near(kept.as_slice(), blocks.as_slice()) {
+        return Ok(at);
+    }
+    let near = near_to(alloc, chart, blocks.as_slice())?;
+    let one = KeptNear {
+        blocks: blocks.copy(alloc)?,
+        near,
+    };
+    let at = kept.len();
+    kept.push(one)?;
+    Ok(at)
+}
+
+fn first_near(kept: &[KeptNear], blocks: &[u32]) -> Option<usize>
+    ensures { IfSome result (IsNearAt kept.now blocks.now) }
+{
+    for at in 0..kept.len() {
+        if same_blocks(kept[at].blocks.as_slice(), blocks) {
+            return Some(at);
+        }
+    }
+    None
+}
+
+fn same_blocks(a: &[u32], b: &[u32]) -> bool
+    ensures { IsTrue result ↔ (a.now ≡ b.now) }
+{
+    a == b
+}
+
+fn nears_at<'a>(
+    alloc: Global,
+    kept: &'a [KeptNear],
+    numbers: &[usize],
+) -> Result<Vec<&'a Near>, NoMemory>
+    requires { All (λ number. number < length kept.now) numbers.now }
+    ensures { IfOk result (λ nears.
+        map (λ near. near.now) nears.items ≡ map (near_kept kept.now) numbers.now) }
+{
+    let mut nears = Vec::with_capacity(alloc, numbers.len())?;
+    for number in numbers {
+        nears.push(&kept[*number].near)?;
+    }
+    Ok(nears)
+}
