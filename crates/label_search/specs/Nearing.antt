@@ -29,15 +29,16 @@ behind_ways blocks ways = map (λ way. way.next) (filter (is_call blocks) ways)
 abbrev pub behind_calls : List ℕ → List ChartSpot → List ℕ
 behind_calls blocks spots = flat_map (λ spot. behind_ways blocks spot.ways) spots
 
--- from the spot of a number a way brings the call no nearer than by the ticks that it takes
+-- From the spot of a number a way brings the call no nearer than by the ticks that it takes. Of a
+-- way that halts where it is not called nothing is said: no train takes it.
 pub record IsNearAlong (blocks : List ℕ) (ticks : List Ahead) (number : ℕ) (way : ChartWay)
     : Type 0 where
   pub rolls : way.halts ≡ false
       → (ahead_at ticks number).ticks ≤ℤ (way.run +ℤ (ahead_at ticks way.next).ticks)
   pub calls : is_call blocks way ≡ true → (ahead_at ticks number).ticks ≤ℤ way.run
 
--- How near a train is that is called at the ends of these blocks, and which spots are behind its
--- calls.
+-- Ticks from each spot that no train falls short of until it halts at the end of one of these blocks,
+-- and which spots are behind such halts. Nothing is said of the start, from which others may be.
 pub record IsNearTo (spots : List ChartSpot) (blocks : List ℕ) (near : Near) : Type 0 where
   pub ticks : All IsAhead near.ticks
   pub ways : (number : ℕ) → number < length spots
@@ -65,7 +66,8 @@ abbrev pub HaveShortDwells : List ChartCall → Type 0
 HaveShortDwells calls = All (λ call. IsShort call.dwell) calls
 
 -- Whatever ways the path begins with and whatever the horizon is: in the plan of the calls over the
--- chart a move brings an end no nearer than by the ticks that it takes with the wait before it.
+-- chart, where some book may be searched by it, a move brings an end no nearer than by the ticks that
+-- it takes with the wait before it.
 abbrev pub IsConsistentOver : List ChartSpot → List ChartCall → List Ahead → Type 0
 IsConsistentOver spots calls ahead =
     (starts : List ChartWay) (horizon : ℤ) (book : Book)

@@ -100,7 +100,7 @@ fn sum_up(counts: &mut [usize]) -> usize {
 }
 
 fn all_far(alloc: Global, places: usize) -> Result<Vec<Ahead>, NoMemory> {
-    let mut ahead = Vec::new(alloc);
+    let mut ahead = Vec::with_capacity(alloc, places.saturating_add(1))?;
     for _ in 0..places {
         ahead.push(Ahead { ticks: FAR_TICK })?;
     }

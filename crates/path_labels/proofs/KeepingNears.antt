@@ -1,5 +1,5 @@
 -- How near a train is to its calls, as it is kept with its chart.
-use Rattle.std.proofs.Common.{◌≡◌, ◌∙◌, inl, inr, sym, ap, subst, arith, ℕ, ◌+◌, ◌<◌, ◌≤◌, List, [], ◌∷◌, ◌++◌, length, map, get_or, All, append-nil, length-append}
+use Rattle.std.proofs.Common.{◌≡◌, ◌∙◌, refl, inl, inr, sym, ap, subst, arith, ℕ, ◌+◌, ◌-◌, ◌<◌, ◌≤◌, List, [], ◌∷◌, ◌++◌, length, map, get_or, drop, All, append-nil, append_assoc, length-append}
 use Rattle.std.proofs.lemmas.Bool.{cases_lt}
 use Rattle.std.proofs.lemmas.List.{get_or_append_left, get_or_default, get_or_push, length-map, get_or-map}
 use Rattle.label_search.specs.declared.charts.ChartCall.{ChartCall}
@@ -8,24 +8,38 @@ use Rattle.label_search.specs.declared.nearing.Near.{Near}
 use Rattle.label_search.specs.Charts.{call_at}
 use Rattle.label_search.specs.Nearing.{AreNears, IsNearTo, near_at}
 use Rattle.path_labels.specs.declared.kept_nears.KeptNear.{KeptNear}
-use Rattle.path_labels.specs.KeptNears.{AreNearAt, IsNearAt, IsNearKept, PutsNears, kept_at, near_kept}
+use Rattle.path_labels.specs.declared.kept_nears.TheConstants.{MAX_NEARS}
+use Rattle.path_labels.specs.KeptNears.{AreNearAt, GoOn, IsLonger, IsNearAt, IsNearKept, PutsNear, kept_at, near_kept}
 
 -- ---- one is put behind the others
 
-pub puts_none : (kept : List KeptNear) → PutsNears kept kept
-puts_none kept = ([], sym (append-nil kept), omega arith)
+pub puts_none : (kept : List KeptNear) (blocks : List ℕ) → PutsNear kept kept blocks
+puts_none kept blocks = record { kept = λ number at. refl; more = []; longer = sym (append-nil kept); one = omega arith }
 
-pub puts_one : (before after : List KeptNear) (one : KeptNear) → after ≡ before ++ one ∷ [] → PutsNears before after
-puts_one before after one put = (one ∷ [], put, omega arith)
+-- where none is kept for the blocks
+pub puts_one : (before after : List KeptNear) (blocks : List ℕ) (one : KeptNear) → All (λ kept. ¬ (kept.blocks ≡ blocks)) before → after ≡ before ++ one ∷ [] → PutsNear before after blocks
+puts_one before after blocks one none put = record {
+  kept = λ number at. absurd (none number _ at.within at.blocks_are);
+  more = one ∷ [];
+  longer = put;
+  one = omega arith;
+}
 
-pub stands_on : (before after : List KeptNear) (blocks : List ℕ) (number : ℕ) → PutsNears before after → IsNearAt before blocks number → IsNearAt after blocks number
-stands_on before after blocks number (more, put, few) at = subst (λ (kept : List KeptNear). IsNearAt kept blocks number) (sym put) (record {
+pub stands_on : (before after : List KeptNear) (blocks : List ℕ) (number : ℕ) → IsLonger before after → IsNearAt before blocks number → IsNearAt after blocks number
+stands_on before after blocks number (more, put) at = subst (λ (kept : List KeptNear). IsNearAt kept blocks number) (sym put) (record {
   within = let less = at.within in omega (arith, less, length-append before more);
   blocks_are = ap (λ (one : KeptNear). one.blocks) (get_or_append_left before more _ number at.within) ∙ at.blocks_are;
 })
 
-pub grows_by_one : (before after : List KeptNear) → PutsNears before after → length after ≤ length before + 1
-grows_by_one before after (more, put, few) = let long = ap length put in omega (arith, few, long, length-append before more)
+pub longer_by : (before after : List KeptNear) (blocks : List ℕ) → PutsNear before after blocks → IsLonger before after
+longer_by before after blocks puts = (puts.more, puts.longer)
+
+pub one_longer : (before after : List KeptNear) (blocks : List ℕ) → PutsNear before after blocks → length after ≤ length before + 1
+one_longer before after blocks puts = let long = ap length puts.longer in let few = puts.one in omega (arith, few, long, length-append before puts.more)
+
+pub longer_still : (first second third : List KeptNear) → IsLonger first second → IsLonger second third → IsLonger first third
+longer_still first second third (more, put) (rest, on) =
+    (more ++ rest, on ∙ ap (λ (kept : List KeptNear). kept ++ rest) put ∙ append_assoc first more rest)
 
 -- ---- the calls of a request, of which so many were looked up
 
@@ -40,14 +54,14 @@ module _ (calls : List ChartCall) where
     each = λ made less. absurd (omega (arith, less));
   }
 
-  pub near_next : (before after : List KeptNear) (count : ℕ) (old new : List ℕ) (number : ℕ) → PutsNears before after → AreFirstNear before calls count old
+  pub near_next : (before after : List KeptNear) (count : ℕ) (old new : List ℕ) (number : ℕ) → IsLonger before after → AreFirstNear before calls count old
       → IsNearAt after (call_at calls count).blocks number → new ≡ old ++ number ∷ [] → AreFirstNear after calls (count + 1) new
-  near_next before after count old new number puts are at added = subst (AreFirstNear after calls (count + 1)) (sym added) (record {
+  near_next before after count old new number longer are at added = subst (AreFirstNear after calls (count + 1)) (sym added) (record {
     counted = let long = are.counted in omega (arith, long, length-append old (number ∷ []));
     each = λ made less. elim (cases_lt made count) [
       | inl sooner ↦
           let there : get_or (old ++ number ∷ []) made 0 ≡ get_or old made 0 = get_or_append_left old (number ∷ []) 0 made (let long = are.counted in omega (arith, long, sooner)) in
-          subst (IsNearAt after (call_at calls made).blocks) (sym there) (stands_on before after (call_at calls made).blocks (get_or old made 0) puts (are.each made sooner))
+          subst (IsNearAt after (call_at calls made).blocks) (sym there) (stands_on before after (call_at calls made).blocks (get_or old made 0) longer (are.each made sooner))
       | inr last ↦
           let now : made ≡ count = omega (arith, less, last) in
           let long : length old ≡ made = (let counted = are.counted in omega (arith, now, counted)) in
@@ -61,6 +75,19 @@ module _ (calls : List ChartCall) where
     count = are.counted ∙ all;
     each = λ made less. are.each made (omega (arith, all, less));
   }
+
+-- ---- the first ones are let go
+
+pub goes_on_as_it_is : (kept : List KeptNear) (count : ℕ) → GoOn kept count kept
+goes_on_as_it_is kept count = record { gone = 0; more = []; few = omega arith; on = sym (append-nil kept) }
+
+pub goes_on : (before between after : List KeptNear) (count : ℕ) → between ≡ drop (length before + count - MAX_NEARS) before → IsLonger between after → GoOn before count after
+goes_on before between after count let_go (more, put) = record {
+  gone = length before + count - MAX_NEARS;
+  more = more;
+  few = omega arith;
+  on = put ∙ ap (λ (kept : List KeptNear). kept ++ more) let_go;
+}
 
 -- ---- what stands at the numbers
 

@@ -11,6 +11,7 @@ pub mod Searching
 pub mod Keeping
 pub mod Charting
 pub mod KeepingCharts
+pub mod KeepingNears
 pub mod Narrow
 pub mod ChartSteps
 pub mod Starting

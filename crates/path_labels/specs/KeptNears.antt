@@ -1,5 +1,5 @@
 -- How near a train is to its calls, as it is kept with its chart.
-use Rattle.std.specs.Prelude.{◌≡◌, ℕ, ◌+◌, ◌<◌, ◌≤◌, List, [], ◌++◌, length, All}
+use Rattle.std.specs.Prelude.{◌≡◌, ℕ, ◌+◌, ◌-◌, ◌<◌, ◌≤◌, List, [], ◌++◌, length, All, drop}
 use Rattle.std.specs.List.{slice_index_or}
 use Rattle.label_search.specs.declared.charts.ChartCall.{ChartCall}
 use Rattle.label_search.specs.declared.charts.ChartSpot.{ChartSpot}
@@ -7,6 +7,7 @@ use Rattle.label_search.specs.declared.nearing.Near.{Near}
 use Rattle.label_search.specs.Charts.{call_at}
 use Rattle.label_search.specs.Nearing.{IsNearTo}
 use Rattle.path_labels.specs.declared.kept_nears.KeptNear.{KeptNear}
+use Rattle.path_labels.specs.declared.kept_nears.TheConstants.{MAX_NEARS}
 
 -- it is how near a train is over these spots to the call that it is kept for
 abbrev pub IsNearKept : List ChartSpot → KeptNear → Type 0
@@ -32,12 +33,20 @@ pub record AreNearAt (kept : List KeptNear) (calls : List ChartCall) (numbers : 
   pub each : (made : ℕ) → made < length calls
       → IsNearAt kept (call_at calls made).blocks (slice_index_or numbers made 0)
 
--- the others stay where they stand, and at most one is put behind them
-abbrev pub PutsNears : List KeptNear → List KeptNear → Type 0
-PutsNears before after =
-    (more : List KeptNear) × (after ≡ before ++ more) × (length more ≤ 1)
+-- one that was kept for these blocks stays as it was, and else at most one is put behind the others
+pub record PutsNear (before after : List KeptNear) (blocks : List ℕ) : Type 0 where
+  pub kept : (number : ℕ) → IsNearAt before blocks number → after ≡ before
+  pub more : List KeptNear
+  pub longer : after ≡ before ++ more
+  pub one : length more ≤ 1
 
--- what is kept after stays near where what was kept before is, over whatever spots
-abbrev pub StayNears : List KeptNear → List KeptNear → Type 0
-StayNears before after =
-    (spots : List ChartSpot) → All (IsNearKept spots) before → All (IsNearKept spots) after
+-- the first ones are let go, no more than it takes to keep so many more, and some are put behind
+pub record GoOn (before : List KeptNear) (count : ℕ) (after : List KeptNear) : Type 0 where
+  pub gone : ℕ
+  pub more : List KeptNear
+  pub few : gone ≤ length before + count - MAX_NEARS
+  pub on : after ≡ drop gone before ++ more
+
+-- some are put behind the others
+abbrev pub IsLonger : List KeptNear → List KeptNear → Type 0
+IsLonger before after = (more : List KeptNear) × (after ≡ before ++ more)

@@ -64,8 +64,8 @@ pub record AreCharted (net : Network) (settings : Settings) (train : Train) (spo
   pub spots : (number : ℕ) → number < length spotted.spots
       → IsChartedAt net settings train spotted number (spot_at chart.spots number)
 
--- The chart of a train on a network without a flaw, with how near the train is to the calls that
--- were asked for.
+-- The chart of a train on a network without a flaw; and what is kept of how near the train is to
+-- calls is told of this chart.
 pub record IsChartOf (net : Network) (settings : Settings) (train : Train) (chart : TrainChart)
     : Type 0 where
   pub train_is : chart.train ≡ train

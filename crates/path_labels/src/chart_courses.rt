@@ -24,7 +24,7 @@ ghost use Rattle.path_labels.specs.ChartCourses.{
   plan_along,
 };
 ghost use Rattle.path_labels.specs.Joining.{AreSteps, path_in};
-ghost use Rattle.path_labels.specs.KeptNears.{AreNearAt, IsNearKept};
+ghost use Rattle.path_labels.specs.KeptNears.{AreNearAt, GoOn, IsNearKept};
 ghost use Rattle.path_labels.specs.TrainCharts.{IsChartOf};
 
 use crate::laws::{charts_are_planned, granted_paths_are_planned, planned_paths_are_granted};
@@ -67,14 +67,18 @@ impl ChartCourse {
         requires request { IsRequestWithinLimits request.now }
         requires chart { IsChartOf net.now settings.now request.now.train chart }
         requires few { AreFewEnough request.now chart.spots }
-        ensures { IfOk result (IsChartCourse net.now settings.now request.now) }
+        ensures course { IfOk result (IsChartCourse net.now settings.now request.now) }
+        ensures spots { IfOk result (λ course. course.chart.spots ≡ chart.spots) }
+        ensures chart { IfOk result (λ course. course.chart.chart ≡ chart.chart) }
+        ensures nears { IfOk result (λ course.
+            GoOn chart.nears (length course.calls) course.chart.nears) }
     {
         charts_are_planned();
         let mut chart = chart;
         let calls = calls_of(alloc, net, followers, request)?;
-        let numbers = chart.near_numbers(alloc, &calls)?;
+        let numbers = chart.numbers_of_calls(alloc, calls.as_slice())?;
         let starts = starts_of(alloc, net, settings, followers, request, &chart)?;
-        let ahead = ahead_over(alloc, &chart, &calls, &numbers)?;
+        let ahead = aheads_by_calls(alloc, &chart, &calls, &numbers)?;
         Ok(ChartCourse {
             chart,
             starts,
@@ -106,7 +110,7 @@ impl ChartCourse {
 }
 
 // The ticks ahead of each place of a plan over a chart, by how near the train is to its calls.
-fn ahead_over(
+fn aheads_by_calls(
     alloc: Global,
     chart: &TrainChart,
     calls: &List<ChartCall>,
@@ -118,7 +122,7 @@ fn ahead_over(
     ensures ahead { IfOk result (All IsAhead) }
     ensures consistent { IfOk result (IsConsistentOver chart.now.chart.spots calls.now) }
 {
-    let nears = chart.nears.at(alloc, numbers)?;
+    let nears = chart.nears.nears_at(alloc, numbers)?;
     let ahead = aheads(alloc, &chart.chart, calls, &nears)?;
     Ok(ahead)
 }

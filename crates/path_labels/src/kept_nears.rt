@@ -1,14 +1,15 @@
 //! How near a train is to its calls, kept with its chart for the next requests.
 
-ghost use Rattle.std.specs.Prelude.{◌≡◌, ◌↔◌, ◌+◌, ◌<◌, ◌≤◌, [], All, IfOk, IfSome, IsTrue, length};
-ghost use Rattle.std.specs.Prelude.{map};
+ghost use Rattle.std.specs.Prelude.{◌≡◌, ◌↔◌, ◌+◌, ◌-◌, ◌<◌, ◌≤◌, [], All, drop, length, map};
+ghost use Rattle.std.specs.Prelude.{IfNone, IfOk, IfSome, IsTrue};
 ghost use Rattle.label_search.specs.Nearing.{HaveShortRuns};
 ghost use Rattle.path_labels.specs.KeptNears.{
   AreNearAt,
+  GoOn,
+  IsLonger,
   IsNearAt,
   IsNearKept,
-  PutsNears,
-  StayNears,
+  PutsNear,
   near_kept,
 };
 
@@ -29,7 +30,8 @@ pub struct KeptNear {
 }
 
 /// How near a train is to its calls, the one that was worked out last behind the others: at most
-/// `MAX_NEARS`. Contracts see the list of them.
+/// `MAX_NEARS`, each with a number of ticks for each spot of the chart. Contracts see the list of
+/// them.
 #[derive(Drop)]
 pub struct Nears {
     kept: Vec<KeptNear>,
@@ -57,28 +59,32 @@ impl Nears {
         }
     }
 
-    /// Where it stands among them how near the train of a chart is to each of these calls. What is
-    /// not kept is worked out, and the first ones are let go where no more could be kept.
-    /// `NoMemory` alone is refused.
-    pub(crate) fn numbers(
+    /// Where it stands among them how near the train of a chart is to each of these calls. Where
+    /// some are not kept they are worked out, and the first ones are let go for them. `NoMemory`
+    /// alone is refused.
+    pub(crate) fn numbers_of_calls(
         &mut self,
         alloc: Global,
         chart: &Chart,
-        calls: &List<ChartCall>,
+        calls: &[ChartCall],
     ) -> Result<Vec<usize>, NoMemory>
         requires runs { HaveShortRuns chart.now.spots }
         requires few { length calls.now ≤ MAX_NEARS }
         requires kept { All (IsNearKept chart.now.spots) self.old }
         ensures kept { All (IsNearKept chart.now.spots) self.new }
+        ensures on { GoOn self.old (length calls.now) self.new }
         ensures numbers { IfOk result (λ numbers. AreNearAt self.new calls.now numbers.items) }
     {
+        if let Some(numbers) = numbers_found(alloc, self.kept.as_slice(), calls)? {
+            return Ok(numbers);
+        }
         make_room(&mut self.kept, calls.len());
-        let numbers = numbers_of(alloc, &mut self.kept, chart, calls.as_slice())?;
+        let numbers = numbers_of(alloc, &mut self.kept, chart, calls)?;
         Ok(numbers)
     }
 
     /// How near the train is to the calls that stand there.
-    pub(crate) fn at<'a>(
+    pub(crate) fn nears_at<'a>(
         &'a self,
         alloc: Global,
         numbers: &[usize],
@@ -87,7 +93,7 @@ impl Nears {
         ensures { IfOk result (λ nears.
             map (λ near. near.now) nears.items ≡ map (near_kept self.now) numbers.now) }
     {
-        let nears = nears_at(alloc, self.kept.as_slice(), numbers)?;
+        let nears = nears_of(alloc, self.kept.as_slice(), numbers)?;
         Ok(nears)
     }
 }
@@ -96,13 +102,34 @@ impl Nears {
 fn make_room(kept: &mut Vec<KeptNear>, more: usize)
     requires { more ≤ MAX_NEARS }
     ensures room { length kept.new.items + more ≤ MAX_NEARS }
-    ensures stay { StayNears kept.old.items kept.new.items }
+    ensures gone { kept.new.items
+        ≡ drop (length kept.old.items + more - MAX_NEARS) kept.old.items }
 {
-    while kept.len() > MAX_NEARS - more {
+    for _ in 0..kept.len().saturating_sub(MAX_NEARS - more) {
         kept.remove(0);
     }
 }
 
+// Where the calls stand, if all of them are kept.
+fn numbers_found(
+    alloc: Global,
+    kept: &[KeptNear],
+    calls: &[ChartCall],
+) -> Result<Option<Vec<usize>>, NoMemory>
+    ensures { IfOk result (λ found.
+        IfSome found (λ numbers. AreNearAt kept.now calls.now numbers.items)) }
+{
+    let mut numbers = Vec::with_capacity(alloc, calls.len())?;
+    for call in calls {
+        let Some(at) = first_near(kept, call.blocks.as_slice()) else {
+            return Ok(None);
+        };
+        numbers.push(at)?;
+    }
+    Ok(Some(numbers))
+}
+
+// Where the calls stand once those are put behind the others that are not kept.
 fn numbers_of(
     alloc: Global,
     kept: &mut Vec<KeptNear>,
@@ -114,6 +141,7 @@ fn numbers_of(
     requires kept { All (IsNearKept chart.now.spots) kept.old.items }
     ensures few { length kept.new.items ≤ MAX_NEARS }
     ensures kept { All (IsNearKept chart.now.spots) kept.new.items }
+    ensures longer { IsLonger kept.old.items kept.new.items }
     ensures numbers { IfOk result (λ numbers. AreNearAt kept.new.items calls.now numbers.items) }
 {
     let mut numbers = Vec::with_capacity(alloc, calls.len())?;
@@ -133,7 +161,7 @@ fn number_of(
 ) -> Result<usize, NoMemory>
     requires runs { HaveShortRuns chart.now.spots }
     requires kept { All (IsNearKept chart.now.spots) kept.old.items }
-    ensures puts { PutsNears kept.old.items kept.new.items }
+    ensures puts { PutsNear kept.old.items kept.new.items blocks.now }
     ensures kept { All (IsNearKept chart.now.spots) kept.new.items }
     ensures number { IfOk result (IsNearAt kept.new.items blocks.now) }
 {
@@ -150,8 +178,10 @@ fn number_of(
     Ok(at)
 }
 
+// Where the first stands that is kept for these blocks.
 fn first_near(kept: &[KeptNear], blocks: &[u32]) -> Option<usize>
-    ensures { IfSome result (IsNearAt kept.now blocks.now) }
+    ensures some { IfSome result (IsNearAt kept.now blocks.now) }
+    ensures none { IfNone result (All (λ one. ¬ (one.blocks ≡ blocks.now)) kept.now) }
 {
     for at in 0..kept.len() {
         if same_blocks(kept[at].blocks.as_slice(), blocks) {
@@ -167,7 +197,7 @@ fn same_blocks(a: &[u32], b: &[u32]) -> bool
     a == b
 }
 
-fn nears_at<'a>(
+fn nears_of<'a>(
     alloc: Global,
     kept: &'a [KeptNear],
     numbers: &[usize],

@@ -12,7 +12,7 @@ ghost use Rattle.tail_states.specs.Following.{AreFollowers};
 ghost use Rattle.tail_states.specs.Spots.{AreFewEnough, AreSpots};
 ghost use Rattle.label_search.specs.Nearing.{HaveShortRuns};
 ghost use Rattle.path_labels.specs.declared.kept_nears.TheConstants.{MAX_NEARS};
-ghost use Rattle.path_labels.specs.KeptNears.{AreNearAt, IsNearKept};
+ghost use Rattle.path_labels.specs.KeptNears.{AreNearAt, GoOn, IsNearKept};
 ghost use Rattle.path_labels.specs.TrainCharts.{AreCharted, IsChartOf, IsChartedAt};
 ghost use Rattle.path_labels.specs.TrainCharts.{spot_in, way_in};
 
@@ -78,10 +78,10 @@ impl TrainChart {
 
     /// Where it stands among what is kept how near the train is to each of these calls; what is not
     /// kept is worked out. `NoMemory` alone is refused.
-    pub(crate) fn near_numbers(
+    pub(crate) fn numbers_of_calls(
         &mut self,
         alloc: Global,
-        calls: &List<ChartCall>,
+        calls: &[ChartCall],
     ) -> Result<Vec<usize>, NoMemory>
         requires runs { HaveShortRuns self.old.chart.spots }
         requires few { length calls.now ≤ MAX_NEARS }
@@ -90,10 +90,11 @@ impl TrainChart {
         ensures spots { self.new.spots ≡ self.old.spots }
         ensures chart { self.new.chart ≡ self.old.chart }
         ensures kept { All (IsNearKept self.old.chart.spots) self.new.nears }
+        ensures on { GoOn self.old.nears (length calls.now) self.new.nears }
         ensures numbers { IfOk result (λ numbers.
             AreNearAt self.new.nears calls.now numbers.items) }
     {
-        let numbers = self.nears.numbers(alloc, &self.chart, calls)?;
+        let numbers = self.nears.numbers_of_calls(alloc, &self.chart, calls)?;
         Ok(numbers)
     }
 }

@@ -2,7 +2,7 @@ use Rattle.std.proofs.Common.{subst}
 use Rattle.label_search.specs.declared.plans.Plan.{Plan}
 use Rattle.label_search.specs.Limits.{IsConsistent}
 use Rattle.path_labels.proofs.ChartSteps.{lent_somewhere}
-use Rattle.path_labels.proofs.chart_courses.ahead_over.Goals as goal
+use Rattle.path_labels.proofs.chart_courses.aheads_by_calls.Goals as goal
 
 pub charted-plan-requires-clause-whole : goal.charted-plan-requires-clause-whole
 charted-plan-requires-clause-whole c =
