@@ -7,6 +7,7 @@ pub mod Planning
 pub mod Telling
 pub mod Steps
 pub mod PlanningPlaces
+pub mod Shortness
 pub mod Searching
 pub mod Keeping
 pub mod Charting

@@ -12,7 +12,6 @@ use Rattle.rail_types.specs.declared.entries.Settings.{Settings}
 use Rattle.rail_types.specs.Flaws.{first_flaw}
 use Rattle.rail_types.specs.Limits.{IsNear, IsSettingsWithinLimits, IsRequestWithinLimits}
 use Rattle.occupation_book.specs.Zones.{Zone}
-use Rattle.running_time.proofs.Ticks.{takes_a_tick}
 use Rattle.blocking_time.specs.Runs.{block_at}
 use Rattle.free_windows.specs.Starts.{IsPiece}
 use Rattle.stair_pieces.specs.declared.places.Place.{Place}
@@ -31,6 +30,7 @@ use Rattle.label_search.specs.Plans.{IsShort, IsTarget, IsMoveOf, IsPlaceOf, IsP
 use Rattle.path_labels.specs.Plans.{ticks_of_step, target_of, kept_behind, move_in, dwell_of, dwell_at, place_in, planned_at}
 use Rattle.path_labels.specs.Searched.{AreCut, IsPlannedOver, IsPlannedWithinLimits, PlansMayBeSearched, PlansOverMayBeSearched}
 use Rattle.path_labels.proofs.PlanningPlaces.{listed_is}
+use Rattle.path_labels.proofs.Shortness.{dwell_short, ticks_few}
 
 module _ (claims : PiecesAreClaims) (stands : StandingZonesAreOfTheNetwork) (leads : StepsLeadToPlaces) (net : Network) (settings : Settings) (request : Request) (flawless : first_flaw net ≡ None) (asked : IsRequestWithinLimits request) (timetable : IsSettingsWithinLimits settings) (book : List Zone) (same : length book ≡ net.zones) where
   kept_pieces : (zones : List ℕ) → All (λ zone. zone < net.zones) zones → (from to : ℤ) → IsNear from → IsNear to → All (IsPiece (length book)) (kept zones from to)
@@ -44,23 +44,7 @@ module _ (claims : PiecesAreClaims) (stands : StandingZonesAreOfTheNetwork) (lea
       })
       go false is = All-nil (IsPiece (length book))
 
-  dwell_short : (made : ℕ) (standing : Bool) → IsShort (dwell_at request made standing)
-  dwell_short made false = (omega (arith, ints), omega (arith, ints))
-  dwell_short made true = go (slice_get request.stops (made - 1)) refl
-    where
-      go : (stop : Option Stop) → slice_get request.stops (made - 1) ≡ stop → IsShort (dwell_of stop)
-      go None at = (omega (arith, ints), omega (arith, ints))
-      go (Some stop) at =
-          let least : stop.dwell ≤ 17280 = subst (λ one. one.dwell ≤ 17280) (get_or_from_slice_get request.stops (made - 1) stop stop at) (asked.dwells (made - 1) stop (slice_get_within request.stops (made - 1) stop at)) in
-          (omega (arith, ints, least), omega (arith, ints, least))
-
   module _ (members : List Place) (place : Place) (here : IsPlaceIn net settings request.train place) where
-    ticks_few : (step : Step) → (pos 0 <ℤ ticks_of_step net settings request place step) × (ticks_of_step net settings request place step ≤ℤ pos 17281)
-    ticks_few step = go _ (takes_a_tick (block_at net step.block) request.train settings (entry_of net request.train place) step.exit (block_at net step.block).length_m) timetable.horizon.1
-      where
-        go : (ticks : ℕ) → 1 ≤ ticks → settings.horizon ≤ 17280 → (pos 0 <ℤ pos (min ticks (settings.horizon + 1))) × (pos (min ticks (settings.horizon + 1)) ≤ℤ pos 17281)
-        go ticks some most = (omega (arith, ints), omega (arith, ints))
-
     target_in : (step : Step) (next : Next) → LeadsTo net request members place step next → IsTarget (length members + 1) (target_of next)
     target_in step Ends to = cc
     target_in step (At number) to = let within = slice_get_within members number _ to.1 in omega (arith, within)
@@ -68,7 +52,7 @@ module _ (claims : PiecesAreClaims) (stands : StandingZonesAreOfTheNetwork) (lea
     kept_in : (step : Step) → step.block < length net.blocks → (next : Next) → All (IsPiece (length book)) (kept_behind net settings request place step next)
     kept_in step inside (At number) = All-nil (IsPiece (length book))
     kept_in step inside Ends =
-        let few = ticks_few step in let low = few.0 in let high = few.1 in let release = timetable.release in
+        let few = ticks_few net settings request.train place step timetable in let low = few.0 in let high = few.1 in let release = timetable.release in
         kept_pieces (standing_zones net request.train (place_after net request.train place step))
         (stands net settings request.train (place_after net request.train place step) flawless (leads net settings request.train place step here inside))
         (ticks_of_step net settings request place step) (ticks_of_step net settings request place step +ℤ pos settings.release)
@@ -76,7 +60,7 @@ module _ (claims : PiecesAreClaims) (stands : StandingZonesAreOfTheNetwork) (lea
 
     move_within : (one : Move) → IsListedMove net request members place one → IsMoveOf (length members + 1) book (move_in net settings request place one)
     move_within one listed =
-        let few = ticks_few one.step in let low = few.0 in let high = few.1 in
+        let few = ticks_few net settings request.train place one.step timetable in let low = few.0 in let high = few.1 in
         record {
           run = ((omega (arith, ints, low), omega (arith, ints, high)), low);
           pieces = All-append (IsPiece (length book)) (pieces_of net settings request.train place one.step) _
@@ -88,7 +72,7 @@ module _ (claims : PiecesAreClaims) (stands : StandingZonesAreOfTheNetwork) (lea
 
     place_within : (moves : List Move) → AreMovesFrom net request members place moves → IsPlaceOf (length members + 1) book (place_in net settings request place moves)
     place_within moves from = record {
-      dwell = dwell_short place.made place.standing;
+      dwell = dwell_short request place.made place.standing asked;
       waits = kept_pieces (standing_zones net request.train place) (stands net settings request.train place flawless here) (pos 0) (pos 1) (omega (arith, ints), omega (arith, ints)) (omega (arith, ints), omega (arith, ints));
       moves = All-map (IsMoveOf (length members + 1) book) (move_in net settings request place) moves (λ k one within. move_within (get_or moves k one) (from.sound k one within));
     }
