@@ -1,22 +1,20 @@
 -- What is planned is within the limits of a search.
-use Rattle.std.proofs.Common.{◌≡◌, sym, refl, subst, ℕ, zero, suc, ◌+◌, ◌-◌, ◌<◌, ◌≤◌, min, Bool, true, false, List, [], length, map, get_or, All, Option, Some, None, arith, if◌then◌else◌}
-use Rattle.std.specs.Prelude.{ℤ, pos, ◌+ℤ◌, ◌<ℤ◌, ◌≤ℤ◌, int_lt, slice_get}
+use Rattle.std.proofs.Common.{◌≡◌, sym, refl, subst, ℕ, zero, suc, ◌+◌, ◌<◌, Bool, true, false, List, [], length, map, get_or, All, None, arith, if◌then◌else◌}
+use Rattle.std.specs.Prelude.{ℤ, pos, ◌+ℤ◌, int_lt}
 use Rattle.std.proofs.lemmas.Int.{ints}
 use Rattle.std.proofs.lemmas.List.{get_or_default}
 use Rattle.std.proofs.lemmas.List.Elements.{All-nil, All-append, All-map}
-use Rattle.std.proofs.lemmas.Option.{slice_get_within, slice_get-get_or, get_or_from_slice_get}
+use Rattle.std.proofs.lemmas.Option.{slice_get_within, slice_get-get_or}
 use Rattle.rail_types.specs.declared.tracks.Network.{Network}
-use Rattle.rail_types.specs.declared.trains.Stop.{Stop}
 use Rattle.rail_types.specs.declared.trains.Request.{Request}
 use Rattle.rail_types.specs.declared.entries.Settings.{Settings}
 use Rattle.rail_types.specs.Flaws.{first_flaw}
 use Rattle.rail_types.specs.Limits.{IsNear, IsSettingsWithinLimits, IsRequestWithinLimits}
 use Rattle.occupation_book.specs.Zones.{Zone}
-use Rattle.blocking_time.specs.Runs.{block_at}
 use Rattle.free_windows.specs.Starts.{IsPiece}
 use Rattle.stair_pieces.specs.declared.places.Place.{Place}
 use Rattle.stair_pieces.specs.declared.places.Step.{Step}
-use Rattle.stair_pieces.specs.Places.{start_place, entry_of, place_after, standing_zones}
+use Rattle.stair_pieces.specs.Places.{start_place, place_after, standing_zones}
 use Rattle.stair_pieces.specs.Pieces.{pieces_of, kept}
 use Rattle.stair_pieces.specs.Steps.{IsPlaceIn}
 use Rattle.stair_pieces.specs.Claiming.{PiecesAreClaims, StandingZonesAreOfTheNetwork, StepsLeadToPlaces}
@@ -27,7 +25,7 @@ use Rattle.tail_states.specs.Asked.{IsAsked, SoundNetworksAreAsked, PlacesMayBeC
 use Rattle.tail_states.specs.Listed.{Listed, LeadsTo, IsListedMove, AreMovesFrom}
 use Rattle.label_search.specs.declared.plans.Plan.{Plan}
 use Rattle.label_search.specs.Plans.{IsShort, IsTarget, IsMoveOf, IsPlaceOf, IsPlan}
-use Rattle.path_labels.specs.Plans.{ticks_of_step, target_of, kept_behind, move_in, dwell_of, dwell_at, place_in, planned_at}
+use Rattle.path_labels.specs.Plans.{ticks_of_step, target_of, kept_behind, move_in, place_in, planned_at}
 use Rattle.path_labels.specs.Searched.{AreCut, IsPlannedOver, IsPlannedWithinLimits, PlansMayBeSearched, PlansOverMayBeSearched}
 use Rattle.path_labels.proofs.PlanningPlaces.{listed_is}
 use Rattle.path_labels.proofs.Shortness.{dwell_short, ticks_few}

@@ -1,6 +1,6 @@
 -- What is planned takes few ticks: a step, a way of a chart, a dwell.
-use Rattle.std.proofs.Common.{◌≡◌, sym, refl, subst, All, ℕ, ◌+◌, ◌-◌, ◌<◌, ◌≤◌, min, Bool, true, false, List, [], get_or, length, Option, Some, None, arith}
-use Rattle.std.specs.Prelude.{ℤ, pos, ◌<ℤ◌, ◌≤ℤ◌, slice_get}
+use Rattle.std.proofs.Common.{◌≡◌, sym, refl, subst, All, ℕ, ◌+◌, ◌-◌, ◌≤◌, min, Bool, true, false, List, [], get_or, Option, Some, None, arith}
+use Rattle.std.specs.Prelude.{pos, ◌<ℤ◌, ◌≤ℤ◌, slice_get}
 use Rattle.std.proofs.lemmas.Int.{ints}
 use Rattle.std.proofs.lemmas.List.{get_or_default}
 use Rattle.std.proofs.lemmas.List.Elements.{All-map}

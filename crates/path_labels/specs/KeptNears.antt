@@ -1,5 +1,5 @@
 -- How near a train is to its calls, as it is kept with its chart.
-use Rattle.std.specs.Prelude.{◌≡◌, ℕ, ◌+◌, ◌-◌, ◌<◌, ◌≤◌, List, [], ◌++◌, length, All, drop}
+use Rattle.std.specs.Prelude.{◌≡◌, ℕ, ◌+◌, ◌-◌, ◌<◌, ◌≤◌, List, [], ◌++◌, length, drop}
 use Rattle.std.specs.List.{slice_index_or}
 use Rattle.label_search.specs.declared.charts.ChartCall.{ChartCall}
 use Rattle.label_search.specs.declared.charts.ChartSpot.{ChartSpot}

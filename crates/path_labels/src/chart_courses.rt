@@ -123,7 +123,7 @@ fn aheads_by_calls(
     ensures consistent { IfOk result (IsConsistentOver chart.now.chart.spots calls.now) }
 {
     let nears = chart.nears.nears_at(alloc, numbers)?;
-    let ahead = aheads(alloc, &chart.chart, calls, &nears)?;
+    let ahead = aheads(alloc, &chart.chart, calls, nears.as_slice())?;
     Ok(ahead)
 }
 
