@@ -412,7 +412,20 @@ def lanes_are_printed(clone: Clone) -> None:
 
 def a_run_that_holds_too_much_memory_pauses(clone: Clone) -> None:
     """Of three that hold a third of a GB each two pause, until those before them have ended."""
-    process = clone.start("--memory", "0.8", fake="heavy")
+    most, told = most_paused(clone, "0.8")
+    must(most, "none paused")
+    must("at most 1 GB of memory" in told, told)
+
+
+def one_that_has_only_begun_waits_for_room(clone: Clone) -> None:
+    """Beside two that hold a third of a GB each 2.4 GB leave less room than a proof takes."""
+    most, told = most_paused(clone, "2.4")
+    must(most == 1, f"{most} paused at once: {told}")
+
+
+def most_paused(clone: Clone, memory_gb: str) -> tuple[int, str]:
+    """How many of three that hold a third of a GB each pause at once, and what is told."""
+    process = clone.start("--memory", memory_gb, fake="heavy")
     most = 0
     while process.poll() is None:
         stopped = [pid for pid in clone.at_work() if state_of(pid) == "T"]
@@ -421,8 +434,7 @@ def a_run_that_holds_too_much_memory_pauses(clone: Clone) -> None:
     _, told = process.communicate()
     must(process.returncode == 0, f"status {process.returncode}: {told}")
     must("heavy [0, 0, 0]" in clone.noted(), f"noted {clone.noted()}")
-    must(most, "none paused")
-    must("at most 1 GB of memory" in told, told)
+    return most, told
 
 
 def state_of(pid: str) -> str:
@@ -477,6 +489,7 @@ CASES: list[Callable[[Clone], None]] = [
     lanes_are_told_to_the_toolchain,
     lanes_are_printed,
     a_run_that_holds_too_much_memory_pauses,
+    one_that_has_only_begun_waits_for_room,
     another_program_is_asked_for_by_name,
     the_record_tells_what_was_built,
 ]

@@ -82,12 +82,14 @@ def end(process: subprocess.Popen, patience_s: float = 10.0) -> None:
     process.wait()
 
 
-def held_bytes(one: Member) -> int:
-    """The memory that a process holds, pages that it shares with others among them."""
+def held_bytes(one: Member) -> tuple[int, int]:
+    """The memory that a process holds alone, and what it may share with others."""
     try:
-        return int(Path(f"/proc/{one.pid}/statm").read_text().split()[1]) * PAGE
+        rows = Path(f"/proc/{one.pid}/statm").read_text().split()
+        shared = int(rows[2]) * PAGE
+        return int(rows[1]) * PAGE - shared, shared
     except (OSError, IndexError):
-        return 0
+        return 0, 0
 
 
 def resident_bytes(members: list[Member]) -> int:
