@@ -37,8 +37,9 @@ pub record IsNearAlong (blocks : List ℕ) (ticks : List Ahead) (number : ℕ) (
       → (ahead_at ticks number).ticks ≤ℤ (way.run +ℤ (ahead_at ticks way.next).ticks)
   pub calls : is_call blocks way ≡ true → (ahead_at ticks number).ticks ≤ℤ way.run
 
--- Ticks from each spot that no train falls short of until it halts at the end of one of these blocks,
--- and which spots are behind such halts. Nothing is said of the start, from which others may be.
+-- Ticks from each spot that no train falls short of until it halts at the end of one of these
+-- blocks, and which spots are behind such halts. Nothing is said of the start, from which others
+-- may be.
 pub record IsNearTo (spots : List ChartSpot) (blocks : List ℕ) (near : Near) : Type 0 where
   pub ticks : All IsAhead near.ticks
   pub ways : (number : ℕ) → number < length spots
@@ -66,15 +67,15 @@ abbrev pub HaveShortDwells : List ChartCall → Type 0
 HaveShortDwells calls = All (λ call. IsShort call.dwell) calls
 
 -- Whatever ways the path begins with and whatever the horizon is: in the plan of the calls over the
--- chart, where some book may be searched by it, a move brings an end no nearer than by the ticks that
--- it takes with the wait before it.
+-- chart, where some book may be searched by it, a move brings an end no nearer than by the ticks
+-- that it takes with the wait before it.
 abbrev pub IsConsistentOver : List ChartSpot → List ChartCall → List Ahead → Type 0
 IsConsistentOver spots calls ahead =
     (starts : List ChartWay) (horizon : ℤ) (book : Book)
     → IsPlan (plan_over spots starts calls horizon) book
     → IsConsistent (plan_over spots starts calls horizon) ahead
 
--- ---- inside: what is ahead as a sum
+-- ---- what is ahead as a sum
 
 -- the dwell where the train stands, the way to its next call, and what is left behind that
 abbrev pub sum_ahead : Bool → ChartCall → Near → Ahead → ℕ → ℤ
