@@ -41,7 +41,7 @@ pub returns-clause-course : goal.returns-clause-course
 returns-clause-course g c =
     at_timetable (λ net settings. IsChartCourse net settings c.args.request.now c.in-Ok.course)
     (timetable_at c.args.shared.now.gate) c.network_of-net.result.now c.args.shared.now.settings
-    c.network_of-net.ensures c.requires.shared.settings c.in-Ok.ensures
+    c.network_of-net.ensures c.requires.shared.settings c.in-Ok.ensures.course
 
 pub returns-clause-unproved : goal.returns-clause-unproved
 returns-clause-unproved g c = c.if-proves.false
