@@ -22,6 +22,10 @@ part_fields (part.State deed freed_by) = state_fields deed.now freed_by.now
 abbrev pub part_text : Part → List ℕ
 part_text one = spaced (part_fields one)
 
+-- these fields in a line
+abbrev pub told : List (List ℕ) → List ℕ
+told fields = line_of fields ++ 10 ∷ []
+
 -- a line that begins with this word
 abbrev pub line_by : List ℕ → List Part → List ℕ
 line_by word parts = line_of (word ∷ flat_map part_fields parts) ++ 10 ∷ []

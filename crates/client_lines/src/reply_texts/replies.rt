@@ -4,7 +4,7 @@ use admission_rules::rule_names::RuleName;
 use rail_types::{Deed, Entry, List, Name, Owner, Run};
 
 /// The reply to one line.
-#[derive(Debug, Drop)]
+#[derive(Drop)]
 pub enum Reply {
     Held {
         number: u64,
