@@ -5,12 +5,15 @@ ghost use Rattle.std.specs.Prelude.{IfErr, IfOk, Some, None};
 ghost use Rattle.std.specs.List.{All};
 ghost use Rattle.rail_types.specs.Infras.{IsInfra, IsRoute};
 ghost use Rattle.track_graph.specs.Layouts.{IsLayoutOf};
+ghost use Rattle.route_walk.specs.Courses.{Ends, detectors_of};
+ghost use Rattle.route_walk.specs.Entries.{entry_of, exit_of};
 ghost use Rattle.route_walk.specs.Legs.{AreBehind, length_m, point_count};
 ghost use Rattle.route_walk.specs.Places.{IsPlace};
 ghost use Rattle.route_walk.specs.Sound.{IsSound};
-ghost use Rattle.route_walk.specs.Walks.{IsWalkOf, TellsOf, WalkTells, limit_of};
+ghost use Rattle.route_walk.specs.Walks.{IsRouteAt, IsWalkOf, TellsOf, WalkTells, limit_of};
+ghost use Rattle.route_walk.specs.Ways.{Comes};
 
-use crate::courses::{Ending, course_of};
+use crate::courses::{Course, Ending, course_of};
 use crate::entries::{entry_of, exit_of};
 use crate::legs::{legs_of, metres_of, stretches_of};
 use crate::places::Place;
@@ -44,6 +47,35 @@ pub fn walk(alloc: Global, graph: &Graph, infra: &Infra, route: u32) -> Result<W
     let exit = exit_of(infra, own.exit);
     let ways = own.ways.as_slice();
     let course = course_of(alloc, graph, infra, ways, &entry, exit, limit_of(infra))?;
+    walk_by(alloc, graph, infra, route, own, &entry, &course)
+}
+
+/// The walk of the route of that number, which is followed by this course.
+fn walk_by(
+    alloc: Global,
+    graph: &Graph,
+    infra: &Infra,
+    route: u32,
+    own: &Route,
+    entry: &Place,
+    course: &Course,
+) -> Result<Walk, WalkFault>
+    requires infra { IsInfra infra.now }
+    requires layout { IsLayoutOf infra.now graph.now }
+    requires number { IsRouteAt infra.now route own.now }
+    requires route { IsRoute (length infra.now.switches) (length infra.now.detectors)
+        (length infra.now.buffer_stops) own.now }
+    requires entry { entry.now ≡ entry_of infra.now graph.now own.now }
+    requires ends { Ends (Comes infra.now graph.now own.now.ways) entry.now
+        (exit_of infra.now own.now.exit) course.now.ending course.now.places.items }
+    requires places { All (IsPlace infra.now graph.now) course.now.places.items }
+    requires passed { course.now.ending ≡ Ending.Exit → course.now.detectors.keys
+        ≡ detectors_of (entry.now ∷ course.now.places.items) }
+    requires few { length course.now.places.items ≤ 2 ^ 18 }
+    ensures walk { IfOk result (IsWalkOf infra.now graph.now route) }
+    ensures sound { IfOk result (IsSound graph.now.count (point_count infra.now)) }
+    ensures fault { IfErr result (WalkTells infra.now graph.now route) }
+{
     let places = course.places.as_slice();
     match course.ending {
         Ending::NoWay => {
@@ -53,11 +85,10 @@ pub fn walk(alloc: Global, graph: &Graph, infra: &Infra, route: u32) -> Result<W
         Ending::Loop => return Err(WalkFault::Loop { route }),
         Ending::Exit => {}
     }
-    let releases = own.releases.as_slice();
-    if let Some(detector) = first_stray(&course.detectors, releases) {
+    if let Some(detector) = first_stray(&course.detectors, own.releases.as_slice()) {
         return Err(WalkFault::StrayRelease { route, detector });
     }
-    let walk = walk_along(alloc, graph, infra, own, &entry, places)?;
+    let walk = walk_along(alloc, graph, infra, own, entry, places)?;
     Ok(walk)
 }
 

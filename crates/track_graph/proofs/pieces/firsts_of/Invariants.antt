@@ -1,10 +1,11 @@
-use Rattle.std.proofs.Common.{◌≡◌, length, take}
-use Rattle.std.specs.List.{sum_by}
-use Rattle.track_graph.specs.PieceRows.{AreFirsts}
+use Rattle.std.proofs.Common.{◌≡◌, ◌+◌, ◌≤◌, ℕ, length, slice_index}
+use Rattle.track_graph.specs.Pieces.{first_of}
 use Rattle.track_graph.proofs.pieces.firsts_of.Given as goal
 
 abbrev pub invariant-rows : goal.invariant-rows
 invariant-rows l = record {
-  firsts : AreFirsts (take l.row-index l.rows) l.firsts.items;
-  count : l.count ≡ sum_by length (take l.row-index l.rows);
+  within : l.row-index ≤ length l.rows;
+  long : length l.firsts.items ≡ l.row-index + 1;
+  each : (track : ℕ) → track ≤ l.row-index → slice_index l.firsts.items track ≡ first_of l.rows track;
+  count : l.count ≡ first_of l.rows l.row-index;
 }
