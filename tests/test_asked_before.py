@@ -4,7 +4,8 @@ of its last requests had worked out, and finds by it what a client finds that ha
 
 On corridors with planned trains one client asks all in one session. Another server, over a journal
 of its own, is begun anew for each ask. More relations are asked for than are kept, each of them
-several times, in windows of its own; holds come in between.
+several times, in windows of its own; holds come in between. One client asks for more trains than are
+kept charts of, one for more stops of one train than a chart tells of.
 
     tests/test_asked_before.py --program crates/stdcm/out/stdcm
 """
@@ -13,6 +14,7 @@ from __future__ import annotations
 import random
 import sys
 import tempfile
+from dataclasses import dataclass
 from pathlib import Path
 from typing import Any
 
@@ -25,23 +27,46 @@ from corridor import corridor  # noqa: E402
 from table_file import read_table  # noqa: E402
 
 HORIZON, LATEST, PLANNED = 3_000, 1_500, 10
-#: How many relations are asked for: more than the sixteen whose courses a client keeps.
-RELATIONS, ASKS = 24, 160
-TRAINS = [
-    {"name": "F1", "length_m": 400, "speed": 20_000, "accel": 200, "brake": 250, "allowance": 0},
-    {"name": "long one", "length_m": 900, "speed": 25_000, "accel": 150, "brake": 250,
-     "allowance": 5}]
+FIRST = {"name": "F1", "length_m": 400, "speed": 20_000, "accel": 200, "brake": 250, "allowance": 0}
+LONG = {"name": "long one", "length_m": 900, "speed": 25_000, "accel": 150, "brake": 250,
+        "allowance": 5}
+#: More trains than the eight whose charts a client keeps, no two alike.
+TWELVE = [{**FIRST, "name": f"F{number}", "length_m": 380 + 20 * number} for number in range(1, 13)]
 BASE = {"tick_s": 10, "setting": 1, "release": 1, "horizon": HORIZON, "journal_bytes": 268_435_456}
 
 
-def planned(railway: Railway, source: random.Random) -> list[dict[str, Any]]:
+@dataclass(frozen=True)
+class Talk:
+    """One client's asks on a corridor of so many sections."""
+
+    seed: int
+    trains: list[dict[str, Any]]
+    proves: bool = False
+    sections: int = 4
+    #: How many relations are asked for: more than the sixteen whose courses a client keeps.
+    relations: int = 24
+    asks: int = 160
+
+    @property
+    def blocks_of_section(self) -> int:
+        return 3 if self.sections < 20 else 1
+
+
+#: The last one has 76 stops, more than the 64 that a chart tells of.
+TALKS = [
+    Talk(1, [FIRST, LONG]), Talk(2, [FIRST, LONG], proves=True), Talk(3, [FIRST, LONG]),
+    Talk(4, TWELVE, relations=60, asks=320),
+    Talk(5, [FIRST], sections=75, relations=400, asks=500)]
+
+
+def planned(talk: Talk, railway: Railway, source: random.Random) -> list[dict[str, Any]]:
     """Planned trains that do not clash, each over a part of the corridor."""
     follows: dict[str, list[int]] = {}
     for number, block in enumerate(railway.blocks):
         follows.setdefault(block.begins, []).append(number)
     trains: list[dict[str, Any]] = []
     while len(trains) < PLANNED:
-        told = source.choice(TRAINS)
+        told = source.choice(talk.trains)
         train = Train(*(told[key] for key in ("length_m", "speed", "accel", "brake", "allowance")))
         way = [source.randrange(len(railway.blocks))]
         while len(way) < 14 and follows.get(railway.blocks[way[-1]].ends):
@@ -54,14 +79,14 @@ def planned(railway: Railway, source: random.Random) -> list[dict[str, Any]]:
     return trains
 
 
-def relations_of(stops: list[str], source: random.Random) -> list[tuple[str, str]]:
+def relations_of(talk: Talk, stops: list[str], source: random.Random) -> list[tuple[str, str]]:
     """Relations of which no two are the same: train, origin and destination; and what stands behind
     the windows, one stop or none."""
     found: set[tuple[str, str]] = set()
-    while len(found) < RELATIONS:
+    while len(found) < talk.relations:
         first = source.randrange(len(stops) - 1)
         last = source.randrange(first + 1, len(stops))
-        train = source.choice(("F1", "long%20one"))
+        train = source.choice(talk.trains)["name"].replace(" ", "%20")
         between = stops[first + 1:last]
         is_halting = bool(between) and source.randrange(2) == 0
         stop = f"1 {source.choice(between)} {source.randrange(30)}" if is_halting else "0"
@@ -69,10 +94,10 @@ def relations_of(stops: list[str], source: random.Random) -> list[tuple[str, str
     return sorted(found)
 
 
-def lines_of(stops: list[str], zones: int, source: random.Random) -> list[str]:
+def lines_of(talk: Talk, stops: list[str], zones: int, source: random.Random) -> list[str]:
     """Asks of these relations in a drawn order, with a hold behind every eighth."""
-    relations, lines = relations_of(stops, source), []
-    for number in range(ASKS):
+    relations, lines = relations_of(talk, stops, source), []
+    for number in range(talk.asks):
         relation, stop = source.choice(relations)
         tick = source.randrange(LATEST)
         windows = f"{tick} {tick + source.choice((0, 20, 200))} 0 " \
@@ -83,28 +108,29 @@ def lines_of(stops: list[str], zones: int, source: random.Random) -> list[str]:
     return lines
 
 
-def try_corridor(cases: Cases, program: Path, folder: Path, seed: int, proves: bool) -> None:
+def try_talk(cases: Cases, program: Path, folder: Path, talk: Talk) -> None:
     """All lines in one session, and each in a session of its own over another journal."""
-    source = random.Random(seed)
-    made = corridor(4, 3)
+    seed, source = talk.seed, random.Random(talk.seed)
+    made = corridor(talk.sections, talk.blocks_of_section)
     worlds = [World(program, folder / name) for name in (f"one{seed}", f"many{seed}")]
     for world in worlds:
         world.folder.mkdir()
         world.write("network", made.infra)
-        world.write("trains", {"trains": TRAINS})
+        world.write("trains", {"trains": talk.trains})
         world.list()
     blocks = blocks_of(read_table(worlds[0].path("table")), made.infra)
     railway = Railway(blocks, settings=Settings(horizon=HORIZON))
-    base = BASE | {"trains": planned(railway, source)}
+    base = BASE | {"trains": planned(talk, railway, source)}
     stops = [stop.replace(" ", "%20") for stop in made.stops]
-    lines = lines_of(stops, 1 + max(zone for block in blocks for zone, _ in block.cells), source)
+    zones = 1 + max(zone for block in blocks for zone, _ in block.cells)
+    lines = lines_of(talk, stops, zones, source)
     one, many = worlds
     for world in worlds:
         world.write("base", base)
         cases.equal(f"corridor {seed}: a journal is begun", 0, world.init())
 
     def proof_of(world: World) -> list[str]:
-        return ["--proof", f"A={world.path('proofs')}"] if proves else []
+        return ["--proof", f"A={world.path('proofs')}"] if talk.proves else []
 
     together = one.serve("A", lines, *proof_of(one))
     apart = [many.serve("A", [line], *proof_of(many))[0] for line in lines]
@@ -115,7 +141,7 @@ def try_corridor(cases: Cases, program: Path, folder: Path, seed: int, proves: b
     for line, wanted, got in zip(lines, apart, together):
         cases.equal(f"corridor {seed}: {line}", wanted, got)
     cases.equal(f"corridor {seed}: as many replies", len(lines), len(together))
-    if proves:
+    if talk.proves:
         cases.equal(f"corridor {seed}: the proofs", many.path("proofs").read_text(),
                     one.path("proofs").read_text())
 
@@ -123,8 +149,8 @@ def try_corridor(cases: Cases, program: Path, folder: Path, seed: int, proves: b
 def main() -> int:
     program, cases = program_of(__doc__), Cases()
     with tempfile.TemporaryDirectory() as place:
-        for seed, proves in ((1, False), (2, True), (3, False)):
-            try_corridor(cases, program, Path(place), seed, proves)
+        for talk in TALKS:
+            try_talk(cases, program, Path(place), talk)
     return cases.end()
 
 
