@@ -35,8 +35,7 @@ pub fn read_infra(alloc: Global, bytes: &[u8]) -> Result<Infra, InfraFault>
         });
     }
     let file = parsed(alloc, bytes)?;
-    let infra = read_object(alloc, &file)?;
-    Ok(infra)
+    read_object(alloc, &file)
 }
 
 fn parsed(alloc: Global, bytes: &[u8]) -> Result<Value, InfraFault>
@@ -60,6 +59,5 @@ fn read_object(alloc: Global, file: &Value) -> Result<Infra, InfraFault>
             spot: place.spot(alloc, "file")?,
         });
     }
-    let infra = read_lists(alloc, file)?;
-    Ok(infra)
+    read_lists(alloc, file)
 }

@@ -1,10 +1,14 @@
 //! The lists of a file, joined to an infrastructure.
 
-ghost use Rattle.std.specs.Prelude.{◌≡◌, IfOk};
+ghost use Rattle.std.specs.Prelude.{◌≡◌, ◌≤◌, codes, length, All, IfOk, Ok};
 ghost use Rattle.serde_json.specs.View.{view};
+ghost use Rattle.json_fields.specs.Reading.{◌>>=◌ as and_then};
 ghost use Rattle.infra_fields.specs.Fields.{Gives};
-ghost use Rattle.rail_types.specs.Infras.{IsInfra};
+ghost use Rattle.rail_types.specs.Infras.{IsInfra, IsSwitch, IsTrack};
+ghost use Rattle.rail_types.specs.Named.{IsId};
+ghost use Rattle.rail_types.specs.declared.limits.TheConstants.{MAX_OBJECTS};
 ghost use Rattle.railjson_read.specs.Files.{lists_in, landmarks_in, others_in, joined};
+ghost use Rattle.railjson_read.specs.Objects.{all_placed_in};
 ghost use Rattle.railjson_read.specs.Landmarks.{AreLandmarks, AreOthers};
 
 use crate::infra_lists::{placed_of, signals_of, switches_of, tracks_of};
@@ -42,9 +46,19 @@ pub(crate) fn read_lists(alloc: Global, file: &Value) -> Result<Infra, InfraFaul
     ensures sound { IfOk result IsInfra }
 {
     let landmarks = landmarks_of(alloc, file)?;
-    let others = others_of(alloc, file, &landmarks)?;
-    let infra = joined(landmarks, others);
-    Ok(infra)
+    let others = others_of(alloc, file, &landmarks);
+    infra_of(landmarks, others)
+}
+
+/// These lists with those behind them, where those were read.
+fn infra_of(landmarks: Landmarks, others: Result<Others, InfraFault>) -> Result<Infra, InfraFault>
+    requires landmarks { AreLandmarks landmarks }
+    requires others { IfOk others (AreOthers landmarks) }
+    ensures read { result ≡ (and_then others λ others. Ok (joined landmarks.entry others)) }
+    ensures sound { IfOk result IsInfra }
+{
+    let others = others?;
+    Ok(joined(landmarks, others))
 }
 
 /// The lists whose objects others name.
@@ -55,6 +69,32 @@ fn landmarks_of<'a>(alloc: Global, file: &'a Value) -> Result<Landmarks<'a>, Inf
 {
     let tracks = tracks_of(alloc, file)?;
     let switches = switches_of(alloc, file, &tracks)?;
+    landmarks_on(alloc, file, tracks, switches)
+}
+
+/// These tracks and switches with the detectors and the buffer stops of the file.
+fn landmarks_on<'a>(
+    alloc: Global,
+    file: &'a Value,
+    tracks: Listed<'a, Track>,
+    switches: Listed<'a, Switch>,
+) -> Result<Landmarks<'a>, InfraFault>
+    requires few_tracks { length tracks ≤ MAX_OBJECTS }
+    requires few_switches { length switches ≤ MAX_OBJECTS }
+    requires tracks { All IsTrack tracks }
+    requires names { All (λ track. IsId track.id) tracks }
+    requires switches { All (IsSwitch (length tracks)) switches }
+    ensures read { Gives (λ landmarks. landmarks) result
+        (and_then (all_placed_in (codes "detectors") tracks.entry (view file.now)) λ detectors.
+        and_then (all_placed_in (codes "buffer_stops") tracks.entry (view file.now)) λ stops.
+        Ok (record {
+          tracks = tracks.entry;
+          switches = switches.entry;
+          detectors = detectors;
+          buffer_stops = stops;
+        })) }
+    ensures sound { IfOk result AreLandmarks }
+{
     let detectors = placed_of(alloc, file, "detectors", &tracks)?;
     let buffer_stops = placed_of(alloc, file, "buffer_stops", &tracks)?;
     Ok(Landmarks {

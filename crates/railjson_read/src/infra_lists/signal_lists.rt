@@ -2,9 +2,11 @@
 
 ghost use Rattle.rail_types.specs.InfraIds.{id_of_signal, id_of_track};
 ghost use Rattle.std.specs.Prelude.{◌≡◌, ◌<◌, ◌≤◌, [], codes, length, map, All, IfOk, IfSome, OnOk};
+ghost use Rattle.std.specs.Prelude.{Ok};
 ghost use Rattle.std.specs.List.{list_any};
 ghost use Rattle.serde_json.specs.View.{view};
 ghost use Rattle.rail_types.specs.declared.limits.TheConstants.{MAX_OBJECTS};
+ghost use Rattle.json_fields.specs.Reading.{◌>>=◌ as and_then};
 ghost use Rattle.infra_fields.specs.Fields.{Gives, GivesNext, read_each};
 ghost use Rattle.rail_types.specs.Infras.{IsSignal, IsBal};
 ghost use Rattle.railjson_read.specs.Signals.{signals_in, signal_at, signal_in, bal_at, bal_in};
@@ -33,8 +35,7 @@ pub fn signals_of<'a>(
 {
     let place = Place::of_file();
     let items = list(alloc, &place, file, "signals")?;
-    let signals = read_signals(alloc, items, tracks)?;
-    Ok(signals)
+    read_signals(alloc, items, tracks)
 }
 
 /// The signals of a list.
@@ -90,13 +91,30 @@ fn push_signal<'a>(
 {
     object(alloc, place, value)?;
     let id = new_id(alloc, place, value, signals)?;
-    let bal = bal_if_any(alloc, place, value, tracks)?;
-    let signal = Signal {
-        id: Name::from_bytes(alloc, id.as_bytes())?,
-        bal,
-    };
+    let signal = signal(alloc, place, value, id, tracks)?;
     signals.push(signal, id)?;
     Ok(())
+}
+
+/// All of a signal with this id.
+fn signal(
+    alloc: Global,
+    place: &Place,
+    value: &Value,
+    id: &str,
+    tracks: &Listed<Track>,
+) -> Result<Signal, InfraFault>
+    ensures read { Gives (λ signal. signal) result
+        (and_then (bal_at place.now (map id_of_track tracks.now) (view value.now)) λ bal.
+        Ok (record { id = id.now; bal = bal })) }
+    ensures id { IfOk result (λ signal. signal.id ≡ id.now) }
+    ensures within { IfOk result (IsSignal (length tracks.now)) }
+{
+    let bal = bal_if_any(alloc, place, value, tracks)?;
+    Ok(Signal {
+        id: Name::from_bytes(alloc, id.as_bytes())?,
+        bal,
+    })
 }
 
 /// What a signal is as a block signal, where it is one.
@@ -144,8 +162,7 @@ fn sight_m(alloc: Global, place: &Place, value: &Value) -> Result<u32, InfraFaul
     ensures within { IfOk result (λ sight. sight ≤ 100000) }
 {
     let metres = rounded(alloc, place, value, "sight_distance", true)?;
-    let sight = limit(metres, 0, MAX_SIGHT_M, What::Sight)?;
-    Ok(sight)
+    limit(metres, 0, MAX_SIGHT_M, What::Sight)
 }
 
 /// Whether some logical signal is one of automatic block.

@@ -1,9 +1,10 @@
 //! Switches of a file.
 
 ghost use Rattle.rail_types.specs.InfraIds.{id_of_switch, id_of_track};
-ghost use Rattle.std.specs.Prelude.{◌≡◌, ◌<◌, ◌≤◌, [], codes, length, map, All, IfOk, OnOk};
+ghost use Rattle.std.specs.Prelude.{◌≡◌, ◌<◌, ◌≤◌, [], codes, length, map, All, IfOk, OnOk, Ok};
 ghost use Rattle.serde_json.specs.View.{view};
 ghost use Rattle.rail_types.specs.declared.limits.TheConstants.{MAX_OBJECTS};
+ghost use Rattle.json_fields.specs.Reading.{◌>>=◌ as and_then};
 ghost use Rattle.infra_fields.specs.Fields.{Gives, GivesNext, read_each};
 ghost use Rattle.rail_types.specs.Infras.{IsSwitch, port_count};
 ghost use Rattle.railjson_read.specs.Objects.{switches_in, switch_at, switch_in, kind_at, ports_at};
@@ -34,8 +35,7 @@ pub fn switches_of<'a>(
 {
     let place = Place::of_file();
     let items = list(alloc, &place, file, "switches")?;
-    let switches = read_switches(alloc, items, tracks)?;
-    Ok(switches)
+    read_switches(alloc, items, tracks)
 }
 
 /// The switches of a list.
@@ -91,15 +91,33 @@ fn push_switch<'a>(
 {
     object(alloc, place, value)?;
     let id = new_id(alloc, place, value, switches)?;
+    let switch = switch(alloc, place, value, id, tracks)?;
+    switches.push(switch, id)?;
+    Ok(())
+}
+
+/// All of a switch with this id.
+fn switch(
+    alloc: Global,
+    place: &Place,
+    value: &Value,
+    id: &str,
+    tracks: &Listed<Track>,
+) -> Result<Switch, InfraFault>
+    ensures read { Gives (λ switch. switch) result
+        (and_then (kind_at place.now id.now (view value.now)) λ kind.
+        and_then (ports_at place.now (map id_of_track tracks.now) kind (view value.now)) λ ports.
+        Ok (record { id = id.now; kind = kind; ports = ports })) }
+    ensures id { IfOk result (λ switch. switch.id ≡ id.now) }
+    ensures within { IfOk result (IsSwitch (length tracks.now)) }
+{
     let kind = kind(alloc, place, value, id)?;
     let ports = ports(alloc, place, value, kind, tracks)?;
-    let switch = Switch {
+    Ok(Switch {
         id: Name::from_bytes(alloc, id.as_bytes())?,
         kind,
         ports,
-    };
-    switches.push(switch, id)?;
-    Ok(())
+    })
 }
 
 /// The kind of the switch with this id.
@@ -131,8 +149,7 @@ fn ports(
     let found = found(alloc, place, value, "ports")?;
     let within = place.part("ports");
     object(alloc, &within, found)?;
-    let ports = read_ports(alloc, place, found, ports_of(kind), tracks)?;
-    Ok(ports)
+    read_ports(alloc, place, found, ports_of(kind), tracks)
 }
 
 fn read_ports(
@@ -169,8 +186,7 @@ fn port(
     let ports = place.part("ports");
     let found = found(alloc, &ports, value, port_name(port))?;
     let within = place.part(port_within(port));
-    let end = track_end(alloc, &within, found, tracks)?;
-    Ok(end)
+    track_end(alloc, &within, found, tracks)
 }
 
 fn track_end(

@@ -1,14 +1,16 @@
 //! Tracks, detectors and buffer stops of a file.
 
 ghost use Rattle.rail_types.specs.InfraIds.{id_of_placed, id_of_track};
-ghost use Rattle.std.specs.Prelude.{◌≡◌, ◌<◌, ◌≤◌, [], codes, length, map, All, IfOk, OnOk};
+ghost use Rattle.std.specs.Prelude.{◌≡◌, ◌<◌, ◌≤◌, [], codes, length, map, All, IfOk, OnOk, Ok};
 ghost use Rattle.serde_json.specs.View.{view};
 ghost use Rattle.rail_types.specs.Named.{IsId};
 ghost use Rattle.rail_types.specs.declared.limits.TheConstants.{MAX_OBJECTS};
+ghost use Rattle.json_fields.specs.Reading.{◌>>=◌ as and_then};
 ghost use Rattle.infra_fields.specs.Fields.{Gives, GivesNext, read_each};
 ghost use Rattle.rail_types.specs.Infras.{IsTrack, IsPlaced};
 ghost use Rattle.railjson_read.specs.Objects.{all_placed_in, tracks_in, track_at, track_in};
 ghost use Rattle.railjson_read.specs.Objects.{placed_at, placed_in, length_at};
+ghost use Rattle.infra_fields.specs.Fields.{number_at, metres_at};
 
 use infra_fields::{InfraFault, What, limit, list, metres, new_id, number, object};
 use json_fields::Place;
@@ -28,8 +30,7 @@ pub fn tracks_of<'a>(alloc: Global, file: &'a Value) -> Result<Listed<'a, Track>
 {
     let place = Place::of_file();
     let items = list(alloc, &place, file, "track_sections")?;
-    let tracks = read_tracks(alloc, items)?;
-    Ok(tracks)
+    read_tracks(alloc, items)
 }
 
 /// The tracks of a list.
@@ -82,13 +83,24 @@ fn push_track<'a>(
 {
     object(alloc, place, value)?;
     let id = new_id(alloc, place, value, tracks)?;
-    let length = length_m(alloc, place, value)?;
-    let track = Track {
-        id: Name::from_bytes(alloc, id.as_bytes())?,
-        length,
-    };
+    let track = track(alloc, place, value, id)?;
     tracks.push(track, id)?;
     Ok(())
+}
+
+/// All of a track with this id.
+fn track(alloc: Global, place: &Place, value: &Value, id: &str) -> Result<Track, InfraFault>
+    ensures read { Gives (λ track. track) result
+        (and_then (length_at place.now (view value.now)) λ length.
+        Ok (record { id = id.now; length = length })) }
+    ensures id { IfOk result (λ track. track.id ≡ id.now) }
+    ensures within { IfOk result IsTrack }
+{
+    let length = length_m(alloc, place, value)?;
+    Ok(Track {
+        id: Name::from_bytes(alloc, id.as_bytes())?,
+        length,
+    })
 }
 
 fn length_m(alloc: Global, place: &Place, value: &Value) -> Result<u32, InfraFault>
@@ -96,8 +108,7 @@ fn length_m(alloc: Global, place: &Place, value: &Value) -> Result<u32, InfraFau
     ensures within { IfOk result (λ length. (1 ≤ length) × (length ≤ 1000000)) }
 {
     let metres = metres(alloc, place, value, "length")?;
-    let length = limit(metres, 1, MAX_TRACK_LENGTH_M, What::Length)?;
-    Ok(length)
+    limit(metres, 1, MAX_TRACK_LENGTH_M, What::Length)
 }
 
 /// The detectors or the buffer stops of a file, by the name of their list.
@@ -115,8 +126,7 @@ pub fn placed_of<'a>(
 {
     let place = Place::of_file();
     let items = list(alloc, &place, file, name)?;
-    let found = read_all_placed(alloc, name, items, tracks)?;
-    Ok(found)
+    read_all_placed(alloc, name, items, tracks)
 }
 
 /// The detectors or the buffer stops of a list.
@@ -175,13 +185,33 @@ fn push_placed<'a>(
 {
     object(alloc, place, value)?;
     let id = new_id(alloc, place, value, found)?;
+    let placed = placed(alloc, place, value, id, tracks)?;
+    found.push(placed, id)?;
+    Ok(())
+}
+
+/// All of a detector or a buffer stop with this id.
+fn placed(
+    alloc: Global,
+    place: &Place,
+    value: &Value,
+    id: &str,
+    tracks: &Listed<Track>,
+) -> Result<Placed, InfraFault>
+    ensures read { Gives (λ placed. placed) result
+        (and_then
+        (number_at place.now (codes "track") (map id_of_track tracks.now) (view value.now))
+        λ track.
+        and_then (metres_at place.now (codes "position") (view value.now)) λ position.
+        Ok (record { id = id.now; track = track; position = position })) }
+    ensures id { IfOk result (λ placed. placed.id ≡ id.now) }
+    ensures within { IfOk result (IsPlaced (length tracks.now)) }
+{
     let track = number(alloc, place, value, "track", tracks)?;
     let position = metres(alloc, place, value, "position")?;
-    let placed = Placed {
+    Ok(Placed {
         id: Name::from_bytes(alloc, id.as_bytes())?,
         track,
         position,
-    };
-    found.push(placed, id)?;
-    Ok(())
+    })
 }

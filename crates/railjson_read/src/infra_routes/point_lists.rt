@@ -1,10 +1,11 @@
 //! Operational points of a file.
 
 ghost use Rattle.rail_types.specs.InfraIds.{id_of_point, id_of_track};
-ghost use Rattle.std.specs.Prelude.{◌≡◌, ◌<◌, ◌≤◌, [], codes, length, map, All, IfOk, OnOk};
+ghost use Rattle.std.specs.Prelude.{◌≡◌, ◌<◌, ◌≤◌, [], codes, length, map, All, IfOk, OnOk, Ok};
 ghost use Rattle.serde_json.specs.View.{view};
 ghost use Rattle.rail_types.specs.Named.{IsId};
 ghost use Rattle.rail_types.specs.declared.limits.TheConstants.{MAX_OBJECTS};
+ghost use Rattle.json_fields.specs.Reading.{◌>>=◌ as and_then};
 ghost use Rattle.infra_fields.specs.Fields.{Gives, GivesNext, read_each, read_items};
 ghost use Rattle.rail_types.specs.Infras.{IsPoint};
 ghost use Rattle.railjson_read.specs.Points.{points_in, point_at, point_in, parts_at, part_at};
@@ -32,8 +33,7 @@ pub fn points_of<'a>(
 {
     let place = Place::of_file();
     let items = list(alloc, &place, file, "operational_points")?;
-    let points = read_points(alloc, items, tracks)?;
-    Ok(points)
+    read_points(alloc, items, tracks)
 }
 
 /// The operational points of a list.
@@ -94,13 +94,30 @@ fn push_point<'a>(
 {
     object(alloc, place, value)?;
     let id = new_id(alloc, place, value, points)?;
-    let parts = parts(alloc, place, value, tracks)?;
-    let point = OperationalPoint {
-        id: Name::from_bytes(alloc, id.as_bytes())?,
-        parts,
-    };
+    let point = point(alloc, place, value, id, tracks)?;
     points.push(point, id)?;
     Ok(())
+}
+
+/// All of an operational point with this id.
+fn point(
+    alloc: Global,
+    place: &Place,
+    value: &Value,
+    id: &str,
+    tracks: &Listed<Track>,
+) -> Result<OperationalPoint, InfraFault>
+    ensures read { Gives (λ point. point) result
+        (and_then (parts_at place.now (map id_of_track tracks.now) (view value.now)) λ parts.
+        Ok (record { id = id.now; parts = parts })) }
+    ensures id { IfOk result (λ point. point.id ≡ id.now) }
+    ensures within { IfOk result (IsPoint (length tracks.now)) }
+{
+    let parts = parts(alloc, place, value, tracks)?;
+    Ok(OperationalPoint {
+        id: Name::from_bytes(alloc, id.as_bytes())?,
+        parts,
+    })
 }
 
 fn parts(
@@ -115,8 +132,7 @@ fn parts(
     ensures within { IfOk result (λ parts. All (λ part. part.track < length tracks.now) parts) }
 {
     let items = list(alloc, place, value, "parts")?;
-    let parts = read_parts(alloc, place, items, tracks)?;
-    Ok(parts)
+    read_parts(alloc, place, items, tracks)
 }
 
 fn read_parts(

@@ -40,8 +40,7 @@ pub fn routes_of<'a>(
 {
     let place = Place::of_file();
     let items = list(alloc, &place, file, "routes")?;
-    let routes = read_routes(alloc, items, switches, detectors, buffer_stops)?;
-    Ok(routes)
+    read_routes(alloc, items, switches, detectors, buffer_stops)
 }
 
 /// The routes of a list.
@@ -190,8 +189,7 @@ fn point(
 {
     let found = found(alloc, place, value, field)?;
     let within = place.part(field);
-    let point = point_in(alloc, &within, found, detectors, buffer_stops)?;
-    Ok(point)
+    point_in(alloc, &within, found, detectors, buffer_stops)
 }
 
 fn point_in(
@@ -235,8 +233,7 @@ fn releases(
         (λ releases. All (λ release. release < length detectors.now) releases) }
 {
     let items = list(alloc, place, value, "release_detectors")?;
-    let releases = read_releases(alloc, place, items, detectors)?;
-    Ok(releases)
+    read_releases(alloc, place, items, detectors)
 }
 
 fn read_releases(
@@ -288,6 +285,5 @@ fn release_in(
 {
     let text = text_in(alloc, place, value, "")?;
     let id = limited(text)?;
-    let release = known(alloc, place, id, "", detectors)?;
-    Ok(release)
+    known(alloc, place, id, "", detectors)
 }

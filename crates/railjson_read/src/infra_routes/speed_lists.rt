@@ -2,10 +2,11 @@
 
 ghost use Rattle.rail_types.specs.InfraIds.{id_of_speed};
 ghost use Rattle.std.specs.Prelude.{◌≡◌, ◌<◌, ◌≤◌, ◌^◌, [], codes, length, map, All, IfOk, IfSome};
-ghost use Rattle.std.specs.Prelude.{OnOk, min, slice_index_or};
+ghost use Rattle.std.specs.Prelude.{Ok, OnOk, min, slice_index_or};
 ghost use Rattle.serde_json.specs.View.{view};
 ghost use Rattle.rail_types.specs.declared.limits.TheConstants.{MAX_OBJECTS, MAX_SPEED_MM_S};
 ghost use Rattle.json_fields.specs.Places.{spot_of};
+ghost use Rattle.json_fields.specs.Reading.{◌>>=◌ as and_then};
 ghost use Rattle.infra_fields.specs.Fields.{Gives, GivesNext, read_each, read_items};
 ghost use Rattle.rail_types.specs.Infras.{IsSpeed, IsRange, lengths_of};
 ghost use Rattle.railjson_read.specs.Speeds.{speeds_in, speed_at, speed_in, limit_at, limit_found};
@@ -35,8 +36,7 @@ pub fn speeds_of<'a>(
 {
     let place = Place::of_file();
     let items = list(alloc, &place, file, "speed_sections")?;
-    let speeds = read_speeds(alloc, items, tracks)?;
-    Ok(speeds)
+    read_speeds(alloc, items, tracks)
 }
 
 /// The speed sections of a list.
@@ -90,15 +90,33 @@ fn push_speed<'a>(
 {
     object(alloc, place, value)?;
     let id = new_id(alloc, place, value, speeds)?;
+    let section = section(alloc, place, value, id, tracks)?;
+    speeds.push(section, id)?;
+    Ok(())
+}
+
+/// All of a speed section with this id.
+fn section(
+    alloc: Global,
+    place: &Place,
+    value: &Value,
+    id: &str,
+    tracks: &Listed<Track>,
+) -> Result<SpeedSection, InfraFault>
+    ensures read { Gives (λ section. section) result
+        (and_then (limit_at place.now (view value.now)) λ limit.
+        and_then (ranges_at place.now tracks.now (view value.now)) λ ranges.
+        Ok (record { id = id.now; limit = limit; ranges = ranges })) }
+    ensures id { IfOk result (λ section. section.id ≡ id.now) }
+    ensures within { IfOk result (IsSpeed (lengths_of tracks.now)) }
+{
     let limit = limit(alloc, place, value)?;
     let ranges = ranges(alloc, place, value, tracks)?;
-    let section = SpeedSection {
+    Ok(SpeedSection {
         id: Name::from_bytes(alloc, id.as_bytes())?,
         limit,
         ranges,
-    };
-    speeds.push(section, id)?;
-    Ok(())
+    })
 }
 
 /// The limit of a section in millimetres a second, None where it is absent or null.
@@ -129,8 +147,7 @@ fn mm_s(alloc: Global, place: &Place, found: &Value) -> Result<u32, InfraFault>
         scaled_in(found, false, true),
     )?;
     let mm_s = not_negative(alloc, place, "speed_limit", &number)?;
-    let mm_s = counted(mm_s)?;
-    Ok(mm_s)
+    counted(mm_s)
 }
 
 /// What a limit counts as: none may be 0, and a greater one counts as the greatest speed.
@@ -159,8 +176,7 @@ fn ranges(
     ensures within { IfOk result (λ ranges. All (IsRange (lengths_of tracks.now)) ranges) }
 {
     let items = list(alloc, place, value, "track_ranges")?;
-    let ranges = read_ranges(alloc, place, items, tracks)?;
-    Ok(ranges)
+    read_ranges(alloc, place, items, tracks)
 }
 
 fn read_ranges(

@@ -37,8 +37,7 @@ pub(crate) fn ways(
     let Some(found) = value.get("switches_directions") else {
         return Ok(List::new(alloc));
     };
-    let ways = ways_in(alloc, place, found, switches)?;
-    Ok(ways)
+    ways_in(alloc, place, found, switches)
 }
 
 fn ways_in(
