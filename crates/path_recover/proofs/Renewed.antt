@@ -1,6 +1,6 @@
 -- A file of version 1 in the version of today.
 use Rattle.std.proofs.Common.{◌≡◌, ℕ, ◌+◌, List, [], ◌∷◌, ◌++◌, length, take, Option, None, Some, Result, Ok, Err, refl, sym, ap, ◌∙◌, subst, arith, append_assoc, length-append}
-use Rattle.std.specs.Prelude.{IfErr, IfSome, slice_set}
+use Rattle.std.specs.Prelude.{IfErr, IfOk, IfSome, slice_set}
 use Rattle.std.proofs.lemmas.List.{take_at, nil_from_length}
 use Rattle.rail_types.specs.declared.entries.Entry.{Entry}
 use Rattle.rail_types.specs.Timetables.{Timetable}
@@ -11,8 +11,9 @@ use Rattle.outside_io.specs.declared.disks.Disk.{Ghosts}
 use Rattle.path_recover.specs.declared.journal_reading.faults.OpenFault.{OpenFault}
 use Rattle.path_recover.specs.declared.journal_reading.faults.OpenFault.TheVariants.{ReadFault, Empty, OldVersion, NotAJournal, OtherNetwork, OtherBase, Damaged, Illegal, Memory}
 use Rattle.path_recover.specs.Beginning.{IsAsItWas, WasEmpty}
-use Rattle.path_recover.specs.Failing.{HasFaultCause, IsUnread}
-use Rattle.path_recover.specs.Files.{IsRefused, TellsHistory}
+use Rattle.path_recover.specs.Failing.{HasFaultCause, IsAsFaulty, IsNotOfDisk, IsUnread}
+use Rattle.path_recover.specs.Files.{IsRefused, TellsHistory, WalkIsRefused}
+use Rattle.path_recover.specs.Starts.{StartIsRefused}
 use Rattle.path_recover.specs.Moving.{HasMoveCause, IsMoved, IsMoveRefused, IsUnwritten, move_fault}
 
 pub if-some : {X : Type 0} (P Q : X → Type 0) (o : Option X) → ((x : X) → o ≡ Some x → P x → Q x) → IfSome o P → IfSome o Q
@@ -99,3 +100,50 @@ cause-from before now old_before old_now Memory same cause = (same, cause)
 pub whole-from : {T : Type 0} (timetable : Timetable) (version : ℕ) (network base read : List ℕ) (result : Result T OpenFault) (contents : Option (List ℕ)) → ((entries : List Entry) (fault : OpenFault) → TellsHistory timetable version network base read entries → IsRefused timetable version network base read fault → IsUnread fault) → IfErr result (IsRefused timetable version network base read) → IfSome contents (λ bytes. read ≡ bytes) → IfErr result (λ fault. IfSome contents (λ file. (entries : List Entry) → TellsHistory timetable version network base file entries → IsUnread fault))
 whole-from timetable version network base read (Ok found) contents law refused same = tt
 whole-from timetable version network base read (Err fault) contents law refused same = if-some (λ bytes. read ≡ bytes) (λ file. (entries : List Entry) → TellsHistory timetable version network base file entries → IsUnread fault) contents (λ file told is entries tells. law entries fault (subst (λ (f : List ℕ). TellsHistory timetable version network base f entries) (sym is) tells) refused) same
+
+-- what holds of the bytes that were read holds of the contents
+pub read-ok : {A B : Type 0} (P : A → B → Type 0) (result : Result A OpenFault) (contents : Option B) (read : B) → IfSome contents (λ bytes. read ≡ bytes) → IfOk result (λ it. P it read) → IfOk result (λ it. IfSome contents (P it))
+read-ok P (Ok it) None read same holds = tt
+read-ok P (Ok it) (Some bytes) read same holds = subst (P it) same holds
+read-ok P (Err fault) contents read same holds = tt
+
+pub read-err : {A B : Type 0} (P : B → OpenFault → Type 0) (result : Result A OpenFault) (contents : Option B) (read : B) → IfSome contents (λ bytes. read ≡ bytes) → IfErr result (P read) → IfErr result (λ fault. IfSome contents (λ bytes. P bytes fault))
+read-err P (Ok it) contents read same holds = tt
+read-err P (Err fault) None read same holds = tt
+read-err P (Err fault) (Some bytes) read same holds = subst (λ b. P b fault) same holds
+
+-- the count stays where the fault isn't one of the disk
+pub quiet-cause : {A : Type 0} (before now : ℕ) (result : Result A OpenFault) → now ≡ before → IfErr result IsNotOfDisk → IsAsFaulty before now result
+quiet-cause before now (Ok it) same quiet = same
+quiet-cause before now (Err ReadFault) same quiet = absurd quiet
+quiet-cause before now (Err Empty) same quiet = same
+quiet-cause before now (Err OldVersion) same quiet = same
+quiet-cause before now (Err (NotAJournal at)) same quiet = same
+quiet-cause before now (Err (OtherNetwork had found)) same quiet = same
+quiet-cause before now (Err (OtherBase had found)) same quiet = same
+quiet-cause before now (Err (Damaged at)) same quiet = same
+quiet-cause before now (Err (Illegal entry)) same quiet = same
+quiet-cause before now (Err Memory) same quiet = same
+
+-- a refusal of the beginning of a file, and one of what stands behind its header
+pub start-refused : (timetable : Timetable) (version : ℕ) (network base file : List ℕ) (fault : OpenFault) → StartIsRefused version network base file fault → IsRefused timetable version network base file fault × IsNotOfDisk fault
+start-refused timetable version network base file ReadFault why = absurd why
+start-refused timetable version network base file Empty why = (why, tt)
+start-refused timetable version network base file OldVersion why = (why, tt)
+start-refused timetable version network base file (NotAJournal at) why = (why, tt)
+start-refused timetable version network base file (OtherNetwork had found) why = (why, tt)
+start-refused timetable version network base file (OtherBase had found) why = (why, tt)
+start-refused timetable version network base file (Damaged at) why = absurd why
+start-refused timetable version network base file (Illegal entry) why = absurd why
+start-refused timetable version network base file Memory why = absurd why
+
+pub walk-refused : (timetable : Timetable) (version : ℕ) (network base file left : List ℕ) (fault : OpenFault) → file ≡ header_of_version version network base ++ left → WalkIsRefused timetable version left fault → IsRefused timetable version network base file fault × IsNotOfDisk fault
+walk-refused timetable version network base file left ReadFault split why = absurd why
+walk-refused timetable version network base file left Empty split why = absurd why
+walk-refused timetable version network base file left OldVersion split why = absurd why
+walk-refused timetable version network base file left (NotAJournal at) split why = absurd why
+walk-refused timetable version network base file left (OtherNetwork had found) split why = absurd why
+walk-refused timetable version network base file left (OtherBase had found) split why = absurd why
+walk-refused timetable version network base file left (Damaged at) split why = ((left, split, why), tt)
+walk-refused timetable version network base file left (Illegal entry) split why = ((left, split, why), tt)
+walk-refused timetable version network base file left Memory split why = (tt, tt)

@@ -1,5 +1,5 @@
 -- A file tells one history at most, and one that tells a history is not refused.
-use Rattle.std.proofs.Common.{◌≡◌, ◌≢◌, ◌⊎◌, inl, inr, ℕ, zero, suc, ◌+◌, ◌<◌, ◌≤◌, ◌^◌, List, [], ◌∷◌, ◌++◌, length, take, drop, Option, Some, refl, sym, ap, ◌∙◌, subst, arith, rules, append_assoc, length-append}
+use Rattle.std.proofs.Common.{◌≡◌, ◌≢◌, ◌⊎◌, inl, inr, ℕ, zero, suc, ◌<◌, ◌≤◌, ◌^◌, List, [], ◌∷◌, ◌++◌, length, take, drop, Some, refl, sym, ap, ◌∙◌, subst, arith, rules, append_assoc, length-append}
 use Rattle.std.specs.Prelude.{All, slice_get}
 use Rattle.std.specs.Int.{w32, to_be_bytes}
 use Rattle.std.proofs.lemmas.List.{take_at, drop_at}
@@ -8,13 +8,13 @@ use Rattle.rail_types.specs.declared.entries.Entry.{Entry}
 use Rattle.rail_types.specs.Timetables.{Timetable}
 use Rattle.entry_codec.specs.Body.{body_of}
 use Rattle.entry_codec.specs.Within.{HasBody}
-use Rattle.grant_log.specs.Legal.{IsLegal, Joins}
-use Rattle.grant_journal.specs.Headers.{header_of_version, magic}
+use Rattle.grant_log.specs.Legal.{Joins}
+use Rattle.grant_journal.specs.Headers.{header_of_version}
 use Rattle.grant_journal.specs.Histories.{bodies_of, counted, opened}
 use Rattle.path_recover.specs.declared.journal_reading.faults.OpenFault.{OpenFault}
 use Rattle.path_recover.specs.declared.journal_reading.faults.OpenFault.TheVariants.{ReadFault, Empty, OldVersion, NotAJournal, OtherNetwork, OtherBase, Damaged, Illegal, Memory}
-use Rattle.path_recover.specs.Starts.{DiffersAt, EndsEarly, HasDigests, IsNoJournal, IsOldVersion, start_of}
-use Rattle.path_recover.specs.Walks.{BeginsShut, BeginsWhole, IsDamagedAt, IsIllegalAt, IsSpelledIn}
+use Rattle.path_recover.specs.Starts.{DiffersAt, start_of}
+use Rattle.path_recover.specs.Walks.{BeginsWhole, IsDamagedAt, IsIllegalAt, IsSpelledIn}
 use Rattle.path_recover.specs.Failing.{IsUnread}
 use Rattle.path_recover.specs.Files.{IsFound, IsRefused, TellsHistory}
 

@@ -1,5 +1,5 @@
 -- What has been read so far, and how one record more follows.
-use Rattle.std.proofs.Common.{◌≡◌, ◌≢◌, ◌⊎◌, inr, ℕ, ◌+◌, ◌<◌, ◌^◌, List, [], ◌∷◌, ◌++◌, length, refl, sym, ap, ◌∙◌, subst, arith, rules, append_assoc, length-append}
+use Rattle.std.proofs.Common.{◌≡◌, ◌≢◌, ◌⊎◌, inl, inr, ℕ, ◌+◌, ◌<◌, ◌^◌, List, [], ◌∷◌, ◌++◌, length, refl, sym, ap, ◌∙◌, subst, arith, rules, append_assoc, length-append}
 use Rattle.std.specs.Prelude.{All}
 use Rattle.std.specs.Int.{w32, to_be_bytes}
 use Rattle.std.proofs.lemmas.Grind.{flat_map-append}
@@ -14,7 +14,11 @@ use Rattle.byte_fields.specs.Unread.{Unread}
 use Rattle.grant_log.specs.Following.{AreLive}
 use Rattle.grant_log.specs.Legal.{IsLegal, Joins, Register}
 use Rattle.grant_journal.specs.Histories.{bodies_of, counted, opened}
-use Rattle.path_recover.specs.Walks.{BeginsShut, BeginsWhole, IsDamagedAt, IsIllegalAt, IsReadTo, IsSpelledIn, Passes}
+use Rattle.path_recover.specs.declared.journal_reading.faults.OpenFault.{OpenFault}
+use Rattle.path_recover.specs.declared.journal_reading.faults.OpenFault.TheVariants.{Damaged, Illegal, Memory}
+use Rattle.path_recover.specs.declared.journal_reading.records.Next.TheVariants.{Broken, Record}
+use Rattle.path_recover.specs.Files.{WalkIsRefused}
+use Rattle.path_recover.specs.Walks.{BeginsShut, BeginsWhole, IsDamagedAt, IsIllegalAt, IsReadTo, IsSpelledIn, NextIs, Passes}
 
 -- the entries so far stand here, and the live claims are held
 pub record Walked (timetable : Timetable) (version : ℕ) (left : List ℕ) (history : Register)
@@ -57,7 +61,7 @@ record_size body = omega (arith, length-append (to_be_bytes w32 (length body)) b
     four n = refl
 
 module _ (timetable : Timetable) (version : ℕ) (left : List ℕ) (history : Register) (book : List Zone) (place : Unread) (walked : Walked timetable version left history book place) where
-  pub walked-more : (entry : Entry) (next : Register) (after : List Zone) (behind : Unread) → BeginsWhole place.left (body_of entry) behind.left → IsSpelledIn version entry → behind.at ≡ place.at + (length (body_of entry) + 5) → next.timetable ≡ history.timetable → next.entries ≡ history.entries ++ entry ∷ [] → AreLive history.timetable (held after) next.entries → length after ≡ history.timetable.net.zones → Walked timetable version left next after behind
+  pub walked-more : (entry : Entry) (next : Register) (after : List Zone) (behind : Unread) → BeginsWhole place.left (body_of entry) behind.left → IsSpelledIn version entry → behind.at ≡ place.at + (length (body_of entry) + 5) → next.timetable ≡ history.timetable → next.entries ≡ history.entries ++ entry ∷ [] → AreLive next.timetable (held after) next.entries → length after ≡ history.timetable.net.zones → Walked timetable version left next after behind
   walked-more entry next after behind whole spelled at same entries live zones = record {
     same = same ∙ walked.same;
     split = split-more left place.left behind.left history.entries entry walked.split whole ∙ ap (λ all. opened (bodies_of all) ++ behind.left) (sym entries);
@@ -65,7 +69,7 @@ module _ (timetable : Timetable) (version : ℕ) (left : List ℕ) (history : Re
     next = inr whole.next;
     spelled = subst (All (IsSpelledIn version)) (sym entries) (All-append (IsSpelledIn version) history.entries (entry ∷ []) walked.spelled (All-one (IsSpelledIn version) entry spelled));
     at = omega (arith, at, walked.at, ap (λ all. length (opened (bodies_of all))) entries, ap length (opened-more history.entries entry), length-append (opened (bodies_of history.entries)) (1 ∷ counted (body_of entry)), record_size (body_of entry));
-    live = subst (λ t. AreLive t (held after) next.entries) walked.same live;
+    live = subst (λ t. AreLive t (held after) next.entries) (same ∙ walked.same) live;
     zones = zones ∙ ap (λ t. t.net.zones) walked.same;
   }
 
@@ -108,3 +112,16 @@ module _ (timetable : Timetable) (version : ℕ) (left : List ℕ) (history : Re
     stale = λ joins. stale (subst (λ t. Joins t history.entries entry) (sym walked.same) joins);
     place = is;
   }
+
+  -- why the walk is refused where no entry stands next, and where the next one does not join
+  pub refused-next : (gate : ℕ) (behind : Unread) (fault : OpenFault) → gate ≡ 76 + place.at → IsLegal history.timetable history.entries → (fault ≡ Memory) ⊎ ((fault ≡ Damaged gate) × NextIs version place behind Broken) → WalkIsRefused timetable version left fault
+  refused-next gate behind fault is legal why = elim why [
+    | inl memory ↦ subst (WalkIsRefused timetable version left) (sym memory) tt
+    | inr damaged ↦ subst (WalkIsRefused timetable version left) (sym damaged.0) (damaged-at gate is legal damaged.1.0 damaged.1.1)
+  ]
+
+  pub refused-join : (entry : Entry) (behind : Unread) (position : ℕ) (fault : OpenFault) → position ≡ length history.entries → IsLegal history.timetable history.entries → NextIs version place behind (Record entry) → (fault ≡ Memory) ⊎ ((fault ≡ Illegal position) × (Joins history.timetable history.entries entry → ⊥)) → WalkIsRefused timetable version left fault
+  refused-join entry behind position fault is legal stands why = elim why [
+    | inl memory ↦ subst (WalkIsRefused timetable version left) (sym memory) tt
+    | inr stale ↦ subst (WalkIsRefused timetable version left) (sym stale.0) (illegal-at entry behind.left position is legal stands.0 stands.1 stale.1)
+  ]

@@ -1,6 +1,7 @@
 ghost use Rattle.std.specs.Prelude.{◌≡◌, ◌+◌, ◌<◌, ◌≤◌, ◌∷◌, ◌++◌, [], ℕ, List, Some, IfErr, IfOk};
 ghost use Rattle.std.specs.Prelude.{IfSome, OnErr, OnOk, length, slice_set, take};
 ghost use Rattle.outside_io.specs.Faults.{HasCause};
+ghost use Rattle.rail_types.specs.declared.entries.Entry.{Entry as entry_type};
 ghost use Rattle.rail_types.specs.Timetables.{IsTimetable, timetable_of};
 ghost use Rattle.grant_journal.specs.Headers.{header_of};
 ghost use Rattle.grant_journal.specs.Histories.{bodies_of, front_of};
@@ -67,6 +68,49 @@ fn write_first<D: Disk>(disk: &mut D, bytes: &[u8]) -> Result<(), Failed>
     Ok(())
 }
 
+// The offset of the first gate that is not open in a file of version 1, and how many entries
+// stand before it.
+fn gate_of(
+    alloc: Global,
+    file: &[u8],
+    empty: History,
+    network: &[u8; 32],
+    base: &[u8; 32],
+) -> Result<(u64, u64), OpenFault>
+    requires empty { empty.entries ≡ [] }
+    ensures found { IfOk result (λ found. (entries : List entry_type)
+        × IsFound empty.timetable 1 network.now base.now file.now entries found.0
+        × (found.1 ≡ length entries)) }
+    ensures refused { IfErr result
+        (IsRefused empty.timetable 1 network.now base.now file.now) }
+    ensures quiet { IfErr result IsNotOfDisk }
+{
+    let found = read_bytes(alloc, file, empty, 1, network, base)?;
+    Ok((found.gate, found.history.front()))
+}
+
+// The new file of an old one with these bytes, and how many entries it has.
+fn renewed_from(
+    alloc: Global,
+    file: Vec<u8>,
+    empty: History,
+    network: &[u8; 32],
+    base: &[u8; 32],
+) -> Result<(Vec<u8>, u64), OpenFault>
+    requires empty { empty.entries ≡ [] }
+    ensures moved { IfOk result (λ moved. IsMoved empty.timetable network.now base.now moved.1
+        (λ image. image ≡ moved.0.items) file.items) }
+    ensures refused { IfErr result
+        (IsRefused empty.timetable 1 network.now base.now file.items) }
+    ensures quiet { IfErr result IsNotOfDisk }
+{
+    let (gate, count) = gate_of(alloc, &file, empty, network, base)?;
+    match renewed(file, gate as usize) {
+        Ok(bytes) => Ok((bytes, count)),
+        Err(NoMemory) => Err(OpenFault::Memory),
+    }
+}
+
 // The new file of an old one, and how many entries it has.
 fn read_old<E: Disk>(
     alloc: Global,
@@ -84,12 +128,7 @@ fn read_old<E: Disk>(
     ensures cause { IsAsFaulty (E.faults from.old) (E.faults from.new) result }
 {
     let file = read_file(alloc, from)?;
-    let found = read_bytes(alloc, &file, empty, 1, network, base)?;
-    let count = found.history.front();
-    match renewed(file, found.gate as usize) {
-        Ok(bytes) => Ok((bytes, count)),
-        Err(NoMemory) => Err(OpenFault::Memory),
-    }
+    renewed_from(alloc, file, empty, network, base)
 }
 
 /// Moves a journal of version 1 to an empty disk, for the same network's file and base

@@ -1,23 +1,7 @@
-use Rattle.std.proofs.Common.{◌≡◌, List, [], ◌∷◌, ◌++◌, sym, ap, subst}
-use Rattle.rail_types.specs.declared.entries.Entry.{Entry}
-use Rattle.occupation_book.specs.Held.{held}
-use Rattle.grant_log.specs.Following.{AreLive}
 use Rattle.grant_log.proofs.Changing.{fresh_keeps}
 use Rattle.path_recover.proofs.history_reading.joins.take.Goals as goal
 
 pub change_of-requires : goal.change_of-requires
 change_of-requires c =
-    let old = c.args.history.now in
-    c.requires.claims (fresh_keeps old.timetable old.entries c.args.entry _ c.requires.joins.fresh (c.verdicts_say_what_they_mean.ensures.says old.timetable old.entries c.args.entry))
-
-pub follow-requires-clause-live : goal.follow-requires-clause-live
-follow-requires-clause-live c =
-    let old = c.args.history.now in
-    subst (λ l. AreLive old.timetable l old.entries) (sym c.reserve_change.ensures.held) c.requires.live
-
-pub returns-clause-live : goal.returns-clause-live
-returns-clause-live c =
-    let old = c.args.history.now in
-    let before = subst (λ l. AreLive old.timetable l old.entries) (sym c.reserve_change.ensures.held) c.requires.live in
-    let entries : c.push.new.self.entries ≡ old.entries ++ c.args.entry ∷ [] = ap (λ h. h.entries) c.push.ensures in
-    subst (AreLive old.timetable (held c.follow.new.book)) (sym entries) (c.live_claims_follow.ensures.follow old.timetable old.entries c.args.entry (held c.reserve_change.new.book) (held c.follow.new.book) before c.follow.ensures.follow)
+    let history = c.args.history.now in
+    c.requires.claims (fresh_keeps history.timetable history.entries c.args.entry.now _ c.requires.joins.fresh (c.verdicts_say_what_they_mean.ensures.says history.timetable history.entries c.args.entry.now))

@@ -1,14 +1,16 @@
-use Rattle.std.proofs.Common.{◌≡◌, ℕ, List, ◌∷◌, ◌++◌, [], take, ap, ◌∙◌, subst}
-use Rattle.std.specs.Prelude.{slice_set}
-use Rattle.path_recover.specs.Files.{IsFound}
+use Rattle.std.proofs.Common.{◌≡◌}
+use Rattle.path_recover.specs.Files.{IsRefused}
 use Rattle.path_recover.specs.Moving.{IsMoved}
-use Rattle.path_recover.proofs.Renewed.{if-some, is-renewed}
+use Rattle.path_recover.proofs.Renewed.{quiet-cause, read-err, read-ok}
 use Rattle.path_recover.proofs.history_reading.moves.read_old.Goals as goal
 
-pub returns-in-Ok-clause-moved : goal.returns-in-Ok-clause-moved
-returns-in-Ok-clause-moved g c =
-    let timetable = c.args.empty.timetable in
-    let found = c.in_ok-found.found in
-    if-some (λ bytes. c.in_ok-file.file.items ≡ bytes) (IsMoved timetable c.args.network.now c.args.base.now c.front-count.result (λ image. image ≡ c.in-Ok.bytes.items)) (g.E.Disk.contents c.args.from.now)
-    (λ bytes told same. is-renewed timetable c.args.network.now c.args.base.now bytes c.in-Ok.bytes.items found.history.entries found.gate c.front-count.result c.told-network c.told-base (subst (λ file. IsFound timetable 1 c.args.network.now c.args.base.now file found.history.entries found.gate) (c.deref.ensures.value ∙ same) c.in_ok-found.ensures.found) (c.in-Ok.ensures ∙ ap (λ (l : List ℕ). slice_set (take found.gate l) 11 2 ++ 0 ∷ []) same) c.front-count.ensures.front)
-    c.in_ok-file.ensures.bytes
+pub returns-clause-moved : goal.returns-clause-moved
+returns-clause-moved g c =
+    read-ok (λ moved file. IsMoved c.args.empty.timetable c.args.network.now c.args.base.now moved.1 (λ image. image ≡ moved.0.items) file) c.renewed_from.result (g.E.Disk.contents c.args.from.now) c.in_ok-file.file.items c.in_ok-file.ensures.bytes c.renewed_from.ensures.moved
+
+pub returns-clause-refused : goal.returns-clause-refused
+returns-clause-refused g c =
+    read-err (λ file. IsRefused c.args.empty.timetable 1 c.args.network.now c.args.base.now file) c.renewed_from.result (g.E.Disk.contents c.args.from.now) c.in_ok-file.file.items c.in_ok-file.ensures.bytes c.renewed_from.ensures.refused
+
+pub returns-clause-cause : goal.returns-clause-cause
+returns-clause-cause g c = quiet-cause (g.E.Disk.faults c.args.from.now) (g.E.Disk.faults c.read_file.new.disk) c.renewed_from.result c.in_ok-file.ensures.cause c.renewed_from.ensures.quiet
