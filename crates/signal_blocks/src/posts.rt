@@ -22,7 +22,7 @@ use track_graph::{Graph, Stand};
 
 /// A block signal at the detector to which it belongs: the detector's number with the signal's
 /// direction, the metres between them, the sight distance.
-#[derive(Clone, Copy, Debug, PartialEq, Eq)]
+#[derive(Clone, Copy)]
 pub struct Post {
     pub point: u32,
     pub gap_m: u64,

@@ -19,7 +19,7 @@ use std::alloc::Global;
 use track_graph::{Graph, Piece};
 
 /// A piece of a track, and its zone.
-#[derive(Clone, Copy, Debug, PartialEq, Eq)]
+#[derive(Clone, Copy)]
 pub struct ZonedPiece {
     pub zone: u32,
     pub piece: Piece,
