@@ -1,8 +1,9 @@
 -- Lists over a range of numbers, as the range grows by one.
-use Rattle.std.proofs.Common.{◌≡◌, ℕ, zero, suc, ◌+◌, List, [], ◌∷◌, ◌++◌, slice_index_or, ap, ◌∙◌, arith}
-use Rattle.std.specs.List.{flat_map, range_with_len}
+use Rattle.std.proofs.Common.{◌≡◌, ℕ, zero, suc, ◌+◌, List, [], ◌∷◌, ◌++◌, slice_index_or, sym, ap, ◌∙◌, append_assoc, arith, Option}
+use Rattle.std.specs.List.{filter_map, flat_map, range_with_len}
 use Rattle.std.proofs.lemmas.Grind.{flat_map-append}
 use Rattle.std.proofs.lemmas.List.{append-nil}
+use Rattle.std.proofs.lemmas.List.Elements.{filter_map-append}
 use Rattle.std.proofs.lemmas.List.FromFn.{map-range_with_len_more}
 use Rattle.track_graph.specs.Layouts.{Layout, zone_at}
 use Rattle.track_graph.specs.Pieces.{pieces_of}
@@ -25,3 +26,7 @@ tracks_more layout n =
     ap (flat_map (zoned_on layout)) longer ∙ flat_map-append (zoned_on layout) (range_with_len 0 n) (n ∷ []) ∙ ap (λ xs. zoned_pieces layout n ++ xs) (append-nil (zoned_on layout n))
 
 pub ruleset tracks_grow = (tracks_more)
+
+-- what a list gives where one element is taken from the rest
+pub one_more : {X Y : Type 0} (h : X → Option Y) (x : X) (before : List Y) (rest : List X) → (before ++ filter_map h (x ∷ [])) ++ filter_map h rest ≡ before ++ filter_map h (x ∷ rest)
+one_more h x before rest = append_assoc before (filter_map h (x ∷ [])) (filter_map h rest) ∙ sym (ap (λ l. before ++ l) (filter_map-append h (x ∷ []) rest))

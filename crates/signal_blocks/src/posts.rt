@@ -1,6 +1,7 @@
 //! Block signals at their detectors.
 
-ghost use Rattle.std.specs.Prelude.{◌≡◌, ℕ, ◌+◌, ◌*◌, ◌<◌, ◌≤◌, ◌^◌, length, map, filter};
+ghost use Rattle.std.specs.Prelude.{◌≡◌, ℕ, ◌+◌, ◌*◌, ◌<◌, ◌≤◌, ◌^◌, ◌∷◌, ◌++◌, []};
+ghost use Rattle.std.specs.Prelude.{length, map, filter};
 ghost use Rattle.std.specs.Prelude.{option_map, slice_get, slice_set, nat_le, OnOk, IfOk, IfSome};
 ghost use Rattle.std.specs.Prelude.{Some, None};
 ghost use Rattle.std.specs.List.{All, AllPairs, Contains};
@@ -125,11 +126,25 @@ fn posts_of(alloc: Global, graph: &Graph, signals: &[Signal]) -> Result<Vec<Post
 {
     let mut posts = Vec::new(alloc);
     'signals: for signal in signals {
-        if let Some(post) = post_of(graph, signal) {
-            posts.push(post)?;
-        }
+        add_post(graph, signal, &mut posts)?;
     }
     Ok(posts)
+}
+
+/// Adds the signal at its detector, where there is one.
+fn add_post(graph: &Graph, signal: &Signal, to: &mut Vec<Post>) -> Result<(), NoMemory>
+    requires signal { IsSignal (length graph.now.infra.tracks) signal.now }
+    requires few { 2 * length graph.now.infra.detectors < 2 ^ 32 }
+    requires within { All (IsPost (2 * length graph.now.infra.detectors)) to.old.items }
+    ensures ok { OnOk result
+        (to.new.items ≡ to.old.items ++ posts_of graph.now (signal.now ∷ [])) }
+    ensures within { OnOk result
+        (All (IsPost (2 * length graph.now.infra.detectors)) to.new.items) }
+{
+    if let Some(post) = post_of(graph, signal) {
+        to.push(post)?;
+    }
+    Ok(())
 }
 
 /// The signal at its detector, None where it is no block signal, or no detector is ahead.
