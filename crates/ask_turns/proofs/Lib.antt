@@ -8,6 +8,7 @@ pub mod Short
 pub mod Showing
 pub mod Ended
 pub mod Guided
+pub mod Handed
 pub mod Kept
 pub mod Known
 pub mod Opened

@@ -78,3 +78,6 @@ up faults m given old new now found lent entries put again =
       counts = put.quiet ∙ sym (count_then faults m given old new found lent entries);
       settled = put.settled ∙ ap length (sym entries);
     }
+
+pub no_more : (before now : ℕ) → now ≡ before → before ≤ now
+no_more before now same = omega arith

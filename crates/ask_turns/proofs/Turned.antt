@@ -7,8 +7,11 @@ use Rattle.book_gate.specs.Passes.{opened, view}
 use Rattle.book_gate.specs.Steps.{served}
 use Rattle.book_gate.specs.Views.{StartsWith}
 use Rattle.path_commit.specs.declared.stands.Footing.{Footing}
-use Rattle.path_commit.specs.Ledgers.{Ledger}
+use Rattle.path_commit.specs.Footings.{footing_of}
+use Rattle.path_commit.specs.Ledgers.{Ledger, settled_of}
+use Rattle.path_commit.specs.history.Legal.{IsInRange}
 use Rattle.rail_types.specs.declared.entries.Entry.{Entry}
+use Rattle.rail_types.specs.Timetables.{Timetable}
 use Rattle.ask_turns.specs.declared.client_turns.clients.Client.{Client}
 use Rattle.ask_turns.specs.declared.client_turns.halts.Halt.{Halt}
 use Rattle.ask_turns.specs.declared.client_turns.told.Entered.{Entered}
@@ -31,6 +34,29 @@ module _ {D : Type 0} (faults : D → ℕ) (gate : Gate (Ledger D) Entry Footing
   same_starts same =
       ([], ap (λ (b : Ledger D). b.entries) (same ∙ lent) ∙ open_now.list ∙ sym (append-nil (view new).found.list))
 
+  pub count_still : left ≡ book → (view new).found.count ≤ faults left.disk
+  count_still same =
+      let is = ap (λ (b : Ledger D). faults b.disk) (same ∙ lent) in
+      let count = open_now.counts in omega arith
+
+  pub footing_still : left ≡ book → footing_of left ≡ footing_of (opened gate)
+  footing_still same = ap footing_of (same ∙ lent) ∙ open_now.footing
+
+  -- the book has nothing pending when the turn begins
+  pub settled_all : settled_of book ≡ length book.entries
+  settled_all = subst (λ (b : Ledger D). settled_of b ≡ length b.entries) (sym lent) open_now.settled
+
+  pub in_range : (entry : Entry) → IsInRange (timetable_at gate) entry
+      → IsInRange book.timetable entry
+  in_range entry within =
+      subst (λ (t : Timetable). IsInRange t entry)
+      (sym (same_timetable book (opened gate) (ap footing_of lent ∙ open_now.footing))) within
+
+  pub counts_on : faults book.disk ≤ faults left.disk → (view new).found.count ≤ faults left.disk
+  counts_on later =
+      let is = ap (λ (b : Ledger D). faults b.disk) lent in
+      let count = open_now.counts in omega arith
+
   -- what a client knew before is no more than what the book has
   pub front_within : (known : Client) → Knows (timetable_at gate) known (view old).seen
       → known.front ≤ length book.entries
@@ -45,6 +71,10 @@ module _ {D : Type 0} (faults : D → ℕ) (gate : Gate (Ledger D) Entry Footing
   module _ (w : Sight) (ends : w ≡ served (view new) (stands faults left)) where
     found_still : (view new).found.list ≡ w.found.list
     found_still = ap (λ (x : Sight). x.found.list) (sym ends)
+
+    -- what was told of the book is told of what the turn found
+    pub list_found : book.entries ≡ w.found.list
+    list_found = ap (λ (b : Ledger D). b.entries) lent ∙ open_now.list ∙ found_still
 
     pub copied : IsCopyOf (timetable_at gate) client w.found.list
     copied = subst (IsCopyOf (timetable_at gate) client) found_still open_now.copy

@@ -1,10 +1,15 @@
 //! One search beside a client's copy.
 
-ghost use Rattle.std.specs.Prelude.{◌≡◌, ◌≤◌, false, [], IfOk, IsTrue, length};
+ghost use Rattle.std.specs.Prelude.{◌≡◌, ◌++◌, ◌≤◌, false, [], IfOk, IsTrue, OnOk, length};
+ghost use Rattle.client_lines.specs.Rooms.{PrintsRuns};
 ghost use Rattle.client_lines.specs.Within.{AreSound};
 ghost use Rattle.path_labels.specs.Answers.{IsFinding, claims_held};
 ghost use Rattle.path_labels.specs.Guides.{IsListed};
-ghost use Rattle.ask_turns.specs.Finds.{HasRoom, IsFoundBeside, MayBeSearched, entry_for};
+ghost use Rattle.proof_texts.specs.Prints.{HasPointsOf};
+ghost use Rattle.proof_texts.specs.Texts.{proof_text};
+ghost use Rattle.rail_types.specs.declared.limits.TheConstants.{MAX_NUMBER};
+ghost use Rattle.ask_turns.specs.Finds.{HasRoom, HasRoomOf, IsFoundBeside, MayBeSearched};
+ghost use Rattle.ask_turns.specs.Finds.{entry_for};
 ghost use Rattle.ask_turns.specs.Shown.{IsShown, ShowsBeside};
 
 use crate::asks::{Ask, Found};
@@ -17,6 +22,7 @@ use client_lines::reply_texts::reply_room;
 use no_memory::NoMemory;
 use path_labels::{Guide, find_by};
 use proof_texts::{Proof, proof_text};
+use rail_types::named_network::Named;
 use rail_types::{Deed, Entry, MAX_NUMBER, Path, Settings, Wanted};
 use std::alloc::Global;
 
@@ -51,10 +57,29 @@ pub(crate) fn find_entry(
     let Some(path) = sought else {
         return Ok(None);
     };
+    let found = taken(alloc, client, ask, path, text)?;
+    Ok(Some(found))
+}
+
+// What takes a path that was found for an ask, with room for the reply that tells it.
+fn taken(
+    alloc: Global,
+    client: &Client,
+    ask: &Ask,
+    path: Path,
+    text: &mut Buffer,
+) -> Result<Found, NoMemory>
+    requires prints { PrintsRuns (length path.runs) path.runs }
+    ensures entry { IfOk result (λ found. found.entry ≡ entry_for client.now.name ask.now path) }
+    ensures runs { IfOk result (λ found. found.runs ≡ path.runs) }
+    ensures room { IfOk result (λ found. HasRoomOf text.new found.runs) }
+    ensures held { text.new.held ≡ text.old.held }
+    ensures spare { text.old.spare ≤ text.new.spare }
+{
     text.reserve(reply_room(path.runs.len() as u32))?;
     let runs = path.runs.copy(alloc)?;
     let entry = entry_of(alloc, client, ask, path)?;
-    Ok(Some(Found { entry, runs }))
+    Ok(Found { entry, runs })
 }
 
 // The path of an ask beside the client's copy, or None. The buffer of the proof is emptied before,
@@ -79,23 +104,46 @@ fn seek_path(
         client.now.front ask.now path proof.new.held) }
     ensures bare { proves ≡ false → proof.new.held ≡ [] }
 {
-    certificates_can_be_told();
     proof.clear();
-    let railway = known.railway();
-    let net = &railway.network;
-    if !proves {
-        return find_by(
+    if proves {
+        seek_shown(alloc, known, settings, client, ask, proof)
+    } else {
+        find_by(
             alloc,
-            net,
+            &known.railway().network,
             settings,
             client.copy(),
             &ask.request,
             &ask.guide,
-        );
+        )
     }
+}
+
+// The same along the course of an ask, with the text of what shows the answer in an empty buffer.
+fn seek_shown(
+    alloc: Global,
+    known: &Known,
+    settings: &Settings,
+    client: &Client,
+    ask: &Ask,
+    proof: &mut Buffer,
+) -> Result<Option<Path>, NoMemory>
+    requires sound { AreSound known.now }
+    requires may { MayBeSearched known.now.railway.network settings.now ask.now }
+    requires listed { IsListed ask.now.guide }
+    requires zones { length client.now.copy ≡ known.now.railway.network.zones }
+    requires empty { proof.old.held ≡ [] }
+    ensures found { IfOk result (IsFinding known.now.railway.network settings.now
+        (claims_held client.now.copy) ask.now.request) }
+    ensures shown { IfOk result (λ path. IsShown known.now known.now.railway.network settings.now
+        (claims_held client.now.copy) client.now.front ask.now path proof.new.held) }
+{
+    certificates_can_be_told();
     let Guide::Listed(course) = &ask.guide else {
         unreachable!()
     };
+    let railway = known.railway();
+    let net = &railway.network;
     let found = seek_certified(alloc, net, settings, client.copy(), &ask.request, course)?;
     let Certified {
         path,
@@ -103,18 +151,30 @@ fn seek_path(
         closed,
     } = found;
     let at = client.front();
-    // A text tells no greater numbers; there is no memory for lists that are so long.
-    if at > MAX_NUMBER || closed.members.len() as u64 > MAX_NUMBER {
-        return Err(NoMemory);
-    }
     let shows = Proof {
         at,
         number: ask.number,
         request: excluded,
         closed,
     };
-    proof_text(&shows, railway, proof)?;
+    append_proof(&shows, railway, proof)?;
     Ok(path)
+}
+
+// Appends the text of what shows an answer. A text tells no greater numbers than these; there is
+// no memory for lists that are so long.
+fn append_proof(shows: &Proof, railway: &Named, proof: &mut Buffer) -> Result<(), NoMemory>
+    requires points { HasPointsOf (length railway.now.stops) shows.now.request }
+    ensures early { OnOk result (shows.now.at ≤ MAX_NUMBER) }
+    ensures few { OnOk result (length shows.now.closed.members ≤ MAX_NUMBER) }
+    ensures text { OnOk result
+        (proof.new.held ≡ proof.old.held ++ proof_text railway.now.stops shows.now) }
+{
+    if shows.at > MAX_NUMBER || shows.closed.members.len() as u64 > MAX_NUMBER {
+        Err(NoMemory)
+    } else {
+        proof_text(shows, railway, proof)
+    }
 }
 
 // The client's entry that takes a path for an ask.

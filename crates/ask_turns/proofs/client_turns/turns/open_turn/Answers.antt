@@ -1,4 +1,4 @@
-use Rattle.std.proofs.Common.{◌≡◌, ◌≤◌, List, [], length, ap, sym, ◌∙◌, subst, refl, arith}
+use Rattle.std.proofs.Common.{◌≡◌, ℕ, ◌+◌, ◌≤◌, List, [], length, ap, sym, ◌∙◌, subst, refl, arith}
 use Rattle.std.proofs.lemmas.List.{append-nil}
 use Rattle.book_gate.specs.Passes.{opened, view}
 use Rattle.book_gate.specs.Views.{StartsWith}
@@ -163,3 +163,162 @@ returns-clause-open g c =
       copy = its;
       reached = reached;
     }
+
+pub enter-held-requires-clause-own : goal.enter-held-requires-clause-own
+enter-held-requires-clause-own g c = c.requires.ready.0
+
+pub enter-held-requires-clause-idle : goal.enter-held-requires-clause-idle
+enter-held-requires-clause-idle g c = c.requires.ready.1
+
+pub enter-held-requires-clause-budget : goal.enter-held-requires-clause-budget
+enter-held-requires-clause-budget g c = c.requires.budget
+
+pub leave-requires-clause-own : goal.leave-requires-clause-own
+leave-requires-clause-own g c = c.enter-held.ensures.own
+
+pub leave-requires-clause-turn : goal.leave-requires-clause-turn
+leave-requires-clause-turn g c = c.enter-held.ensures.turn
+
+pub leave-requires-clause-footing : goal.leave-requires-clause-footing
+leave-requires-clause-footing g c =
+    c.settle.ensures.footing ∙ ap footing_of c.book.ensures.found ∙ c.enter-held.ensures.footing
+
+pub leave-requires-clause-count : goal.leave-requires-clause-count
+leave-requires-clause-count g c =
+    let faults = g.D.Disk.faults in
+    let m : Sight = view c.enter-held.new.pass in
+    let given : Ledger g.row.D.Denot = c.enter-held.result in let old : Ledger g.row.D.Denot = c.book.result.now in
+    let left : Ledger g.row.D.Denot = c.settle.new.self in
+    subst (λ (count : ℕ). count ≤ faults left.disk)
+    (sym (settling.count_then faults m given old left c.enter-held.ensures.found c.book.ensures.found c.settle.ensures.entries))
+    c.settle.ensures.later
+
+pub returns-in-Fault-clause-name : goal.returns-in-Fault-clause-name
+returns-in-Fault-clause-name g c = refl
+
+pub returns-in-Fault-clause-budget : goal.returns-in-Fault-clause-budget
+returns-in-Fault-clause-budget g c = ap (λ (left : ℕ). left + 1) c.leave.ensures.budget ∙ c.enter-held.ensures.budget
+
+pub returns-in-Fault-clause-ready : goal.returns-in-Fault-clause-ready
+returns-in-Fault-clause-ready g c = (c.leave.ensures.own, c.leave.ensures.idle)
+
+pub leave-requires-then-is_err-clause-own : goal.leave-requires-then-is_err-clause-own
+leave-requires-then-is_err-clause-own g c = c.enter-held.ensures.own
+
+pub leave-requires-then-is_err-clause-turn : goal.leave-requires-then-is_err-clause-turn
+leave-requires-then-is_err-clause-turn g c = c.enter-held.ensures.turn
+
+pub leave-requires-then-is_err-clause-footing : goal.leave-requires-then-is_err-clause-footing
+leave-requires-then-is_err-clause-footing g c =
+    ap footing_of c.book-2.ensures.found ∙ c.settle.ensures.footing ∙ ap footing_of c.book.ensures.found
+    ∙ c.enter-held.ensures.footing
+
+pub leave-requires-then-is_err-clause-count : goal.leave-requires-then-is_err-clause-count
+leave-requires-then-is_err-clause-count g c =
+    let faults = g.D.Disk.faults in
+    let m : Sight = view c.enter-held.new.pass in
+    let given : Ledger g.row.D.Denot = c.enter-held.result in let old : Ledger g.row.D.Denot = c.book.result.now in
+    let left : Ledger g.row.D.Denot = c.settle.new.self in let now : Ledger g.row.D.Denot = c.book-2.result.now in
+    let put = settling.settled_put g.D.Disk old left (faults old.disk) (faults left.disk) c.settle.result
+    c.in_default.not-Fault c.settle.ensures.settles c.settle.ensures.cause in
+    let up = settling.up faults m given old left now c.enter-held.ensures.found c.book.ensures.found
+    c.settle.ensures.entries put c.book-2.ensures.found in
+    settling.no_more m.found.count (faults now.disk) up.counts
+
+pub returns-then-is_err-clause-name : goal.returns-then-is_err-clause-name
+returns-then-is_err-clause-name g c = c.catch_up.ensures.name
+
+pub returns-then-is_err-clause-knows : goal.returns-then-is_err-clause-knows
+returns-then-is_err-clause-knows g c =
+    let faults = g.D.Disk.faults in
+    let m : Sight = view c.enter-held.new.pass in
+    let given : Ledger g.row.D.Denot = c.enter-held.result in let old : Ledger g.row.D.Denot = c.book.result.now in
+    let left : Ledger g.row.D.Denot = c.settle.new.self in let now : Ledger g.row.D.Denot = c.book-2.result.now in
+    let put = settling.settled_put g.D.Disk old left (faults old.disk) (faults left.disk) c.settle.result
+    c.in_default.not-Fault c.settle.ensures.settles c.settle.ensures.cause in
+    let up = settling.up faults m given old left now c.enter-held.ensures.found c.book.ensures.found
+    c.settle.ensures.entries put c.book-2.ensures.found in
+    let footing = ap footing_of c.book-2.ensures.found ∙ c.settle.ensures.footing ∙ ap footing_of c.book.ensures.found
+    ∙ c.enter-held.ensures.footing in
+    subst (λ (list : List Entry). Knows (timetable_at c.args.gate.now) c.catch_up.new.self list)
+    (up.list ∙ ap (λ (x : Sight). x.found.list) (sym c.leave-then-is_err.ensures.served))
+    (subst (λ (t : Timetable). Knows t c.catch_up.new.self now.entries)
+    (same_timetable now (opened c.args.gate.now) footing) c.catch_up.ensures.knows)
+
+pub returns-then-is_err-clause-budget : goal.returns-then-is_err-clause-budget
+returns-then-is_err-clause-budget g c = ap (λ (left : ℕ). left + 1) c.leave-then-is_err.ensures.budget ∙ c.enter-held.ensures.budget
+
+pub returns-then-is_err-clause-ready : goal.returns-then-is_err-clause-ready
+returns-then-is_err-clause-ready g c = (c.leave-then-is_err.ensures.own, c.leave-then-is_err.ensures.idle)
+
+pub leave-requires-in-Some-clause-own : goal.leave-requires-in-Some-clause-own
+leave-requires-in-Some-clause-own g c = c.enter-held.ensures.own
+
+pub leave-requires-in-Some-clause-turn : goal.leave-requires-in-Some-clause-turn
+leave-requires-in-Some-clause-turn g c = c.enter-held.ensures.turn
+
+pub leave-requires-in-Some-clause-footing : goal.leave-requires-in-Some-clause-footing
+leave-requires-in-Some-clause-footing g c =
+    ap footing_of c.book-2.ensures.found ∙ c.settle.ensures.footing ∙ ap footing_of c.book.ensures.found
+    ∙ c.enter-held.ensures.footing
+
+pub leave-requires-in-Some-clause-count : goal.leave-requires-in-Some-clause-count
+leave-requires-in-Some-clause-count g c =
+    let faults = g.D.Disk.faults in
+    let m : Sight = view c.enter-held.new.pass in
+    let given : Ledger g.row.D.Denot = c.enter-held.result in let old : Ledger g.row.D.Denot = c.book.result.now in
+    let left : Ledger g.row.D.Denot = c.settle.new.self in let now : Ledger g.row.D.Denot = c.book-2.result.now in
+    let put = settling.settled_put g.D.Disk old left (faults old.disk) (faults left.disk) c.settle.result
+    c.in_default.not-Fault c.settle.ensures.settles c.settle.ensures.cause in
+    let up = settling.up faults m given old left now c.enter-held.ensures.found c.book.ensures.found
+    c.settle.ensures.entries put c.book-2.ensures.found in
+    settling.no_more m.found.count (faults now.disk) up.counts
+
+pub returns-in-Some-clause-name : goal.returns-in-Some-clause-name
+returns-in-Some-clause-name g c = c.catch_up.ensures.name
+
+pub returns-in-Some-clause-knows : goal.returns-in-Some-clause-knows
+returns-in-Some-clause-knows g c =
+    let faults = g.D.Disk.faults in
+    let m : Sight = view c.enter-held.new.pass in
+    let given : Ledger g.row.D.Denot = c.enter-held.result in let old : Ledger g.row.D.Denot = c.book.result.now in
+    let left : Ledger g.row.D.Denot = c.settle.new.self in let now : Ledger g.row.D.Denot = c.book-2.result.now in
+    let put = settling.settled_put g.D.Disk old left (faults old.disk) (faults left.disk) c.settle.result
+    c.in_default.not-Fault c.settle.ensures.settles c.settle.ensures.cause in
+    let up = settling.up faults m given old left now c.enter-held.ensures.found c.book.ensures.found
+    c.settle.ensures.entries put c.book-2.ensures.found in
+    let footing = ap footing_of c.book-2.ensures.found ∙ c.settle.ensures.footing ∙ ap footing_of c.book.ensures.found
+    ∙ c.enter-held.ensures.footing in
+    subst (λ (list : List Entry). Knows (timetable_at c.args.gate.now) c.catch_up.new.self list)
+    (up.list ∙ ap (λ (x : Sight). x.found.list) (sym c.leave-in-Some.ensures.served))
+    (subst (λ (t : Timetable). Knows t c.catch_up.new.self now.entries)
+    (same_timetable now (opened c.args.gate.now) footing) c.catch_up.ensures.knows)
+
+pub returns-in-Some-clause-budget : goal.returns-in-Some-clause-budget
+returns-in-Some-clause-budget g c = ap (λ (left : ℕ). left + 1) c.leave-in-Some.ensures.budget ∙ c.enter-held.ensures.budget
+
+pub returns-in-Some-clause-ready : goal.returns-in-Some-clause-ready
+returns-in-Some-clause-ready g c = (c.leave-in-Some.ensures.own, c.leave-in-Some.ensures.idle)
+
+pub returns-clause-name : goal.returns-clause-name
+returns-clause-name g c = c.catch_up.ensures.name
+
+pub returns-clause-knows : goal.returns-clause-knows
+returns-clause-knows g c =
+    let faults = g.D.Disk.faults in
+    let m : Sight = view c.enter-held.new.pass in
+    let given : Ledger g.row.D.Denot = c.enter-held.result in let old : Ledger g.row.D.Denot = c.book.result.now in
+    let left : Ledger g.row.D.Denot = c.settle.new.self in let now : Ledger g.row.D.Denot = c.book-2.result.now in
+    let put = settling.settled_put g.D.Disk old left (faults old.disk) (faults left.disk) c.settle.result
+    c.in_default.not-Fault c.settle.ensures.settles c.settle.ensures.cause in
+    let up = settling.up faults m given old left now c.enter-held.ensures.found c.book.ensures.found
+    c.settle.ensures.entries put c.book-2.ensures.found in
+    let footing = ap footing_of c.book-2.ensures.found ∙ c.settle.ensures.footing ∙ ap footing_of c.book.ensures.found
+    ∙ c.enter-held.ensures.footing in
+    subst (λ (list : List Entry). Knows (timetable_at c.args.gate.now) c.catch_up.new.self list)
+    up.list
+    (subst (λ (t : Timetable). Knows t c.catch_up.new.self now.entries)
+    (same_timetable now (opened c.args.gate.now) footing) c.catch_up.ensures.knows)
+
+pub returns-clause-budget : goal.returns-clause-budget
+returns-clause-budget g c = c.enter-held.ensures.budget
