@@ -1,8 +1,8 @@
 -- What a client knows of a history.
-use Rattle.std.proofs.Common.{◌≡◌, true, false, List, Option, Some, None, IsNone, Result, Ok, Err}
+use Rattle.std.proofs.Common.{◌≡◌, true, false, List, [], Option, Some, None, IsNone, Result, Ok, Err}
 use Rattle.std.proofs.Common.{OnOk, length, take, flat_map, ap, sym, ◌∙◌, subst, refl, append_assoc}
 use Rattle.std.specs.Prelude.{is_err, ◌++◌}
-use Rattle.std.proofs.lemmas.List.{take_at}
+use Rattle.std.proofs.lemmas.List.{append-nil, take_at}
 use Rattle.book_gate.specs.Views.{StartsWith}
 use Rattle.path_commit.specs.history.Following.{AreLive}
 use Rattle.path_commit.specs.claims.Held.{claims_by_zone, held}
@@ -10,7 +10,7 @@ use Rattle.path_commit.specs.claims.Zones.{Zone}
 use Rattle.rail_types.specs.Occupation.{HeldClaim}
 use Rattle.rail_types.specs.declared.entries.Entry.{Entry}
 use Rattle.rail_types.specs.Timetables.{Timetable}
-use Rattle.ask_turns.specs.Clients.{Knows}
+use Rattle.ask_turns.specs.Clients.{IsCopyOf, Knows}
 use Rattle.ask_turns.specs.declared.client_turns.clients.Client.{Client}
 
 pub starts_trans : {X : Type 0} (a b c : List X) → StartsWith a b → StartsWith b c → StartsWith a c
@@ -57,3 +57,7 @@ not_err P (Err e) is told = absurd (true_not_false is)
 pub none_there : {X : Type 0} (some : Option X) → ((x : X) → some ≡ Some x → ⊥) → IsNone some
 none_there None absent = refl
 none_there (Some x) absent = absurd (absent x refl)
+
+pub knows_copy : (timetable : Timetable) (client : Client) (entries : List Entry)
+    → IsCopyOf timetable client entries → Knows timetable client entries
+knows_copy timetable client entries copy = (entries, ([], sym (append-nil entries)), copy)

@@ -3,6 +3,7 @@ pub mod CertificatePlaces
 pub mod Passing
 pub mod Copies
 pub mod Judged
+pub mod Rounds
 pub mod Searching
 pub mod Short
 pub mod Showing
