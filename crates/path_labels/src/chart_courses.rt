@@ -75,10 +75,12 @@ impl ChartCourse {
     {
         charts_are_planned();
         let mut chart = chart;
-        let calls = calls_of(alloc, net, followers, request)?;
-        let numbers = chart.numbers_of_calls(alloc, calls.as_slice())?;
-        let starts = starts_of(alloc, net, settings, followers, request, &chart)?;
-        let ahead = aheads_by_calls(alloc, &chart, &calls, &numbers)?;
+        let ways = ways_over(alloc, net, settings, followers, request, &mut chart)?;
+        let Ways {
+            starts,
+            calls,
+            ahead,
+        } = ways;
         Ok(ChartCourse {
             chart,
             starts,
@@ -107,6 +109,80 @@ impl ChartCourse {
             settings.horizon,
         )
     }
+}
+
+// What a course has beside its chart.
+#[derive(Drop)]
+struct Ways {
+    starts: List<ChartWay>,
+    calls: List<ChartCall>,
+    ahead: List<Ahead>,
+}
+
+// What the course of a request has beside the chart of its train; the chart keeps how near the
+// train is to the calls.
+fn ways_over(
+    alloc: Global,
+    net: &Network,
+    settings: &Settings,
+    followers: &Followers,
+    request: &Request,
+    chart: &mut TrainChart,
+) -> Result<Ways, NoMemory>
+    requires followers { AreFollowers net.now followers.now }
+    requires request { IsRequestWithinLimits request.now }
+    requires chart { IsChartOf net.now settings.now request.now.train chart.old }
+    ensures train { chart.new.train ≡ chart.old.train }
+    ensures spots { chart.new.spots ≡ chart.old.spots }
+    ensures chart { chart.new.chart ≡ chart.old.chart }
+    ensures kept { All (IsNearKept chart.old.chart.spots) chart.new.nears }
+    ensures on { IfOk result (λ ways.
+        GoOn chart.old.nears (length ways.calls) chart.new.nears) }
+    ensures calls { IfOk result (λ ways. AreCalls net.now request.now ways.calls) }
+    ensures starts { IfOk result (λ ways.
+        AreStarts net.now settings.now request.now chart.new.spots.spots ways.starts) }
+    ensures ahead { IfOk result (λ ways. All IsAhead ways.ahead) }
+    ensures consistent { IfOk result (λ ways.
+        IsConsistentOver chart.new.chart.spots ways.calls ways.ahead) }
+{
+    let calls = calls_of(alloc, net, followers, request)?;
+    let numbers = chart.numbers_of_calls(alloc, calls.as_slice())?;
+    let begun = starts_with_ahead(
+        alloc, net, settings, followers, request, chart, &calls, &numbers,
+    )?;
+    let (starts, ahead) = begun;
+    Ok(Ways {
+        starts,
+        calls,
+        ahead,
+    })
+}
+
+// The ways with which a path of the request begins, and the ticks ahead of each place.
+fn starts_with_ahead(
+    alloc: Global,
+    net: &Network,
+    settings: &Settings,
+    followers: &Followers,
+    request: &Request,
+    chart: &TrainChart,
+    calls: &List<ChartCall>,
+    numbers: &[usize],
+) -> Result<(List<ChartWay>, List<Ahead>), NoMemory>
+    requires followers { AreFollowers net.now followers.now }
+    requires chart { IsChartOf net.now settings.now request.now.train chart.now }
+    requires dwells { HaveShortDwells calls.now }
+    requires kept { All (IsNearKept chart.now.chart.spots) chart.now.nears }
+    requires numbers { AreNearAt chart.now.nears calls.now numbers.now }
+    ensures starts { IfOk result (λ begun.
+        AreStarts net.now settings.now request.now chart.now.spots.spots begun.0) }
+    ensures ahead { IfOk result (λ begun. All IsAhead begun.1) }
+    ensures consistent { IfOk result (λ begun.
+        IsConsistentOver chart.now.chart.spots calls.now begun.1) }
+{
+    let starts = starts_of(alloc, net, settings, followers, request, chart)?;
+    let ahead = aheads_by_calls(alloc, chart, calls, numbers)?;
+    Ok((starts, ahead))
 }
 
 // The ticks ahead of each place of a plan over a chart, by how near the train is to its calls.
