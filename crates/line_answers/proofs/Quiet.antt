@@ -1,5 +1,5 @@
 -- A reply that added nothing, and whose text could not be made.
-use Rattle.std.proofs.Common.{◌≡◌, ℕ, true, false, All, IfErr, IsOk, is_err, List, [], Result, Ok, Err, ◌∙◌, subst, refl}
+use Rattle.std.proofs.Common.{◌≡◌, ℕ, true, false, All, IfErr, IfOk, IsOk, List, [], Result, Ok, Err, ◌∙◌, subst, refl}
 use Rattle.book_gate.specs.declared.views.Turn.{Turn}
 use Rattle.rail_types.specs.declared.entries.Entry.{Entry}
 use Rattle.client_lines.specs.declared.reply_texts.replies.Reply.{Reply}
@@ -75,7 +75,13 @@ pub if_err : {T E : Type 0} (P : Type 0) (result : Result T E) → P → IfErr r
 if_err P (Ok value) told = tt
 if_err P (Err refused) told = told
 
--- nothing is both told and not
-pub not_told : {T E : Type 0} (P : Type 0) (result : Result T E) → is_err result ≡ true → IsOk result → P
-not_told P (Ok value) err ok = absurd (let wrong : false ≡ true = err in cc)
-not_told P (Err refused) err ok = absurd (let wrong : false ≡ true = ok in cc)
+-- what was told was not refused
+pub told_err : {T E : Type 0} (P : E → Type 0) (result : Result T E) → IsOk result → IfErr result P
+told_err P (Ok value) ok = tt
+told_err P (Err refused) ok = absurd (let wrong : false ≡ true = ok in cc)
+
+-- what holds of a value by two clauses
+pub both_ok : {T E : Type 0} {P Q : T → Type 0} (result : Result T E) (R : T → Type 0)
+    → ((value : T) → P value → Q value → R value) → IfOk result P → IfOk result Q → IfOk result R
+both_ok (Ok value) R so one other = so value one other
+both_ok (Err refused) R so one other = tt

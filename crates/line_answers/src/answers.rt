@@ -1,5 +1,6 @@
 //! One line, answered.
-ghost use Rattle.std.specs.Prelude.{◌≡◌, ◌⊎◌, ◌+◌, ◌++◌, ◌≤◌, [], IfErr, IfOk, OnErr, length};
+ghost use Rattle.std.specs.Prelude.{◌≡◌, ◌⊎◌, ◌+◌, ◌++◌, ◌≤◌, [], IfErr, IfOk, IsErr, IsOk, OnErr};
+ghost use Rattle.std.specs.Prelude.{length};
 ghost use Rattle.book_gate.specs.Passes.{turns_left, view};
 ghost use Rattle.client_lines.specs.Within.{IsAskWithin};
 ghost use Rattle.client_lines.specs.declared.lines.TheConstants.{MAX_LINE_BYTES};
@@ -94,11 +95,32 @@ pub fn answer_one<R: Wait, L: Rule, D: Disk, B: Between>(
     text.reserve(reply_room(0))?;
     let reply = answer_bytes(rt, alloc, shared, guest, rules, line, text, proof);
     keep_proof(guest.proves, &reply, proof);
-    if reply_text(&reply, text).is_err() {
-        proof.clear();
-        return Err(NoMemory);
+    print(reply, text, proof)
+}
+
+// Prints a reply behind what stands in the buffer of its text. For want of memory nothing comes
+// there, and the buffer of the proof is emptied.
+fn print(reply: Reply, text: &mut Buffer, proof: &mut Buffer) -> Result<Reply, NoMemory>
+    ensures same { IfOk result (λ told. told ≡ reply) }
+    ensures text { IfOk result (λ told. text.new.held ≡ text.old.held ++ text_of told) }
+    ensures proved { IfOk result (λ _. proof.new.held ≡ proof.old.held) }
+    ensures untold { OnErr result (text.new.held ≡ text.old.held) }
+    ensures unproved { OnErr result (proof.new.held ≡ []) }
+    ensures room { length (text_of reply) ≤ text.old.spare → IsOk result }
+{
+    match reply_text(&reply, text) {
+        Ok(()) => Ok(reply),
+        Err(NoMemory) => refuse(reply, proof),
     }
-    Ok(reply)
+}
+
+// Refuses a reply for want of memory, and empties the buffer of the proof.
+fn refuse(_reply: Reply, proof: &mut Buffer) -> Result<Reply, NoMemory>
+    ensures refused { IsErr result }
+    ensures emptied { proof.new.held ≡ [] }
+{
+    proof.clear();
+    Err(NoMemory)
 }
 
 // Reads a line and answers it. There is room for the reply, or it tells of no entry

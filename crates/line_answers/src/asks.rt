@@ -1,5 +1,7 @@
 //! A path that is sought: what its number stands for, and then its searches.
 ghost use Rattle.std.specs.Prelude.{◌≡◌, ◌+◌, ◌⊎◌, ◌≤◌, false, IfErr, IfOk, IfSome, IsTrue};
+ghost use Rattle.std.specs.Prelude.{ℕ, Bool, List, [], None};
+ghost use Rattle.admission_rules.specs.Ruled.{Ruled};
 ghost use Rattle.book_gate.specs.Passes.{turns_left, view};
 ghost use Rattle.client_lines.specs.Within.{IsAskWithin};
 ghost use Rattle.client_lines.specs.declared.asks.Ask.TheVariants.{Path as path_of};
@@ -8,7 +10,9 @@ ghost use Rattle.rail_types.specs.Limits.{IsTrainWithinLimits};
 ghost use Rattle.rail_types.specs.declared.entries.Deed.TheVariants.{Grant};
 ghost use Rattle.rail_types.specs.declared.entries.Wanted.TheVariants.{Asked};
 ghost use Rattle.rail_types.specs.declared.paths.Path.{Path as path_type};
-ghost use Rattle.client_lines.specs.Rooms.{room_for};
+ghost use Rattle.client_lines.specs.Rooms.{IsBehindEntry, room_for};
+ghost use Rattle.client_lines.specs.declared.asks.Line.{Line as line_type};
+ghost use Rattle.ask_turns.specs.history.Verdict.{place_of};
 ghost use Rattle.ask_turns.specs.Clients.{HasCopy, IsCopyOf, Knows, StaysCopyOf};
 ghost use Rattle.ask_turns.specs.Sharing.{IsShared};
 ghost use Rattle.ask_turns.specs.labels.ChartCourses.{IsChartCourse};
@@ -16,22 +20,26 @@ ghost use Rattle.ask_turns.specs.labels.Courses.{IsCourse};
 ghost use Rattle.ask_turns.specs.labels.Guides.{IsGuide, IsListed};
 ghost use Rattle.ask_turns.specs.labels.TrainCharts.{IsChartOf};
 ghost use Rattle.ask_turns.specs.tails.Listed.{Refuses};
-ghost use Rattle.ask_turns.specs.Turns.{IsReady, timetable_at};
+ghost use Rattle.ask_turns.specs.Turns.{IsReached, IsReady, Looks, timetable_at};
 ghost use Rattle.line_answers.specs.Asked.{AnswersBehind, HasRoomIn, asking};
-ghost use Rattle.line_answers.specs.Callers.{AnswersAllowed};
+ghost use Rattle.line_answers.specs.Callers.{AnswersAllowed, AnswersLine, caller_of};
+ghost use Rattle.line_answers.specs.Points.{added};
 ghost use Rattle.line_answers.specs.Proved.{ShowsBehind, ShowsLine};
 ghost use Rattle.line_answers.specs.Tells.{AddsNothing};
 
 use crate::lines::Sent;
-use crate::replies::{ask_told, halted, number_told};
-use ask_turns::client_turns::{Client, find_again};
+use crate::numbers::check_number;
+use crate::replies::{ask_told, halted};
+use ask_turns::client_turns::Client;
 use ask_turns::labels::{ChartCourse, Course, Guide, TrainChart, guides_are_narrow};
 use ask_turns::tails::{PlacesFault, SpotsFault, places, sound_networks_are_asked};
 use ask_turns::{Ask, Guest, Shared, try_searches};
+use book_gate::Pass;
 use byte_fields::Buffer;
 use client_lines::reply_texts::Reply;
 use no_memory::NoMemory;
 use outside_io::{Between, Disk};
+use path_commit::Book;
 use proof_texts::asks_can_be_told;
 use rail_types::{Deed, List, Network, Path, Request, Train, Wanted};
 use std::alloc::Global;
@@ -72,28 +80,61 @@ pub(crate) fn ask<R: Wait, D: Disk, B: Between>(
     ensures held { text.new.held ≡ text.old.held }
     ensures room { HasRoomIn text.new result ⊎ AddsNothing result }
 {
-    let Ok(deed) = deed_of(alloc, &request) else {
-        return Reply::NoMemory;
-    };
-    match find_again(
+    match check_request(
         rt,
         alloc,
-        &shared.gate,
+        shared,
         &mut guest.pass,
         &mut guest.client,
-        sent.after,
-        sent.number,
-        &deed,
+        sent,
+        &request,
     ) {
-        Ok(None) => seek_path(rt, alloc, shared, guest, sent, request, text, proof),
-        Ok(Some(told)) => number_told(sent.number, told, guest.client.front()),
-        Err(halt) => halted(halt),
+        Ok(()) => seek_path(rt, alloc, shared, guest, sent, request, text, proof),
+        Err(told) => told,
+    }
+}
+
+// Looks in a turn whether the number of a path that is sought is new, and tells what it is else.
+pub(crate) fn check_request<R: Wait, D: Disk>(
+    rt: &R,
+    alloc: Global,
+    shared: &Shared<D>,
+    pass: &mut Pass<Book<D>>,
+    client: &mut Client,
+    sent: Sent,
+    request: &Request,
+) -> Result<(), Reply>
+    requires ready { IsReady shared.now.gate pass.old }
+    requires budget { 1 ≤ turns_left pass.old }
+    requires knows { Knows (timetable_at shared.now.gate) client.old (view pass.old).seen }
+    requires name { IsClientName client.old.name }
+    ensures ready { IsReady shared.now.gate pass.new }
+    ensures budget { turns_left pass.old ≤ turns_left pass.new + 1 }
+    ensures name { client.new.name ≡ client.old.name }
+    ensures knows { Knows (timetable_at shared.now.gate) client.new (view pass.new).seen }
+    ensures looks { IfOk result (λ _. Looks (view pass.old) (view pass.new)) }
+    ensures reached { IfOk result (λ _. IsReached sent.after (view pass.new).found.list) }
+    ensures unknown { IfOk result (λ _.
+        place_of (view pass.new).found.list client.old.name sent.number ≡ None) }
+    ensures copy { IfOk result (λ _.
+        IsCopyOf (timetable_at shared.now.gate) client.new (view pass.new).found.list) }
+    ensures answers { IfErr result (λ told. (rules : List Ruled)
+        → AnswersLine (caller_of shared.now rules client.old.name sent.line)
+        (asking sent.after sent.number request.now) told (view pass.old) (view pass.new)) }
+    ensures shown { IfErr result (λ told. (line : line_type) (proves : Bool) (text : List ℕ)
+        → ShowsLine shared.now proves line told text (view pass.old) (view pass.new)) }
+    ensures none { IfErr result (λ told. added told ≡ []) }
+    ensures short { IfErr result (λ told. IsBehindEntry 0 told ⊎ AddsNothing told) }
+{
+    match deed_of(alloc, request) {
+        Ok(deed) => check_number(rt, alloc, shared, pass, client, sent, &deed),
+        Err(NoMemory) => Err(Reply::NoMemory),
     }
 }
 
 // The grant of a path without runs for a request: of a path that is asked
 // for the request alone counts.
-pub(crate) fn deed_of(alloc: Global, request: &Request) -> Result<Deed, NoMemory>
+fn deed_of(alloc: Global, request: &Request) -> Result<Deed, NoMemory>
     ensures { IfOk result (λ deed.
         (path : path_type) × (deed ≡ Grant (Asked request.now) path)) }
 {

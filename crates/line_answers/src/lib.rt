@@ -6,6 +6,7 @@ mod answers;
 mod asks;
 mod entries;
 mod lines;
+mod numbers;
 mod replies;
 mod rules;
 mod words;

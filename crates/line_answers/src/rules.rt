@@ -11,7 +11,7 @@ ghost use Rattle.ask_turns.specs.Clients.{Knows};
 ghost use Rattle.ask_turns.specs.Sharing.{IsShared};
 ghost use Rattle.ask_turns.specs.Turns.{IsReady, timetable_at};
 ghost use Rattle.line_answers.specs.Answers.{MayBeDenied};
-ghost use Rattle.line_answers.specs.Asked.{HasRoomIn};
+ghost use Rattle.line_answers.specs.Asked.{HasRoomIn, asking};
 ghost use Rattle.line_answers.specs.Callers.{AnswersDenied, AnswersLine, caller_of};
 ghost use Rattle.line_answers.specs.Points.{added};
 ghost use Rattle.line_answers.specs.Proved.{ShowsLine};
@@ -20,16 +20,17 @@ ghost use Rattle.line_answers.specs.Rules.{told_free, told_grant, wished};
 ghost use Rattle.line_answers.specs.Tells.{AddsNothing};
 
 use crate::answers::answer_line;
-use crate::asks::deed_of;
+use crate::asks::check_request;
 use crate::lines::{Numbered, Sent};
-use crate::replies::{halted, number_told};
+use crate::numbers::check_number;
+use crate::replies::halted;
 use crate::words::free;
 use admission_rules::client_rules::{
     asked_wish, first_denial, given_wish, tell_freed, tell_granted, wish_of,
 };
 use admission_rules::rule_names::RuleName;
 use admission_rules::{Rule, Wish};
-use ask_turns::client_turns::{Client, find_again, show};
+use ask_turns::client_turns::{Client, show};
 use ask_turns::{Guest, Shared};
 use book_gate::Pass;
 use byte_fields::Buffer;
@@ -37,7 +38,7 @@ use client_lines::reply_texts::Reply;
 use client_lines::{Ask, Line};
 use outside_io::{Between, Disk};
 use path_commit::Book;
-use rail_types::{Deed, Wanted};
+use rail_types::{Deed, Request, Wanted};
 use std::alloc::Global;
 use std::sync::Wait;
 
@@ -247,15 +248,12 @@ fn deny<R: Wait, D: Disk>(
             deny_deed(rt, alloc, shared, pass, client, sent, &deed, rule)
         }
         Ask::Path(number, request) => {
-            let Ok(deed) = deed_of(alloc, &request) else {
-                return Reply::NoMemory;
-            };
             let sent = Sent {
                 line,
                 after,
                 number,
             };
-            deny_deed(rt, alloc, shared, pass, client, sent, &deed, rule)
+            deny_asked(rt, alloc, shared, pass, client, sent, &request, rule)
         }
         _ => unreachable!(),
     }
@@ -286,15 +284,47 @@ fn deny_deed<R: Wait, D: Disk>(
     ensures none { added result ≡ [] }
     ensures short { IsBehindEntry 0 result ⊎ AddsNothing result }
 {
-    let Sent { after, number, .. } = sent;
-    match find_again(rt, alloc, &shared.gate, pass, client, after, number, deed) {
-        Ok(None) => Reply::Denied {
-            number,
+    match check_number(rt, alloc, shared, pass, client, sent, deed) {
+        Ok(()) => Reply::Denied {
+            number: sent.number,
             rule,
             front: client.front(),
         },
-        Ok(Some(told)) => number_told(number, told, client.front()),
-        Err(halt) => halted(halt),
+        Err(told) => told,
+    }
+}
+
+// The same of a line with this number that seeks a path for the request.
+fn deny_asked<R: Wait, D: Disk>(
+    rt: &R,
+    alloc: Global,
+    shared: &Shared<D>,
+    pass: &mut Pass<Book<D>>,
+    client: &mut Client,
+    sent: Sent,
+    request: &Request,
+    rule: RuleName,
+) -> Reply
+    requires ready { IsReady shared.now.gate pass.old }
+    requires budget { 1 ≤ turns_left pass.old }
+    requires knows { Knows (timetable_at shared.now.gate) client.old (view pass.old).seen }
+    requires name { IsClientName client.old.name }
+    ensures ready { IsReady shared.now.gate pass.new }
+    ensures budget { turns_left pass.old ≤ turns_left pass.new + 1 }
+    ensures name { client.new.name ≡ client.old.name }
+    ensures knows { Knows (timetable_at shared.now.gate) client.new (view pass.new).seen }
+    ensures answers { AnswersDenied shared.now client.old.name sent.line
+        (asking sent.after sent.number request.now) rule result (view pass.old) (view pass.new) }
+    ensures none { added result ≡ [] }
+    ensures short { IsBehindEntry 0 result ⊎ AddsNothing result }
+{
+    match check_request(rt, alloc, shared, pass, client, sent, request) {
+        Ok(()) => Reply::Denied {
+            number: sent.number,
+            rule,
+            front: client.front(),
+        },
+        Err(told) => told,
     }
 }
 
@@ -329,21 +359,20 @@ fn free_ruled<R: Wait, L: Rule, D: Disk>(
         (view pass.new).seen result (stand L.Rule rules.old) (stand L.Rule rules.new) }
     ensures short { IsBehindEntry 0 result ⊎ AddsNothing result }
 {
-    let Sent { after, number, .. } = sent;
-    let deed = Deed::Free(freed);
-    match find_again(rt, alloc, &shared.gate, pass, client, after, number, &deed) {
-        Ok(None) => {
+    let new = check_number(rt, alloc, shared, pass, client, sent, &Deed::Free(freed));
+    match new {
+        Ok(()) => {
             let front = client.front();
             if front <= freed {
-                return Reply::Unknown {
+                Reply::Unknown {
                     entry: freed,
                     front,
-                };
+                }
+            } else {
+                free_found(rt, alloc, shared, pass, client, rules, sent, freed)
             }
-            free_found(rt, alloc, shared, pass, client, rules, sent, freed)
         }
-        Ok(Some(told)) => number_told(number, told, client.front()),
-        Err(halt) => halted(halt),
+        Err(told) => told,
     }
 }
 

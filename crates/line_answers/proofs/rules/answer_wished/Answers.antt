@@ -9,6 +9,7 @@ use Rattle.line_answers.specs.Points.{added}
 use Rattle.line_answers.specs.Rules.{told_grant}
 use Rattle.line_answers.proofs.Told.{denied_may, untold_by, wished_told}
 use Rattle.line_answers.proofs.Proved.{denied_shows}
+use Rattle.line_answers.proofs.Rooms.{short_room}
 use Rattle.line_answers.proofs.rules.answer_wished.Goals as goal
 
 pub returns-in-Some-clause-told : goal.returns-in-Some-clause-told
@@ -56,3 +57,39 @@ returns-in-Some-clause-shown g c =
     denied_shows c.args.shared.now rules c.args.guest.now.client.name c.args.numbered.number c.args.numbered.line c.args.guest.now.proves c.deny.result
     c.args.proof.now.held (view c.args.guest.now.pass) (view c.deny.new.pass) (c.deny.ensures.answers rules denied) c.in-Some.rule
     (denied_may rules c.args.numbered.line.ask c.in-Some.rule denied) denied
+
+pub returns-in-Some-clause-ready : goal.returns-in-Some-clause-ready
+returns-in-Some-clause-ready g c = c.deny.ensures.ready
+
+pub returns-in-Some-clause-name : goal.returns-in-Some-clause-name
+returns-in-Some-clause-name g c = c.deny.ensures.name
+
+pub returns-in-Some-clause-knows : goal.returns-in-Some-clause-knows
+returns-in-Some-clause-knows g c = c.deny.ensures.knows
+
+pub returns-clause-ready : goal.returns-clause-ready
+returns-clause-ready g c = c.answer_line-reply.ensures.ready
+
+pub returns-clause-name : goal.returns-clause-name
+returns-clause-name g c = c.answer_line-reply.ensures.name
+
+pub returns-clause-knows : goal.returns-clause-knows
+returns-clause-knows g c = c.answer_line-reply.ensures.knows
+
+pub returns-clause-budget : goal.returns-clause-budget
+returns-clause-budget g c = c.answer_line-reply.ensures.budget
+
+pub returns-clause-proves : goal.returns-clause-proves
+returns-clause-proves g c = c.answer_line-reply.ensures.proves
+
+pub returns-clause-shown : goal.returns-clause-shown
+returns-clause-shown g c = c.answer_line-reply.ensures.shown
+
+pub returns-clause-held : goal.returns-clause-held
+returns-clause-held g c = c.answer_line-reply.ensures.held
+
+pub returns-clause-room : goal.returns-clause-room
+returns-clause-room g c = c.answer_line-reply.ensures.room
+
+pub returns-in-Some-clause-room : goal.returns-in-Some-clause-room
+returns-in-Some-clause-room g c = short_room c.args.text.now c.deny.result c.requires.spare c.deny.ensures.short

@@ -1,0 +1,64 @@
+use Rattle.std.proofs.Common.{◌≡◌, ◌⊎◌, ℕ, [], None, Option, Some, sym, ◌∙◌, subst}
+use Rattle.book_gate.specs.Passes.{view}
+use Rattle.client_lines.specs.Rooms.{IsBehindEntry}
+use Rattle.client_lines.specs.declared.reply_texts.replies.Reply.{Reply}
+use Rattle.ask_turns.specs.Told.{IsFoundAgain}
+use Rattle.ask_turns.specs.Turns.{IsHalted, Sight, timetable_at}
+use Rattle.line_answers.specs.Answers.{Caller}
+use Rattle.line_answers.specs.Callers.{AnswersLine, caller_of}
+use Rattle.line_answers.specs.Points.{added}
+use Rattle.line_answers.specs.Proved.{ProvedOr}
+use Rattle.line_answers.specs.Tells.{AddsNothing}
+use Rattle.line_answers.proofs.Denied.{again_line}
+use Rattle.line_answers.proofs.Proved.{again_shows, shows_halt}
+use Rattle.line_answers.proofs.Rows.{halt_short, halted_line}
+use Rattle.line_answers.proofs.Told.{halt_adds, none_added}
+use Rattle.line_answers.proofs.numbers.check_number.Goals as goal
+
+pub returns-in-Ok-None-clause-unknown : goal.returns-in-Ok-None-clause-unknown
+returns-in-Ok-None-clause-unknown g c =
+    subst (IsFoundAgain (view c.find_again.new.pass).found.list c.args.client.now.name c.args.sent.number c.args.deed.now)
+    c.in-Ok-None.field-0-is c.in-Ok-None.ensures.found
+
+pub returns-in-Ok-Some-clause-answers : goal.returns-in-Ok-Some-clause-answers
+returns-in-Ok-Some-clause-answers g c line behind numbered asked rules =
+    let caller : Caller = caller_of c.args.shared.now rules c.args.client.now.name c.args.sent.line in
+    let v : Sight = view c.args.pass.now in let w : Sight = view c.find_again.new.pass in
+    let told = c.in-Ok-Some.told in
+    let found = subst (IsFoundAgain w.found.list c.args.client.now.name c.args.sent.number c.args.deed.now) c.in-Ok-Some.field-0-is c.in-Ok-Some.ensures.found in
+    again_line caller line c.args.sent.number numbered v w c.in-Ok-Some.ensures.looks
+    (λ after is. c.in-Ok-Some.ensures.reached after (sym behind ∙ is))
+    c.front.result (c.front.ensures ∙ c.in-Ok-Some.ensures.copy.front)
+    c.args.deed.now asked told c.number_told.result found c.number_told.ensures.tells
+
+pub returns-in-Ok-Some-clause-shown : goal.returns-in-Ok-Some-clause-shown
+returns-in-Ok-Some-clause-shown g c line proves text bytes read wanted =
+    again_shows c.args.shared.now.known (timetable_at c.args.shared.now.gate) bytes c.args.sent.number c.front.result
+    c.in-Ok-Some.told c.number_told.result text (view c.args.pass.now) (view c.find_again.new.pass)
+    c.number_told.ensures.tells
+
+pub returns-in-Ok-Some-clause-none : goal.returns-in-Ok-Some-clause-none
+returns-in-Ok-Some-clause-none g c = none_added c.number_told.result c.number_told.ensures.adds
+
+pub returns-in-Err-clause-answers : goal.returns-in-Err-clause-answers
+returns-in-Err-clause-answers g c line behind numbered asked rules =
+    let caller : Caller = caller_of c.args.shared.now rules c.args.client.now.name c.args.sent.line in
+    let v : Sight = view c.args.pass.now in let w : Sight = view c.find_again.new.pass in
+    subst (λ (r : Reply). AnswersLine caller line r v w) (sym c.halted.ensures)
+    (halted_line caller line v w c.in-Err.halt
+    (subst (λ (after : Option ℕ). IsHalted c.in-Err.halt after v w) (sym behind) c.in-Err.ensures.halted))
+
+pub returns-in-Err-clause-shown : goal.returns-in-Err-clause-shown
+returns-in-Err-clause-shown g c line proves text bytes read wanted =
+    let v : Sight = view c.args.pass.now in let w : Sight = view c.find_again.new.pass in
+    subst (λ (r : Reply). ProvedOr (Unit {0}) c.args.shared.now.known (timetable_at c.args.shared.now.gate) bytes r text v w)
+    (sym c.halted.ensures)
+    (shows_halt c.args.shared.now.known (timetable_at c.args.shared.now.gate) bytes c.in-Err.halt text v w)
+
+pub returns-in-Err-clause-none : goal.returns-in-Err-clause-none
+returns-in-Err-clause-none g c =
+    subst (λ (r : Reply). added r ≡ []) (sym c.halted.ensures) (halt_adds c.in-Err.halt)
+
+pub returns-in-Err-clause-short : goal.returns-in-Err-clause-short
+returns-in-Err-clause-short g c =
+    subst (λ (r : Reply). IsBehindEntry 0 r ⊎ AddsNothing r) (sym c.halted.ensures) (halt_short c.in-Err.halt)
