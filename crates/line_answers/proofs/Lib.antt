@@ -11,3 +11,4 @@ pub mod Denied
 pub mod Proved
 pub mod Granting
 pub use Rattle.book_gate.proofs as gate_lemmas
+pub mod Taken

@@ -42,7 +42,8 @@ pub(crate) fn halted(halt: Halt) -> Reply
 // What a hold is told that the history does not take.
 pub(crate) fn hold_refused(number: u64, told: Refusal, front: u64) -> Reply
     requires { IsHoldTold told }
-    ensures { TellsHold number front told result }
+    ensures tells { TellsHold number front told result }
+    ensures adds { AddsNothing result }
 {
     match told {
         Refusal::Kept(entry, deed) => Reply::Kept {
@@ -75,7 +76,8 @@ pub(crate) fn hold_refused(number: u64, told: Refusal, front: u64) -> Reply
 // What a path is told that the client gave and the history does not take.
 pub(crate) fn pin_refused(number: u64, told: Refusal, front: u64) -> Reply
     requires { IsPinTold told }
-    ensures { TellsPin number front told result }
+    ensures tells { TellsPin number front told result }
+    ensures adds { AddsNothing result }
 {
     match told {
         Refusal::Kept(entry, deed) => Reply::Kept {
@@ -114,7 +116,8 @@ pub(crate) fn pin_refused(number: u64, told: Refusal, front: u64) -> Reply
 // What a Free of an entry is told that the history does not take.
 pub(crate) fn free_refused(number: u64, freed: u64, told: Refusal, front: u64) -> Reply
     requires { IsFreeTold told }
-    ensures { TellsFree number freed front told result }
+    ensures tells { TellsFree number freed front told result }
+    ensures adds { AddsNothing result }
 {
     match told {
         Refusal::Kept(entry, deed) => Reply::Kept {

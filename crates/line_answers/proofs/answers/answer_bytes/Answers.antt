@@ -1,4 +1,4 @@
-use Rattle.std.proofs.Common.{◌≡◌, ℕ, List, sym, subst}
+use Rattle.std.proofs.Common.{List, refl, subst, sym, ℕ, ◌≡◌}
 use Rattle.book_gate.specs.Passes.{view}
 use Rattle.admission_rules.specs.Ruled.{Ruled, stand}
 use Rattle.rail_types.specs.Timetables.{Timetable}
@@ -69,3 +69,57 @@ pub returns-in-Err-clause-granted : goal.returns-in-Err-clause-granted
 returns-in-Err-clause-granted g c answers said spelled unhindered_so =
     subst IsGranted (sym c.unread.ensures)
     (fault_grants c.in-Err.fault said (c.in-Err.ensures.read said spelled))
+
+pub returns-in-Ok-clause-ready : goal.returns-in-Ok-clause-ready
+returns-in-Ok-clause-ready g c = c.answer_ruled.ensures.ready
+
+pub returns-in-Ok-clause-budget : goal.returns-in-Ok-clause-budget
+returns-in-Ok-clause-budget g c = c.answer_ruled.ensures.budget
+
+pub returns-in-Ok-clause-name : goal.returns-in-Ok-clause-name
+returns-in-Ok-clause-name g c = c.answer_ruled.ensures.name
+
+pub returns-in-Ok-clause-proves : goal.returns-in-Ok-clause-proves
+returns-in-Ok-clause-proves g c = c.answer_ruled.ensures.proves
+
+pub returns-in-Ok-clause-knows : goal.returns-in-Ok-clause-knows
+returns-in-Ok-clause-knows g c = c.answer_ruled.ensures.knows
+
+pub returns-in-Ok-clause-held : goal.returns-in-Ok-clause-held
+returns-in-Ok-clause-held g c = c.answer_ruled.ensures.held
+
+pub returns-in-Ok-clause-room : goal.returns-in-Ok-clause-room
+returns-in-Ok-clause-room g c = c.answer_ruled.ensures.room
+
+pub returns-in-Err-clause-ready : goal.returns-in-Err-clause-ready
+returns-in-Err-clause-ready g c = c.requires.ready
+
+pub returns-in-Err-clause-knows : goal.returns-in-Err-clause-knows
+returns-in-Err-clause-knows g c = c.requires.knows
+
+pub returns-in-Err-clause-name : goal.returns-in-Err-clause-name
+returns-in-Err-clause-name g c = refl
+
+pub returns-in-Err-clause-proves : goal.returns-in-Err-clause-proves
+returns-in-Err-clause-proves g c = refl
+
+pub returns-in-Err-clause-held : goal.returns-in-Err-clause-held
+returns-in-Err-clause-held g c = refl
+
+pub answer_ruled-requires-clause-ready : goal.answer_ruled-requires-clause-ready
+answer_ruled-requires-clause-ready g c = c.requires.ready
+
+pub answer_ruled-requires-clause-budget : goal.answer_ruled-requires-clause-budget
+answer_ruled-requires-clause-budget g c = c.requires.budget
+
+pub answer_ruled-requires-clause-knows : goal.answer_ruled-requires-clause-knows
+answer_ruled-requires-clause-knows g c = c.requires.knows
+
+pub answer_ruled-requires-clause-name : goal.answer_ruled-requires-clause-name
+answer_ruled-requires-clause-name g c = c.requires.name
+
+pub answer_ruled-requires-clause-shared : goal.answer_ruled-requires-clause-shared
+answer_ruled-requires-clause-shared g c = c.requires.shared
+
+pub answer_ruled-requires-clause-spare : goal.answer_ruled-requires-clause-spare
+answer_ruled-requires-clause-spare g c = c.requires.spare

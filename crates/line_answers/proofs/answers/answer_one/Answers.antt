@@ -117,3 +117,48 @@ returns-clause-unruled g c =
     (λ adds. if_err (left ≡ rules) c.print.result
     (c.answer_bytes-reply.ensures.told ∙ untold_by w.seen told (none_added told adds) rules))
     c.answer_bytes-reply.ensures.room
+
+pub returns-clause-ready : goal.returns-clause-ready
+returns-clause-ready g c = c.answer_bytes-reply.ensures.ready
+
+pub returns-clause-budget : goal.returns-clause-budget
+returns-clause-budget g c = c.answer_bytes-reply.ensures.budget
+
+pub returns-clause-name : goal.returns-clause-name
+returns-clause-name g c = c.answer_bytes-reply.ensures.name
+
+pub returns-clause-proves : goal.returns-clause-proves
+returns-clause-proves g c = c.answer_bytes-reply.ensures.proves
+
+pub returns-clause-knows : goal.returns-clause-knows
+returns-clause-knows g c = c.answer_bytes-reply.ensures.knows
+
+pub returns-in_err-reserve-clause-ready : goal.returns-in_err-reserve-clause-ready
+returns-in_err-reserve-clause-ready g c = c.requires.ready
+
+pub returns-in_err-reserve-clause-knows : goal.returns-in_err-reserve-clause-knows
+returns-in_err-reserve-clause-knows g c = c.requires.knows
+
+pub returns-in_err-reserve-clause-name : goal.returns-in_err-reserve-clause-name
+returns-in_err-reserve-clause-name g c = refl
+
+pub returns-in_err-reserve-clause-proves : goal.returns-in_err-reserve-clause-proves
+returns-in_err-reserve-clause-proves g c = refl
+
+pub answer_bytes-reply-requires-clause-ready : goal.answer_bytes-reply-requires-clause-ready
+answer_bytes-reply-requires-clause-ready g c = c.requires.ready
+
+pub answer_bytes-reply-requires-clause-budget : goal.answer_bytes-reply-requires-clause-budget
+answer_bytes-reply-requires-clause-budget g c = c.requires.budget
+
+pub answer_bytes-reply-requires-clause-knows : goal.answer_bytes-reply-requires-clause-knows
+answer_bytes-reply-requires-clause-knows g c = c.requires.knows
+
+pub answer_bytes-reply-requires-clause-shared : goal.answer_bytes-reply-requires-clause-shared
+answer_bytes-reply-requires-clause-shared g c = c.requires.shared
+
+pub answer_bytes-reply-requires-clause-name : goal.answer_bytes-reply-requires-clause-name
+answer_bytes-reply-requires-clause-name g c = c.requires.name
+
+pub answer_bytes-reply-requires-clause-line : goal.answer_bytes-reply-requires-clause-line
+answer_bytes-reply-requires-clause-line g c = c.requires.line

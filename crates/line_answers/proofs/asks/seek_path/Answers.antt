@@ -1,4 +1,4 @@
-use Rattle.std.proofs.Common.{ℕ, List, length, ap, sym, ◌∙◌, subst}
+use Rattle.std.proofs.Common.{List, ap, length, refl, subst, sym, ℕ, ◌∙◌}
 use Rattle.book_gate.specs.Passes.{view}
 use Rattle.rail_types.specs.declared.entries.Entry.{Entry}
 use Rattle.rail_types.specs.Limits.{IsClientName}
@@ -9,6 +9,7 @@ use Rattle.line_answers.specs.Asked.{AnswersBehind}
 use Rattle.line_answers.specs.Callers.{caller_of}
 use Rattle.line_answers.proofs.Calls.{starts_refl}
 use Rattle.line_answers.proofs.Sought.{want_line, wide_line}
+use mathlib.Core.Logic.{inr}
 use Rattle.line_answers.proofs.asks.seek_path.Goals as goal
 
 -- ---- what guides the search
@@ -77,3 +78,69 @@ returns-clause-answers g c =
     let u : Sight = view c.args.guest.now.pass in let w : Sight = view c.search_along-reply.new.guest.pass in
     subst (λ (name : List ℕ). AnswersBehind c.args.shared.now name c.args.sent.line c.args.sent.number c.args.request
     c.search_along-reply.result u w) c.guide_of.ensures.name c.search_along-reply.ensures.answers
+
+pub returns-clause-ready : goal.returns-clause-ready
+returns-clause-ready g c = c.search_along-reply.ensures.ready
+
+pub returns-clause-budget : goal.returns-clause-budget
+returns-clause-budget g c = c.search_along-reply.ensures.budget
+
+pub returns-clause-proves : goal.returns-clause-proves
+returns-clause-proves g c = c.search_along-reply.ensures.proves
+
+pub returns-clause-held : goal.returns-clause-held
+returns-clause-held g c = c.search_along-reply.ensures.held
+
+pub returns-clause-room : goal.returns-clause-room
+returns-clause-room g c = c.search_along-reply.ensures.room
+
+pub returns-clause-shown : goal.returns-clause-shown
+returns-clause-shown g c = c.search_along-reply.ensures.shown
+
+pub returns-in-Err-Wide-clause-ready : goal.returns-in-Err-Wide-clause-ready
+returns-in-Err-Wide-clause-ready g c = c.requires.ready
+
+pub returns-in-Err-Wide-clause-name : goal.returns-in-Err-Wide-clause-name
+returns-in-Err-Wide-clause-name g c = c.guide_of.ensures.name
+
+pub returns-in-Err-Wide-clause-proves : goal.returns-in-Err-Wide-clause-proves
+returns-in-Err-Wide-clause-proves g c = refl
+
+pub returns-in-Err-Wide-clause-held : goal.returns-in-Err-Wide-clause-held
+returns-in-Err-Wide-clause-held g c = refl
+
+pub returns-in-Err-Wide-clause-room : goal.returns-in-Err-Wide-clause-room
+returns-in-Err-Wide-clause-room g c = inr tt
+
+pub returns-in-Err-Memory-clause-ready : goal.returns-in-Err-Memory-clause-ready
+returns-in-Err-Memory-clause-ready g c = c.requires.ready
+
+pub returns-in-Err-Memory-clause-name : goal.returns-in-Err-Memory-clause-name
+returns-in-Err-Memory-clause-name g c = c.guide_of.ensures.name
+
+pub returns-in-Err-Memory-clause-proves : goal.returns-in-Err-Memory-clause-proves
+returns-in-Err-Memory-clause-proves g c = refl
+
+pub returns-in-Err-Memory-clause-held : goal.returns-in-Err-Memory-clause-held
+returns-in-Err-Memory-clause-held g c = refl
+
+pub returns-in-Err-Memory-clause-room : goal.returns-in-Err-Memory-clause-room
+returns-in-Err-Memory-clause-room g c = inr tt
+
+pub guide_of-requires-clause-shared : goal.guide_of-requires-clause-shared
+guide_of-requires-clause-shared g c = c.requires.shared
+
+pub search_along-reply-requires-clause-ready : goal.search_along-reply-requires-clause-ready
+search_along-reply-requires-clause-ready g c = c.requires.ready
+
+pub search_along-reply-requires-clause-budget : goal.search_along-reply-requires-clause-budget
+search_along-reply-requires-clause-budget g c = c.requires.budget
+
+pub search_along-reply-requires-clause-shared : goal.search_along-reply-requires-clause-shared
+search_along-reply-requires-clause-shared g c = c.requires.shared
+
+pub search_along-reply-requires-clause-within : goal.search_along-reply-requires-clause-within
+search_along-reply-requires-clause-within g c = c.requires.within
+
+pub search_along-reply-requires-clause-spare : goal.search_along-reply-requires-clause-spare
+search_along-reply-requires-clause-spare g c = c.requires.spare

@@ -1,4 +1,4 @@
-use Rattle.std.proofs.Common.{◌≡◌, ◌⊎◌, ℕ, [], None, Option, Some, sym, ◌∙◌, subst}
+use Rattle.std.proofs.Common.{◌≡◌, ◌⊎◌, ℕ, [], Option, sym, ◌∙◌, subst}
 use Rattle.book_gate.specs.Passes.{view}
 use Rattle.client_lines.specs.Rooms.{IsBehindEntry}
 use Rattle.client_lines.specs.declared.reply_texts.replies.Reply.{Reply}
@@ -13,6 +13,7 @@ use Rattle.line_answers.proofs.Denied.{again_line}
 use Rattle.line_answers.proofs.Proved.{again_shows, shows_halt}
 use Rattle.line_answers.proofs.Rows.{halt_short, halted_line}
 use Rattle.line_answers.proofs.Told.{halt_adds, none_added}
+use mathlib.Core.Logic.{inr}
 use Rattle.line_answers.proofs.numbers.check_number.Goals as goal
 
 pub returns-in-Ok-None-clause-unknown : goal.returns-in-Ok-None-clause-unknown
@@ -62,3 +63,51 @@ returns-in-Err-clause-none g c =
 pub returns-in-Err-clause-short : goal.returns-in-Err-clause-short
 returns-in-Err-clause-short g c =
     subst (λ (r : Reply). IsBehindEntry 0 r ⊎ AddsNothing r) (sym c.halted.ensures) (halt_short c.in-Err.halt)
+
+pub returns-in-Ok-None-clause-ready : goal.returns-in-Ok-None-clause-ready
+returns-in-Ok-None-clause-ready g c = c.in-Ok-None.ensures.ready
+
+pub returns-in-Ok-None-clause-name : goal.returns-in-Ok-None-clause-name
+returns-in-Ok-None-clause-name g c = c.in-Ok-None.ensures.name
+
+pub returns-in-Ok-None-clause-knows : goal.returns-in-Ok-None-clause-knows
+returns-in-Ok-None-clause-knows g c = c.in-Ok-None.ensures.knows
+
+pub returns-in-Ok-None-clause-looks : goal.returns-in-Ok-None-clause-looks
+returns-in-Ok-None-clause-looks g c = c.in-Ok-None.ensures.looks
+
+pub returns-in-Ok-None-clause-reached : goal.returns-in-Ok-None-clause-reached
+returns-in-Ok-None-clause-reached g c = c.in-Ok-None.ensures.reached
+
+pub returns-in-Ok-None-clause-copy : goal.returns-in-Ok-None-clause-copy
+returns-in-Ok-None-clause-copy g c = c.in-Ok-None.ensures.copy
+
+pub returns-in-Ok-Some-clause-ready : goal.returns-in-Ok-Some-clause-ready
+returns-in-Ok-Some-clause-ready g c = c.in-Ok-Some.ensures.ready
+
+pub returns-in-Ok-Some-clause-name : goal.returns-in-Ok-Some-clause-name
+returns-in-Ok-Some-clause-name g c = c.in-Ok-Some.ensures.name
+
+pub returns-in-Ok-Some-clause-knows : goal.returns-in-Ok-Some-clause-knows
+returns-in-Ok-Some-clause-knows g c = c.in-Ok-Some.ensures.knows
+
+pub returns-in-Ok-Some-clause-short : goal.returns-in-Ok-Some-clause-short
+returns-in-Ok-Some-clause-short g c = inr c.number_told.ensures.adds
+
+pub returns-in-Err-clause-ready : goal.returns-in-Err-clause-ready
+returns-in-Err-clause-ready g c = c.in-Err.ensures.ready
+
+pub returns-in-Err-clause-name : goal.returns-in-Err-clause-name
+returns-in-Err-clause-name g c = c.in-Err.ensures.name
+
+pub returns-in-Err-clause-knows : goal.returns-in-Err-clause-knows
+returns-in-Err-clause-knows g c = c.in-Err.ensures.knows
+
+pub find_again-requires-clause-ready : goal.find_again-requires-clause-ready
+find_again-requires-clause-ready g c = c.requires.ready
+
+pub find_again-requires-clause-budget : goal.find_again-requires-clause-budget
+find_again-requires-clause-budget g c = c.requires.budget
+
+pub find_again-requires-clause-knows : goal.find_again-requires-clause-knows
+find_again-requires-clause-knows g c = c.requires.knows

@@ -7,6 +7,7 @@ use Rattle.line_answers.specs.Answers.{Caller, entry_of}
 use Rattle.line_answers.specs.Asked.{asking}
 use Rattle.line_answers.specs.Callers.{caller_of}
 use Rattle.line_answers.proofs.Denied.{denied_line}
+use mathlib.Core.Logic.{inr}
 use Rattle.line_answers.proofs.rules.deny_asked.Goals as goal
 
 pub returns-in-Ok-clause-answers : goal.returns-in-Ok-clause-answers
@@ -20,3 +21,51 @@ returns-in-Ok-clause-answers g c rules denied =
 
 pub returns-in-Err-clause-answers : goal.returns-in-Err-clause-answers
 returns-in-Err-clause-answers g c rules denied = c.in-Err.ensures.answers rules
+
+pub returns-in-Ok-clause-ready : goal.returns-in-Ok-clause-ready
+returns-in-Ok-clause-ready g c = c.in-Ok.ensures.ready
+
+pub returns-in-Ok-clause-budget : goal.returns-in-Ok-clause-budget
+returns-in-Ok-clause-budget g c = c.in-Ok.ensures.budget
+
+pub returns-in-Ok-clause-name : goal.returns-in-Ok-clause-name
+returns-in-Ok-clause-name g c = c.in-Ok.ensures.name
+
+pub returns-in-Ok-clause-knows : goal.returns-in-Ok-clause-knows
+returns-in-Ok-clause-knows g c = c.in-Ok.ensures.knows
+
+pub returns-in-Ok-clause-none : goal.returns-in-Ok-clause-none
+returns-in-Ok-clause-none g c = refl
+
+pub returns-in-Ok-clause-short : goal.returns-in-Ok-clause-short
+returns-in-Ok-clause-short g c = inr tt
+
+pub returns-in-Err-clause-ready : goal.returns-in-Err-clause-ready
+returns-in-Err-clause-ready g c = c.in-Err.ensures.ready
+
+pub returns-in-Err-clause-budget : goal.returns-in-Err-clause-budget
+returns-in-Err-clause-budget g c = c.in-Err.ensures.budget
+
+pub returns-in-Err-clause-name : goal.returns-in-Err-clause-name
+returns-in-Err-clause-name g c = c.in-Err.ensures.name
+
+pub returns-in-Err-clause-knows : goal.returns-in-Err-clause-knows
+returns-in-Err-clause-knows g c = c.in-Err.ensures.knows
+
+pub returns-in-Err-clause-none : goal.returns-in-Err-clause-none
+returns-in-Err-clause-none g c = c.in-Err.ensures.none
+
+pub returns-in-Err-clause-short : goal.returns-in-Err-clause-short
+returns-in-Err-clause-short g c = c.in-Err.ensures.short
+
+pub check_request-requires-clause-ready : goal.check_request-requires-clause-ready
+check_request-requires-clause-ready g c = c.requires.ready
+
+pub check_request-requires-clause-budget : goal.check_request-requires-clause-budget
+check_request-requires-clause-budget g c = c.requires.budget
+
+pub check_request-requires-clause-knows : goal.check_request-requires-clause-knows
+check_request-requires-clause-knows g c = c.requires.knows
+
+pub check_request-requires-clause-name : goal.check_request-requires-clause-name
+check_request-requires-clause-name g c = c.requires.name

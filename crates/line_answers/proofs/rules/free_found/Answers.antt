@@ -1,4 +1,4 @@
-use Rattle.std.proofs.Common.{◌≡◌, ℕ, List, Some, slice_get, ap, sym, ◌∙◌, subst, refl}
+use Rattle.std.proofs.Common.{◌⊎◌, ◌≡◌, ℕ, List, Some, slice_get, ap, sym, ◌∙◌, subst, refl}
 use Rattle.book_gate.specs.Passes.{view}
 use Rattle.client_lines.specs.declared.asks.Line.{Line}
 use Rattle.client_lines.specs.declared.asks.Ask.TheVariants as asks
@@ -11,10 +11,12 @@ use Rattle.line_answers.specs.Answers.{Caller}
 use Rattle.line_answers.specs.Callers.{AnswersAllowed, AnswersLine, caller_of}
 use Rattle.line_answers.specs.Points.{added}
 use Rattle.line_answers.specs.Rules.{told_by, told_free}
-use Rattle.line_answers.specs.Tells.{halt_reply}
+use Rattle.line_answers.specs.Tells.{AddsNothing, halt_reply}
 use Rattle.line_answers.proofs.Behind.{look_first, some_stand}
-use Rattle.line_answers.proofs.Rows.{halted_line}
+use Rattle.line_answers.proofs.Rows.{halt_short, halted_line}
 use Rattle.line_answers.proofs.Told.{freed_told, halt_adds, untold_by}
+use Rattle.rail_types.specs.Limits.{IsClientName}
+use Rattle.client_lines.specs.Rooms.{IsBehindEntry}
 use Rattle.line_answers.proofs.rules.free_found.Goals as goal
 
 pub returns-in-Ok-Some-clause-answers : goal.returns-in-Ok-Some-clause-answers
@@ -56,3 +58,46 @@ returns-in-Err-clause-told g c bytes read =
     let rules : List Ruled = stand g.L.Rule c.args.rules.now in let w : Sight = view c.show.new.pass in
     subst (λ (r : Reply). rules ≡ told_by w.seen r rules) (sym c.halted.ensures)
     (sym (untold_by w.seen (halt_reply c.in-Err.halt) (halt_adds c.in-Err.halt) rules))
+
+pub returns-in-Ok-Some-clause-ready : goal.returns-in-Ok-Some-clause-ready
+returns-in-Ok-Some-clause-ready g c = c.free-reply.ensures.ready
+
+pub returns-in-Ok-Some-clause-knows : goal.returns-in-Ok-Some-clause-knows
+returns-in-Ok-Some-clause-knows g c = c.free-reply.ensures.knows
+
+pub returns-in-Ok-Some-clause-short : goal.returns-in-Ok-Some-clause-short
+returns-in-Ok-Some-clause-short g c = c.free-reply.ensures.short
+
+pub returns-in-Ok-Some-clause-name : goal.returns-in-Ok-Some-clause-name
+returns-in-Ok-Some-clause-name g c = c.free-reply.ensures.name ∙ c.in-Ok-Some.ensures.name
+
+pub returns-in-Err-clause-ready : goal.returns-in-Err-clause-ready
+returns-in-Err-clause-ready g c = c.in-Err.ensures.ready
+
+pub returns-in-Err-clause-knows : goal.returns-in-Err-clause-knows
+returns-in-Err-clause-knows g c = c.in-Err.ensures.knows
+
+pub returns-in-Err-clause-name : goal.returns-in-Err-clause-name
+returns-in-Err-clause-name g c = c.in-Err.ensures.name
+
+pub returns-in-Err-clause-short : goal.returns-in-Err-clause-short
+returns-in-Err-clause-short g c =
+    subst (λ (r : Reply). IsBehindEntry 0 r ⊎ AddsNothing r) (sym c.halted.ensures) (halt_short c.in-Err.halt)
+
+pub show-requires-clause-ready : goal.show-requires-clause-ready
+show-requires-clause-ready g c = c.requires.ready
+
+pub show-requires-clause-knows : goal.show-requires-clause-knows
+show-requires-clause-knows g c = c.requires.knows
+
+pub free-reply-requires-clause-ready : goal.free-reply-requires-clause-ready
+free-reply-requires-clause-ready g c = c.in-Ok-Some.ensures.ready
+
+pub free-reply-requires-clause-knows : goal.free-reply-requires-clause-knows
+free-reply-requires-clause-knows g c = c.in-Ok-Some.ensures.knows
+
+pub free-reply-requires-clause-name : goal.free-reply-requires-clause-name
+free-reply-requires-clause-name g c = subst IsClientName (sym c.in-Ok-Some.ensures.name) c.requires.name
+
+pub free-reply-requires-clause-within : goal.free-reply-requires-clause-within
+free-reply-requires-clause-within g c = c.requires.within

@@ -9,6 +9,8 @@ use Rattle.line_answers.specs.Callers.{AnswersLine, caller_of}
 use Rattle.line_answers.proofs.Behind.{look_first, some_stand}
 use Rattle.line_answers.proofs.Denied.{unknown_line}
 use Rattle.line_answers.proofs.Told.{untold_by}
+use mathlib.Core.Logic.{inr}
+use Rattle.rail_types.specs.Limits.{IsClientName}
 use Rattle.line_answers.proofs.rules.free_ruled.Goals as goal
 
 pub returns-then-front-freed-clause-answers : goal.returns-then-front-freed-clause-answers
@@ -40,3 +42,69 @@ pub returns-in-Err-clause-told : goal.returns-in-Err-clause-told
 returns-in-Err-clause-told g c bytes read =
     let rules : List Ruled = stand g.L.Rule c.args.rules.now in let w : Sight = view c.check_number-new.new.pass in
     sym (untold_by w.seen c.in-Err.told c.in-Err.ensures.none rules)
+
+pub returns-then-front-freed-clause-ready : goal.returns-then-front-freed-clause-ready
+returns-then-front-freed-clause-ready g c = c.in-Ok.ensures.ready
+
+pub returns-then-front-freed-clause-name : goal.returns-then-front-freed-clause-name
+returns-then-front-freed-clause-name g c = c.in-Ok.ensures.name
+
+pub returns-then-front-freed-clause-knows : goal.returns-then-front-freed-clause-knows
+returns-then-front-freed-clause-knows g c = c.in-Ok.ensures.knows
+
+pub returns-then-front-freed-clause-short : goal.returns-then-front-freed-clause-short
+returns-then-front-freed-clause-short g c = inr tt
+
+pub returns-then-front-freed-clause-told : goal.returns-then-front-freed-clause-told
+returns-then-front-freed-clause-told g c bytes read = refl
+
+pub returns-else-front-freed-clause-ready : goal.returns-else-front-freed-clause-ready
+returns-else-front-freed-clause-ready g c = c.free_found.ensures.ready
+
+pub returns-else-front-freed-clause-knows : goal.returns-else-front-freed-clause-knows
+returns-else-front-freed-clause-knows g c = c.free_found.ensures.knows
+
+pub returns-else-front-freed-clause-told : goal.returns-else-front-freed-clause-told
+returns-else-front-freed-clause-told g c = c.free_found.ensures.told
+
+pub returns-else-front-freed-clause-short : goal.returns-else-front-freed-clause-short
+returns-else-front-freed-clause-short g c = c.free_found.ensures.short
+
+pub returns-else-front-freed-clause-name : goal.returns-else-front-freed-clause-name
+returns-else-front-freed-clause-name g c = c.free_found.ensures.name ∙ c.in-Ok.ensures.name
+
+pub returns-in-Err-clause-ready : goal.returns-in-Err-clause-ready
+returns-in-Err-clause-ready g c = c.in-Err.ensures.ready
+
+pub returns-in-Err-clause-name : goal.returns-in-Err-clause-name
+returns-in-Err-clause-name g c = c.in-Err.ensures.name
+
+pub returns-in-Err-clause-knows : goal.returns-in-Err-clause-knows
+returns-in-Err-clause-knows g c = c.in-Err.ensures.knows
+
+pub returns-in-Err-clause-short : goal.returns-in-Err-clause-short
+returns-in-Err-clause-short g c = c.in-Err.ensures.short
+
+pub check_number-new-requires-clause-ready : goal.check_number-new-requires-clause-ready
+check_number-new-requires-clause-ready g c = c.requires.ready
+
+pub check_number-new-requires-clause-knows : goal.check_number-new-requires-clause-knows
+check_number-new-requires-clause-knows g c = c.requires.knows
+
+pub check_number-new-requires-clause-name : goal.check_number-new-requires-clause-name
+check_number-new-requires-clause-name g c = c.requires.name
+
+pub free_found-requires-clause-ready : goal.free_found-requires-clause-ready
+free_found-requires-clause-ready g c = c.in-Ok.ensures.ready
+
+pub free_found-requires-clause-knows : goal.free_found-requires-clause-knows
+free_found-requires-clause-knows g c = c.in-Ok.ensures.knows
+
+pub free_found-requires-clause-name : goal.free_found-requires-clause-name
+free_found-requires-clause-name g c = subst IsClientName (sym c.in-Ok.ensures.name) c.requires.name
+
+pub free_found-requires-clause-within : goal.free_found-requires-clause-within
+free_found-requires-clause-within g c = c.requires.within
+
+pub free_found-requires-clause-some : goal.free_found-requires-clause-some
+free_found-requires-clause-some g c = c.requires.some

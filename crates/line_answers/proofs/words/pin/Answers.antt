@@ -1,5 +1,5 @@
-use Rattle.std.proofs.Common.{refl, sym, ◌∙◌, subst}
-use Rattle.book_gate.specs.Passes.{view}
+use Rattle.std.proofs.Common.{◌⊎◌, refl, sym, ◌∙◌, subst}
+use Rattle.book_gate.specs.Passes.{turns_left, view}
 use Rattle.client_lines.specs.declared.asks.Line.{Line}
 use Rattle.client_lines.specs.declared.asks.Ask.TheVariants as asks
 use Rattle.rail_types.specs.declared.entries.Deed.{Deed}
@@ -13,7 +13,11 @@ use Rattle.ask_turns.specs.declared.client_turns.told.Entered.TheVariants as ent
 use Rattle.ask_turns.specs.Turns.{HasEntered, IsFullIn, IsRefusedIn, IsStopped, Sight, timetable_at}
 use Rattle.line_answers.specs.Answers.{Caller, IsAllowed, IsNarrowLine, entry_of}
 use Rattle.line_answers.specs.Callers.{AnswersLine, caller_of}
-use Rattle.line_answers.proofs.Rows.{full_line, pin_refused, settled_line, stopped_line, unsettled_line, want_line}
+use Rattle.line_answers.proofs.Rows.{full_line, halt_short, pin_refused, settled_line, stopped_line, unsettled_line, want_line}
+use mathlib.Core.Logic.{inr}
+use Rattle.client_lines.specs.Rooms.{IsBehindEntry}
+use Rattle.line_answers.specs.Tells.{AddsNothing}
+use Rattle.line_answers.proofs.Taken.{one_taken}
 use Rattle.line_answers.proofs.words.pin.Goals as goal
 
 pub returns-in_default-clause-answers : goal.returns-in_default-clause-answers
@@ -62,7 +66,7 @@ returns-in-Ok-Refused-clause-answers g c rules allowed =
     let so = subst (λ (x : Entered). HasEntered timetable c.in-Ok.entry x v w) c.in-Ok-Refused.field-0-is c.in-Ok-Refused.ensures.entered in
     let refused = subst (λ (e : Entry). IsRefusedIn timetable e told v w) c.in-Ok.ensures so in
     pin_refused caller line c.args.sent.number deed refl refl v w c.in-Ok-Refused.ensures.reached may narrow c.front.result
-    (c.front.ensures ∙ c.in-Ok-Refused.ensures.copy.front) tt told c.pin_refused.result refused c.pin_refused.ensures
+    (c.front.ensures ∙ c.in-Ok-Refused.ensures.copy.front) tt told c.pin_refused.result refused c.pin_refused.ensures.tells
 
 pub returns-in-Ok-Full-clause-answers : goal.returns-in-Ok-Full-clause-answers
 returns-in-Ok-Full-clause-answers g c rules allowed =
@@ -89,3 +93,94 @@ returns-in-Err-clause-answers g c rules allowed =
     let stopped = subst (λ (e : Entry). IsStopped timetable e halt c.args.sent.after v w) c.in-Ok.ensures c.in-Err.ensures.stopped in
     subst (λ (r : Reply). AnswersLine caller line r v w) (sym c.halted.ensures)
     (stopped_line caller line c.args.sent.number deed refl refl v w halt stopped)
+
+pub returns-in_default-clause-ready : goal.returns-in_default-clause-ready
+returns-in_default-clause-ready g c = c.requires.ready
+
+pub returns-in_default-clause-knows : goal.returns-in_default-clause-knows
+returns-in_default-clause-knows g c = c.requires.knows
+
+pub returns-in_default-clause-name : goal.returns-in_default-clause-name
+returns-in_default-clause-name g c = refl
+
+pub returns-in_default-clause-short : goal.returns-in_default-clause-short
+returns-in_default-clause-short g c = inr tt
+
+pub returns-in-Ok-Settled-clause-ready : goal.returns-in-Ok-Settled-clause-ready
+returns-in-Ok-Settled-clause-ready g c = c.in-Ok-Settled.ensures.ready
+
+pub returns-in-Ok-Settled-clause-name : goal.returns-in-Ok-Settled-clause-name
+returns-in-Ok-Settled-clause-name g c = c.in-Ok-Settled.ensures.name
+
+pub returns-in-Ok-Settled-clause-knows : goal.returns-in-Ok-Settled-clause-knows
+returns-in-Ok-Settled-clause-knows g c = c.in-Ok-Settled.ensures.knows
+
+pub returns-in-Ok-Unsettled-clause-ready : goal.returns-in-Ok-Unsettled-clause-ready
+returns-in-Ok-Unsettled-clause-ready g c = c.in-Ok-Unsettled.ensures.ready
+
+pub returns-in-Ok-Unsettled-clause-name : goal.returns-in-Ok-Unsettled-clause-name
+returns-in-Ok-Unsettled-clause-name g c = c.in-Ok-Unsettled.ensures.name
+
+pub returns-in-Ok-Unsettled-clause-knows : goal.returns-in-Ok-Unsettled-clause-knows
+returns-in-Ok-Unsettled-clause-knows g c = c.in-Ok-Unsettled.ensures.knows
+
+pub returns-in-Ok-Refused-clause-ready : goal.returns-in-Ok-Refused-clause-ready
+returns-in-Ok-Refused-clause-ready g c = c.in-Ok-Refused.ensures.ready
+
+pub returns-in-Ok-Refused-clause-name : goal.returns-in-Ok-Refused-clause-name
+returns-in-Ok-Refused-clause-name g c = c.in-Ok-Refused.ensures.name
+
+pub returns-in-Ok-Refused-clause-knows : goal.returns-in-Ok-Refused-clause-knows
+returns-in-Ok-Refused-clause-knows g c = c.in-Ok-Refused.ensures.knows
+
+pub returns-in-Ok-Full-clause-ready : goal.returns-in-Ok-Full-clause-ready
+returns-in-Ok-Full-clause-ready g c = c.in-Ok-Full.ensures.ready
+
+pub returns-in-Ok-Full-clause-name : goal.returns-in-Ok-Full-clause-name
+returns-in-Ok-Full-clause-name g c = c.in-Ok-Full.ensures.name
+
+pub returns-in-Ok-Full-clause-knows : goal.returns-in-Ok-Full-clause-knows
+returns-in-Ok-Full-clause-knows g c = c.in-Ok-Full.ensures.knows
+
+pub returns-in-Err-clause-ready : goal.returns-in-Err-clause-ready
+returns-in-Err-clause-ready g c = c.in-Err.ensures.ready
+
+pub returns-in-Err-clause-name : goal.returns-in-Err-clause-name
+returns-in-Err-clause-name g c = c.in-Err.ensures.name
+
+pub returns-in-Err-clause-knows : goal.returns-in-Err-clause-knows
+returns-in-Err-clause-knows g c = c.in-Err.ensures.knows
+
+pub returns-in-Ok-Full-clause-short : goal.returns-in-Ok-Full-clause-short
+returns-in-Ok-Full-clause-short g c = inr tt
+
+pub returns-in-Ok-Refused-clause-short : goal.returns-in-Ok-Refused-clause-short
+returns-in-Ok-Refused-clause-short g c = inr c.pin_refused.ensures.adds
+
+pub returns-in-Err-clause-short : goal.returns-in-Err-clause-short
+returns-in-Err-clause-short g c =
+    subst (λ (r : Reply). IsBehindEntry 0 r ⊎ AddsNothing r) (sym c.halted.ensures) (halt_short c.in-Err.halt)
+
+pub enter_entry-requires-clause-ready : goal.enter_entry-requires-clause-ready
+enter_entry-requires-clause-ready g c = c.requires.ready
+
+pub enter_entry-requires-clause-budget : goal.enter_entry-requires-clause-budget
+enter_entry-requires-clause-budget g c = c.requires.budget
+
+pub enter_entry-requires-clause-knows : goal.enter_entry-requires-clause-knows
+enter_entry-requires-clause-knows g c = c.requires.knows
+
+pub returns-in-Ok-Settled-clause-budget : goal.returns-in-Ok-Settled-clause-budget
+returns-in-Ok-Settled-clause-budget g c = one_taken (turns_left c.args.pass.now) (turns_left c.enter_entry.new.pass) c.in-Ok-Settled.ensures.budget
+
+pub returns-in-Ok-Unsettled-clause-budget : goal.returns-in-Ok-Unsettled-clause-budget
+returns-in-Ok-Unsettled-clause-budget g c = one_taken (turns_left c.args.pass.now) (turns_left c.enter_entry.new.pass) c.in-Ok-Unsettled.ensures.budget
+
+pub returns-in-Ok-Refused-clause-budget : goal.returns-in-Ok-Refused-clause-budget
+returns-in-Ok-Refused-clause-budget g c = one_taken (turns_left c.args.pass.now) (turns_left c.enter_entry.new.pass) c.in-Ok-Refused.ensures.budget
+
+pub returns-in-Ok-Full-clause-budget : goal.returns-in-Ok-Full-clause-budget
+returns-in-Ok-Full-clause-budget g c = one_taken (turns_left c.args.pass.now) (turns_left c.enter_entry.new.pass) c.in-Ok-Full.ensures.budget
+
+pub returns-in-Err-clause-budget : goal.returns-in-Err-clause-budget
+returns-in-Err-clause-budget g c = one_taken (turns_left c.args.pass.now) (turns_left c.enter_entry.new.pass) c.in-Err.ensures.budget
