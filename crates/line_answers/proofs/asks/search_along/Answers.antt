@@ -89,3 +89,54 @@ returns-in-Err-clause-shown g c v after looks reached bytes read wanted =
     let text : List ℕ = c.try_searches.new.proof.held in
     subst (λ (r : Reply). ProvedOr (Unit {0}) c.args.shared.now.known timetable bytes r text v w) (sym c.halted.ensures)
     (shows_halt c.args.shared.now.known timetable bytes c.in-Err.halt text v w)
+
+pub returns-in-Ok-clause-ready : goal.returns-in-Ok-clause-ready
+returns-in-Ok-clause-ready g c = c.try_searches.ensures.ready
+
+pub returns-in-Ok-clause-budget : goal.returns-in-Ok-clause-budget
+returns-in-Ok-clause-budget g c = c.try_searches.ensures.budget
+
+pub returns-in-Ok-clause-name : goal.returns-in-Ok-clause-name
+returns-in-Ok-clause-name g c = c.try_searches.ensures.name
+
+pub returns-in-Ok-clause-proves : goal.returns-in-Ok-clause-proves
+returns-in-Ok-clause-proves g c = c.try_searches.ensures.proves
+
+pub returns-in-Ok-clause-knows : goal.returns-in-Ok-clause-knows
+returns-in-Ok-clause-knows g c = c.try_searches.ensures.knows
+
+pub returns-in-Ok-clause-held : goal.returns-in-Ok-clause-held
+returns-in-Ok-clause-held g c = c.try_searches.ensures.held
+
+pub returns-in-Err-clause-ready : goal.returns-in-Err-clause-ready
+returns-in-Err-clause-ready g c = c.try_searches.ensures.ready
+
+pub returns-in-Err-clause-budget : goal.returns-in-Err-clause-budget
+returns-in-Err-clause-budget g c = c.try_searches.ensures.budget
+
+pub returns-in-Err-clause-name : goal.returns-in-Err-clause-name
+returns-in-Err-clause-name g c = c.try_searches.ensures.name
+
+pub returns-in-Err-clause-proves : goal.returns-in-Err-clause-proves
+returns-in-Err-clause-proves g c = c.try_searches.ensures.proves
+
+pub returns-in-Err-clause-knows : goal.returns-in-Err-clause-knows
+returns-in-Err-clause-knows g c = c.try_searches.ensures.knows
+
+pub returns-in-Err-clause-held : goal.returns-in-Err-clause-held
+returns-in-Err-clause-held g c = c.try_searches.ensures.held
+
+pub try_searches-requires-clause-ready : goal.try_searches-requires-clause-ready
+try_searches-requires-clause-ready g c = c.requires.ready
+
+pub try_searches-requires-clause-budget : goal.try_searches-requires-clause-budget
+try_searches-requires-clause-budget g c = c.requires.budget
+
+pub try_searches-requires-clause-copy : goal.try_searches-requires-clause-copy
+try_searches-requires-clause-copy g c = c.requires.copy
+
+pub try_searches-requires-clause-name : goal.try_searches-requires-clause-name
+try_searches-requires-clause-name g c = c.requires.name
+
+pub try_searches-requires-clause-shared : goal.try_searches-requires-clause-shared
+try_searches-requires-clause-shared g c = c.requires.shared

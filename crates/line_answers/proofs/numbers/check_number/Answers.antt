@@ -1,5 +1,5 @@
 use Rattle.std.proofs.Common.{◌≡◌, ◌⊎◌, ℕ, [], Option, sym, ◌∙◌, subst}
-use Rattle.book_gate.specs.Passes.{view}
+use Rattle.book_gate.specs.Passes.{turns_left, view}
 use Rattle.client_lines.specs.Rooms.{IsBehindEntry}
 use Rattle.client_lines.specs.declared.reply_texts.replies.Reply.{Reply}
 use Rattle.ask_turns.specs.Told.{IsFoundAgain}
@@ -14,6 +14,7 @@ use Rattle.line_answers.proofs.Proved.{again_shows, shows_halt}
 use Rattle.line_answers.proofs.Rows.{halt_short, halted_line}
 use Rattle.line_answers.proofs.Told.{halt_adds, none_added}
 use mathlib.Core.Logic.{inr}
+use Rattle.line_answers.proofs.Taken.{one_taken}
 use Rattle.line_answers.proofs.numbers.check_number.Goals as goal
 
 pub returns-in-Ok-None-clause-unknown : goal.returns-in-Ok-None-clause-unknown
@@ -111,3 +112,12 @@ find_again-requires-clause-budget g c = c.requires.budget
 
 pub find_again-requires-clause-knows : goal.find_again-requires-clause-knows
 find_again-requires-clause-knows g c = c.requires.knows
+
+pub returns-in-Ok-None-clause-budget : goal.returns-in-Ok-None-clause-budget
+returns-in-Ok-None-clause-budget g c = one_taken (turns_left c.args.pass.now) (turns_left c.find_again.new.pass) c.in-Ok-None.ensures.budget
+
+pub returns-in-Ok-Some-clause-budget : goal.returns-in-Ok-Some-clause-budget
+returns-in-Ok-Some-clause-budget g c = one_taken (turns_left c.args.pass.now) (turns_left c.find_again.new.pass) c.in-Ok-Some.ensures.budget
+
+pub returns-in-Err-clause-budget : goal.returns-in-Err-clause-budget
+returns-in-Err-clause-budget g c = one_taken (turns_left c.args.pass.now) (turns_left c.find_again.new.pass) c.in-Err.ensures.budget
