@@ -1,12 +1,13 @@
 -- What is lent of a plan over a chart is what the plan has.
 use Rattle.std.proofs.Common.{ℕ, ◌≡◌, ◌<◌, ◌∙◌, sym, ap, arith, subst, List, length, All}
-use Rattle.std.specs.Prelude.{◌+◌, ◌^◌}
+use Rattle.std.specs.Prelude.{suc, ◌+◌, ◌/◌, ◌%◌, ◌^◌}
 use Rattle.std.proofs.lemmas.List.{length-map, get_or-map}
 use Rattle.std.proofs.lemmas.List.Elements.{All-get_or, All-filter}
 use Rattle.std.proofs.lemmas.List.FromFn.{length-map-range_with_len, get_or-map-range_with_len}
 use Rattle.label_search.specs.declared.chart_loans.Charted.{Charted}
 use Rattle.label_search.specs.declared.chart_loans.ChartedWays.{ChartedWays}
 use Rattle.label_search.specs.declared.charts.ChartCall.{ChartCall}
+use Rattle.label_search.specs.declared.charts.ChartSpot.{ChartSpot}
 use Rattle.label_search.specs.declared.charts.ChartWay.{ChartWay}
 use Rattle.label_search.specs.declared.lent.Lender.{Lender}
 use Rattle.label_search.specs.declared.lent.Lender.TheVariants as lender
@@ -15,7 +16,8 @@ use Rattle.label_search.specs.declared.lent.MovesLender.TheVariants as moves_len
 use Rattle.label_search.specs.declared.plans.Move.{Move}
 use Rattle.label_search.specs.declared.plans.Place.{Place}
 use Rattle.label_search.specs.Charts.{count_over, is_open, move_among, move_of_way}
-use Rattle.label_search.specs.Charts.{number_over, open_among, place_among, place_over, way_among}
+use Rattle.label_search.specs.Charts.{number_over, open_among, place_among, place_over, spot_at}
+use Rattle.label_search.specs.Charts.{made_over, stay_over, way_among, ways_over}
 use Rattle.label_search.specs.Lent.{moves_lent, places_lent}
 
 -- there are as many places as the chart says
@@ -48,6 +50,23 @@ moves_counted lent charted moves is seen =
     sym (length-map (open_among charted.call.now charted.ways.now)
     (move_of_way charted.levels charted.made))
     ∙ ap length (ap moves_lent (sym is) ∙ seen)
+
+-- a place that is not the start is at a spot
+pub place_stays : (spots : List ChartSpot) (starts : List ChartWay) (calls : List ChartCall)
+    (number before : ℕ) → number ≡ suc before → place_over spots starts calls number
+    ≡ stay_over calls (before % length calls) (spot_at spots (before / length calls))
+place_stays spots starts calls number before is =
+    ap (λ (at : ℕ). place_over spots starts calls at) is
+
+pub ways_stay : (spots : List ChartSpot) (starts : List ChartWay) (calls : List ChartCall)
+    (number before : ℕ) → number ≡ suc before → ways_over spots starts calls number
+    ≡ (spot_at spots (before / length calls)).ways
+ways_stay spots starts calls number before is =
+    ap (λ (at : ℕ). ways_over spots starts calls at) is
+
+pub made_stays : (calls : List ChartCall) (number before : ℕ) → number ≡ suc before
+    → made_over calls number ≡ before % length calls
+made_stays calls number before is = ap (λ (at : ℕ). made_over calls at) is
 
 -- the open way of a number is the move of the plan
 pub move_lent : (lent : MovesLender) (charted : ChartedWays) (moves : List Move) (number : ℕ)

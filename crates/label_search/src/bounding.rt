@@ -88,25 +88,49 @@ fn is_least(place: &LentPlace, step: &LentMove, here: &Ahead, there: &Ahead) -> 
     ensures { IsTrue result → here.now.ticks ≤ℤ ((wait_of place.now +ℤ step.now.run) +ℤ
         there.now.ticks) }
 {
+    is_within(here, &least_wait(place), step, there)
+}
+
+fn is_within(here: &Ahead, wait: &Ahead, step: &LentMove, there: &Ahead) -> bool
+    requires wait { IsShort wait.now.ticks }
+    requires run { IsShort step.now.run }
+    requires there { IsAhead there.now }
+    ensures { IsTrue result → here.now.ticks ≤ℤ ((wait.now.ticks +ℤ step.now.run) +ℤ
+        there.now.ticks) }
+{
+    here.ticks <= wait.ticks + step.run + there.ticks
+}
+
+// The ticks that a train waits at a place at least.
+fn least_wait(place: &LentPlace) -> Ahead
+    ensures value { result.ticks ≡ wait_of place.now }
+    ensures short { IsShort place.now.dwell → IsShort result.ticks }
+{
     if place.standing {
-        here.ticks <= place.dwell + step.run + there.ticks
+        Ahead { ticks: place.dwell }
     } else {
-        here.ticks <= step.run + there.ticks
+        Ahead { ticks: 0 }
     }
 }
 
 // The least ticks to the end, which stands as one place behind the others.
 fn distances(alloc: Global, plan: &LentPlan) -> Result<Vec<Ahead>, NoMemory> {
+    let mut entries = Entries::none(alloc, plan.count())?;
+    put_all(&mut entries, plan)?;
+    entries.distances(alloc)
+}
+
+// Puts the moves of a plan in, once they are counted.
+fn put_all(entries: &mut Entries, plan: &LentPlan) -> Result<(), NoMemory> {
     let end = plan.count();
-    let mut entries = Entries::none(alloc, end)?;
     for from in 0..end {
-        count_moves(&mut entries, end, &plan.place(from));
+        count_moves(entries, end, &plan.place(from));
     }
     entries.make_room()?;
     for from in 0..end {
-        put_moves(&mut entries, end, from, &plan.place(from));
+        put_moves(entries, end, from, &plan.place(from));
     }
-    entries.distances(alloc)
+    Ok(())
 }
 
 // Counts the moves from a place.
@@ -119,12 +143,12 @@ fn count_moves(entries: &mut Entries, end: usize, place: &LentPlace) {
 
 // Puts the moves from a place in.
 fn put_moves(entries: &mut Entries, end: usize, from: usize, place: &LentPlace) {
-    let wait = if place.standing { place.dwell } else { 0 };
+    let wait = least_wait(place);
     for number in 0..place.moves.len() {
         let step = place.moves.get(number);
         let entry = Entry {
             from,
-            ticks: wait.saturating_add(step.run),
+            ticks: wait.ticks.saturating_add(step.run),
         };
         entries.put(target_of(&step, end), &entry);
     }

@@ -8,7 +8,7 @@ use std::alloc::Global;
 use std::mem;
 
 /// A move into a place: where from, and its ticks with the wait before it.
-#[derive(Clone, Copy, Debug)]
+#[derive(Clone, Copy)]
 pub(crate) struct Entry {
     pub(crate) from: usize,
     pub(crate) ticks: Tick,
@@ -16,7 +16,7 @@ pub(crate) struct Entry {
 
 /// The moves into each place, and into the end, which stands as one place behind the others: those
 /// into one stand together, from its first on.
-#[derive(Debug, Drop)]
+#[derive(Drop)]
 pub(crate) struct Entries {
     firsts: Vec<usize>,
     entries: Vec<Entry>,

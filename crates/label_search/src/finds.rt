@@ -6,12 +6,15 @@ ghost use Rattle.std.specs.Int.{int_max, int_min};
 ghost use Rattle.label_search.specs.Plans.{IsPlan, IsShort};
 ghost use Rattle.label_search.specs.Limits.{IsAhead, IsConsistent, IsLimits};
 ghost use Rattle.label_search.specs.Found.{IsFinding, IsFoundBelow};
+ghost use Rattle.label_search.specs.Pending.{IsSettled};
+ghost use Rattle.label_search.specs.Search.{IsSearch, IsStarted};
 
 use crate::firsts::explore_first;
 use crate::lent::LentPlan;
 use crate::limits::{Ahead, Limits};
 use crate::paths::path_to;
 use crate::plans::{Plan, Step, Trip};
+use crate::searches::Search;
 use no_memory::NoMemory;
 use occupation_book::Occupations;
 use rail_types::List;
@@ -93,10 +96,28 @@ fn find_lent_below(
     ensures { IfOk result (IsFoundBelow plan.now trip.now book.now limits.below) }
 {
     let search = explore_first(alloc, plan, book, trip, limits)?;
+    path_found(alloc, plan, book, trip, &search)
+}
+
+// The path to the best end of a search before which no work is due.
+fn path_found(
+    alloc: Global,
+    plan: &LentPlan,
+    book: &Occupations,
+    trip: &Trip,
+    search: &Search,
+) -> Result<Option<List<Step>>, NoMemory>
+    requires plan { IsPlan plan.now book.now }
+    requires search { IsSearch plan.now trip.now book.now search.now }
+    requires started { IsStarted plan.now trip.now search.now }
+    requires settled { IsSettled plan.now trip.now book.now search.now }
+    requires consistent { IsConsistent plan.now search.now.limits.ahead }
+    ensures { IfOk result (IsFoundBelow plan.now trip.now book.now search.now.limits.below) }
+{
     let Some(ending) = search.best else {
         return Ok(None);
     };
-    let steps = path_to(alloc, plan, book, trip, &search, &ending)?;
+    let steps = path_to(alloc, plan, book, trip, search, &ending)?;
     Ok(Some(steps))
 }
 

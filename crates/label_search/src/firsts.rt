@@ -13,8 +13,8 @@ ghost use Rattle.label_search.specs.Limits.{IsAhead, IsConsistent, IsLimits};
 ghost use Rattle.label_search.specs.Labels.{as_front, label_at};
 ghost use Rattle.label_search.specs.Search.{IsFrontOf, IsSearch, IsStarted};
 ghost use Rattle.label_search.specs.Queues.{Waits};
-ghost use Rattle.label_search.specs.Pending.{AreLongWaitsInHand, AreToBeLeft, AreWaitsInHand};
-ghost use Rattle.label_search.specs.Pending.{IsAdvanced, IsDone, IsMoveInHand, IsSettled};
+ghost use Rattle.label_search.specs.Pending.{AreInHand, AreLongWaitsInHand, AreToBeLeft};
+ghost use Rattle.label_search.specs.Pending.{AreWaitsInHand, IsAdvanced, IsDone, IsMoveInHand, IsSettled};
 ghost use Rattle.label_search.specs.Pending.{IsToBeLeft, stop_at, waited as waited_there};
 ghost use Rattle.label_search.specs.declared.queues.Due.{Due as due_type};
 
@@ -34,7 +34,7 @@ use rail_types::{Tick, Window};
 use std::alloc::Global;
 
 // A move from the place of a label, by its number there.
-#[derive(Clone, Copy, Debug)]
+#[derive(Clone, Copy)]
 struct Onward {
     label: usize,
     number: usize,
@@ -57,14 +57,57 @@ pub(crate) fn explore_first(
     ensures settled { IfOk result (IsSettled plan.now trip.now book.now) }
 {
     let mut search = start(alloc, plan, book, trip, limits)?;
+    explore_due(alloc, plan, book, trip, &mut search)?;
+    Ok(search)
+}
+
+// Leaves the labels of the start, and does what is due before the best end.
+fn explore_due(
+    alloc: Global,
+    plan: &LentPlan,
+    book: &Occupations,
+    trip: &Trip,
+    search: &mut Search,
+) -> Result<(), NoMemory>
+    requires plan { IsPlan plan.now book.now }
+    requires search { IsSearch plan.now trip.now book.now search.old }
+    requires started { IsStarted plan.now trip.now search.old }
+    requires consistent { IsConsistent plan.now search.old.limits.ahead }
+    ensures limits { OnOk result (search.new.limits ≡ search.old.limits) }
+    ensures search { OnOk result (IsSearch plan.now trip.now book.now search.new) }
+    ensures started { OnOk result (IsStarted plan.now trip.now search.new) }
+    ensures settled { OnOk result (IsSettled plan.now trip.now book.now search.new) }
+{
     let mut queue = Queue::new(alloc);
-    leave_later(alloc, plan, book, trip, &search, &mut queue, 0)?;
+    leave_later(alloc, plan, book, trip, search, &mut queue, 0)?;
+    take_up_all(alloc, plan, book, trip, search, &mut queue)
+}
+
+// Does what is due before the best end.
+fn take_up_all(
+    alloc: Global,
+    plan: &LentPlan,
+    book: &Occupations,
+    trip: &Trip,
+    search: &mut Search,
+    queue: &mut Queue,
+) -> Result<(), NoMemory>
+    requires plan { IsPlan plan.now book.now }
+    requires search { IsSearch plan.now trip.now book.now search.old }
+    requires started { IsStarted plan.now trip.now search.old }
+    requires consistent { IsConsistent plan.now search.old.limits.ahead }
+    requires in_hand { AreInHand plan.now trip.now book.now search.old queue.old }
+    ensures limits { OnOk result (search.new.limits ≡ search.old.limits) }
+    ensures search { OnOk result (IsSearch plan.now trip.now book.now search.new) }
+    ensures started { OnOk result (IsStarted plan.now trip.now search.new) }
+    ensures settled { OnOk result (IsSettled plan.now trip.now book.now search.new) }
+{
     for _ in 0..u64::MAX {
-        let stop = stop_of(&search);
+        let stop = stop_of(search);
         let Some(due) = queue.pop_before(&stop.ticks) else {
-            return Ok(search);
+            return Ok(());
         };
-        take_up(alloc, plan, book, trip, &mut search, &mut queue, &due.task)?;
+        take_up(alloc, plan, book, trip, search, queue, &due.task)?;
     }
     // More work than can be counted.
     Err(NoMemory)

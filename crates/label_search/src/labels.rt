@@ -3,7 +3,7 @@
 ghost use Rattle.rail_types.specs.declared.limits.TheConstants.{FAR_TICK};
 ghost use Rattle.std.specs.Prelude.{◌≡◌, ℕ, ◌<◌, ◌≤◌, ℤ, ◌+ℤ◌, ◌<ℤ◌, ◌≤ℤ◌, [], ◌∷◌, ◌++◌, ◌↔◌};
 ghost use Rattle.std.specs.Prelude.{false, length, take, All, Bool as bool_type, IfOk, IsTrue};
-ghost use Rattle.std.specs.Prelude.{OnOk};
+ghost use Rattle.std.specs.Prelude.{OnOk, pos};
 ghost use Rattle.free_windows.specs.Free.{Holds};
 ghost use Rattle.rail_types.specs.Limits.{IsNear};
 ghost use Rattle.label_search.specs.Spans.{IsNearBelow};
@@ -50,14 +50,14 @@ pub struct Label {
 }
 
 // The number of a label, and where its ticks came from.
-#[derive(Clone, Copy, Debug)]
+#[derive(Clone, Copy)]
 pub(crate) struct Source {
     pub(crate) number: usize,
     pub(crate) origin: Origin,
 }
 
 /// The same without its origin.
-#[derive(Clone, Copy, Debug, PartialEq, Eq, PartialOrd, Ord)]
+#[derive(Clone, Copy, PartialEq, Eq, PartialOrd, Ord)]
 pub struct Front {
     pub place: u32,
     pub ready: bool,
@@ -65,7 +65,7 @@ pub struct Front {
 }
 
 /// A tick of a place.
-#[derive(Clone, Copy, Debug)]
+#[derive(Clone, Copy)]
 pub(crate) struct Moment {
     pub(crate) place: u32,
     pub(crate) ready: bool,
@@ -73,7 +73,7 @@ pub(crate) struct Moment {
 }
 
 /// Labels, and of each place the ticks that they have.
-#[derive(Debug, Drop)]
+#[derive(Drop)]
 pub(crate) struct Labels {
     labels: Vec<Label>,
     arrived: Vec<Seen>,
@@ -280,8 +280,15 @@ fn goes_on(current: &Front, part: &Front) -> bool
 {
     current.place == part.place
         && current.ready == part.ready
-        && current.ticks.from <= part.ticks.from
-        && (part.ticks.from <= current.ticks.to || part.ticks.from - 1 == current.ticks.to)
+        && begins_by_the_end(&current.ticks, &part.ticks)
+}
+
+// Whether a window begins in another, or behind its last tick.
+fn begins_by_the_end(current: &Window, part: &Window) -> bool
+    ensures { IsTrue result → (current.now.from ≤ℤ part.now.from)
+        × (part.now.from ≤ℤ (current.now.to +ℤ pos 1)) }
+{
+    current.from <= part.from && (part.from <= current.to || part.from - 1 == current.to)
 }
 
 fn joined(current: &Front, part: &Front) -> Front

@@ -6,6 +6,7 @@ ghost use Rattle.label_search.specs.Charts.{
   HasNumbers,
   LeadOnChart,
   LeadWithin,
+  call_at,
   count_over,
   is_called as called_there,
   is_open as open_there,
@@ -18,6 +19,8 @@ ghost use Rattle.label_search.specs.Charts.{
   place_among,
   place_over,
   plan_over,
+  spot_at,
+  stay_over,
   way_among,
   way_over as way_there,
   ways_over,
@@ -25,7 +28,7 @@ ghost use Rattle.label_search.specs.Charts.{
 ghost use Rattle.label_search.specs.Paths.{move_at as move_of, place_at as place_of};
 
 use crate::chart_loans::{Charted, ChartedWays};
-use crate::charts::{Chart, ChartCall, ChartWay};
+use crate::charts::{Chart, ChartCall, ChartSpot, ChartWay};
 use crate::plans::{Move, Place, Plan, Target};
 use rail_types::{Claim, List, Tick};
 use std::marker::Model;
@@ -270,17 +273,33 @@ fn charted_place<'a>(charted: &Charted<'a>, number: usize) -> LentPlace<'a>
         charted.now.calls.now number }
 {
     if number == 0 {
-        let call = &charted.calls[0];
-        return LentPlace {
-            standing: true,
-            dwell: call.dwell,
-            waits: &[],
-            moves: charted_moves(charted, charted.starts, 0),
-        };
+        return charted_start(charted);
     }
     let levels = charted.calls.len();
-    let made = (number - 1) % levels;
-    let spot = &charted.spots[(number - 1) / levels];
+    charted_stay(charted, (number - 1) / levels, (number - 1) % levels)
+}
+
+// The place of the start over a chart.
+fn charted_start<'a>(charted: &Charted<'a>) -> LentPlace<'a>
+    ensures { result ≡ place_over charted.now.spots.now charted.now.starts.now
+        charted.now.calls.now 0 }
+{
+    let call = &charted.calls[0];
+    LentPlace {
+        standing: true,
+        dwell: call.dwell,
+        waits: &[],
+        moves: charted_moves(charted, charted.starts, 0),
+    }
+}
+
+// The place at a spot where so many calls are made.
+fn charted_stay<'a>(charted: &Charted<'a>, spot: usize, made: usize) -> LentPlace<'a>
+    requires spot { spot < length charted.now.spots.now }
+    requires made { made < length charted.now.calls.now }
+    ensures { result ≡ stay_over charted.now.calls.now made (spot_at charted.now.spots.now spot) }
+{
+    let spot = &charted.spots[spot];
     let call = &charted.calls[made];
     LentPlace {
         standing: spot.standing,
@@ -387,15 +406,33 @@ pub fn way_on_chart<'a>(
         (ways_over chart.now.spots starts.now calls.now place)) }
     ensures { result.now ≡ way_there chart.now.spots starts.now calls.now place number }
 {
+    let calls = calls.as_slice();
     if place == 0 {
-        return open_way(&calls.as_slice()[0], starts.as_slice(), number);
+        return open_way(&calls[0], starts.as_slice(), number);
     }
-    let levels = calls.len() as u32;
-    let made = (place - 1) % levels;
-    let spot = &chart.spots.as_slice()[((place - 1) / levels) as usize];
-    open_way(
-        &calls.as_slice()[made as usize],
-        spot.ways.as_slice(),
+    let levels = calls.len();
+    let at = (place - 1) as usize;
+    way_from(
+        chart.spots.as_slice(),
+        calls,
+        at / levels,
+        at % levels,
         number,
     )
+}
+
+// The open way of a number from a spot where so many calls are made.
+fn way_from<'a>(
+    spots: &'a [ChartSpot],
+    calls: &[ChartCall],
+    spot: usize,
+    made: usize,
+    number: usize,
+) -> &'a ChartWay
+    requires spot { spot < length spots.now }
+    requires made { made < length calls.now }
+    requires number { number < length (open_ways calls.now made (spot_at spots.now spot).ways) }
+    ensures { result.now ≡ way_among (call_at calls.now made) (spot_at spots.now spot).ways number }
+{
+    open_way(&calls[made], spots[spot].ways.as_slice(), number)
 }

@@ -48,14 +48,22 @@ pub fn near_to(alloc: Global, chart: &Chart, blocks: &[u32]) -> Result<Near, NoM
     ensures { IfOk result (IsNearTo chart.now.spots blocks.now) }
 {
     let behind = spots_behind(alloc, chart.spots.as_slice(), blocks)?;
+    let ticks = ticks_along(alloc, chart, blocks)?;
+    Ok(Near { ticks, behind })
+}
+
+// The ticks from each spot, or none where the test fails.
+fn ticks_along(alloc: Global, chart: &Chart, blocks: &[u32]) -> Result<List<Ahead>, NoMemory>
+    requires runs { HaveShortRuns chart.now.spots }
+    ensures ahead { IfOk result (All IsAhead) }
+    ensures near { IfOk result (λ ticks. (number : ℕ) → number < length chart.now.spots
+        → All (IsNearAlong blocks.now ticks number) (spot_at chart.now.spots number).ways) }
+{
     let ticks = List::from_vec(entries_of(alloc, chart, blocks)?.distances(alloc)?);
     if are_ahead(&ticks) && are_near(chart, blocks, &ticks) {
-        return Ok(Near { ticks, behind });
+        return Ok(ticks);
     }
-    Ok(Near {
-        ticks: List::new(alloc),
-        behind,
-    })
+    Ok(List::new(alloc))
 }
 
 // Whether the train halts at the end of a way because it is called there.

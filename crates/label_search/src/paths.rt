@@ -1,6 +1,6 @@
 //! The path to an end, from the labels that led there.
 
-ghost use Rattle.std.specs.Prelude.{◌≡◌, ◌<◌, ◌-ℤ◌, false, length, IfOk};
+ghost use Rattle.std.specs.Prelude.{◌≡◌, ◌<◌, ◌-ℤ◌, [], false, length, reverse, IfOk, OnOk};
 ghost use Rattle.std.specs.Int.{int_min};
 ghost use Rattle.label_search.specs.Paths.{IsPath, PathFits, arrival};
 ghost use Rattle.label_search.specs.Plans.{IsPlan, IsShort};
@@ -32,6 +32,29 @@ pub(crate) fn path_to(
     ensures arrival { IfOk result (λ steps. arrival plan.now steps ≡ ending.now.arrive.from) }
 {
     let mut steps = Vec::new(alloc);
+    push_back(plan, book, trip, search, ending, &mut steps)?;
+    steps.reverse();
+    Ok(List::from_vec(steps))
+}
+
+// Puts the steps of that path into an empty list, the last one first.
+fn push_back(
+    plan: &LentPlan,
+    book: &Occupations,
+    trip: &Trip,
+    search: &Search,
+    ending: &Ending,
+    steps: &mut Vec<Step>,
+) -> Result<(), NoMemory>
+    requires plan { IsPlan plan.now book.now }
+    requires search { IsSearch plan.now trip.now book.now search.now }
+    requires ending { IsEnding plan.now trip.now book.now search.now.labels.labels ending.now }
+    requires none { steps.old.items ≡ [] }
+    ensures path { OnOk result (IsPath plan.now trip.now (reverse steps.new.items)) }
+    ensures fits { OnOk result (PathFits plan.now book.now (reverse steps.new.items)) }
+    ensures arrival { OnOk result (arrival plan.now (reverse steps.new.items)
+        ≡ ending.now.arrive.from) }
+{
     let step = move_at(plan, ending.place, ending.number);
     let mut at = entered(&step, ending.place, ending.ready, &end_of(ending));
     steps.push(step_of(ending.number, &at))?;
@@ -40,10 +63,7 @@ pub(crate) fn path_to(
         let source = search.labels.source_of(&at, until);
         until = source.number;
         match source.origin {
-            Origin::Start => {
-                steps.reverse();
-                return Ok(List::from_vec(steps));
-            }
+            Origin::Start => return Ok(()),
             Origin::Wait { arrivals } => {
                 at = came(&arrivals, &place_at(plan, at.place), &at);
             }

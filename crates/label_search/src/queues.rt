@@ -15,7 +15,7 @@ use std::marker::Model;
 const LAST_BUCKET: usize = 131_072;
 
 /// What is to be looked at from a label on.
-#[derive(Clone, Copy, Debug)]
+#[derive(Clone, Copy)]
 pub(crate) enum Work {
     /// All moves of the label, or the waits there.
     Leave,
@@ -26,21 +26,21 @@ pub(crate) enum Work {
 }
 
 /// Work of a label.
-#[derive(Clone, Copy, Debug)]
+#[derive(Clone, Copy)]
 pub(crate) struct Task {
     pub(crate) label: usize,
     pub(crate) work: Work,
 }
 
 /// Work with the least tick at which what it leads to can arrive.
-#[derive(Clone, Copy, Debug)]
+#[derive(Clone, Copy)]
 pub(crate) struct Due {
     pub(crate) tick: Tick,
     pub(crate) task: Task,
 }
 
 // Work that is due at one tick.
-#[derive(Debug, Drop)]
+#[derive(Drop)]
 struct Bucket {
     due: Vec<Due>,
 }
@@ -81,7 +81,7 @@ impl Bucket {
 
 /// Work by the tick at which it is due: buckets for the ticks from a first one on,
 /// where nothing waits before one.
-#[derive(Debug, Drop)]
+#[derive(Drop)]
 pub(crate) struct Queue {
     buckets: Vec<Bucket>,
     first: usize,

@@ -2,7 +2,7 @@
 
 ghost use Rattle.std.specs.Prelude.{◌≡◌, ◌⊎◌, ℕ, ◌+◌, ◌<◌, ◌≤◌, ℤ, pos, ◌+ℤ◌, ◌-ℤ◌, ◌<ℤ◌, ◌≤ℤ◌};
 ghost use Rattle.std.specs.Prelude.{false, true, length, All, Bool as bool_type, IfOk, IfSome};
-ghost use Rattle.std.specs.Prelude.{IsTrue, OnOk};
+ghost use Rattle.std.specs.Prelude.{IsTrue, OnOk, Some};
 ghost use Rattle.std.specs.Int.{int_max, int_min};
 ghost use Rattle.label_search.specs.Free.{Fits};
 ghost use Rattle.free_windows.specs.Free.{Holds};
@@ -30,7 +30,7 @@ use std::alloc::Global;
 
 /// An end: the place before it, whether the train had to be ready there, the number of the move,
 /// and the ticks of arrival, of which a path takes the first.
-#[derive(Clone, Copy, Debug)]
+#[derive(Clone, Copy)]
 pub struct Ending {
     pub place: u32,
     pub ready: bool,
@@ -38,7 +38,7 @@ pub struct Ending {
     pub arrive: Window,
 }
 
-#[derive(Debug, Drop)]
+#[derive(Drop)]
 pub(crate) struct Search {
     pub(crate) labels: Labels,
     pub(crate) best: Option<Ending>,
@@ -65,11 +65,31 @@ pub(crate) fn explore_all(
     let mut next = 0;
     while next < search.labels.len() {
         let end = search.labels.len();
-        let fronts = search.labels.fronts(alloc, next)?;
-        explore_fronts(plan, book, trip, &mut search, fronts.as_slice())?;
+        explore_from(alloc, plan, book, trip, &mut search, next)?;
         next = end;
     }
     Ok(search)
+}
+
+// Explores the labels from a number on, where those before are explored.
+fn explore_from(
+    alloc: Global,
+    plan: &LentPlan,
+    book: &Occupations,
+    trip: &Trip,
+    search: &mut Search,
+    from: usize,
+) -> Result<(), NoMemory>
+    requires plan { IsPlan plan.now book.now }
+    requires search { IsSearch plan.now trip.now book.now search.old }
+    requires explored { IsExploredTo plan.now trip.now book.now (λ one. from) search.old }
+    ensures search { IsSearch plan.now trip.now book.now search.new }
+    ensures further { IsFurther search.old search.new }
+    ensures explored { OnOk result (IsExploredTo plan.now trip.now book.now (λ one. length
+        search.old.labels.labels) search.new) }
+{
+    let fronts = search.labels.fronts(alloc, from)?;
+    explore_fronts(plan, book, trip, search, fronts.as_slice())
 }
 
 fn explore_fronts(
@@ -279,14 +299,26 @@ fn better(trip: &Trip, best: Option<Ending>, ending: &Ending) -> Option<Ending>
     if arrive.from > arrive.to {
         return best;
     }
-    match best {
-        Some(other) if other.arrive.from <= arrive.from => best,
-        _ => Some(Ending {
+    earlier(
+        best,
+        &Ending {
             place: ending.place,
             ready: ending.ready,
             number: ending.number,
             arrive,
-        }),
+        },
+    )
+}
+
+// The earlier of the best end so far and another.
+fn earlier(best: Option<Ending>, one: &Ending) -> Option<Ending>
+    ensures beaten { (leave : ℤ) → one.now.arrive.from ≤ℤ leave → IsBeaten result leave }
+    ensures kept { (leave : ℤ) → IsBeaten best leave → IsBeaten result leave }
+    ensures one { (result ≡ best) ⊎ (result ≡ Some one.now) }
+{
+    match best {
+        Some(other) if other.arrive.from <= one.arrive.from => best,
+        _ => Some(*one),
     }
 }
 

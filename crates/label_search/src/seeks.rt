@@ -1,15 +1,16 @@
 //! The path that arrives first, or none, each with members that show it.
 
-ghost use Rattle.std.specs.Prelude.{IfOk};
+ghost use Rattle.std.specs.Prelude.{IfOk, length};
 ghost use Rattle.label_search.specs.Plans.{IsPlan};
 ghost use Rattle.label_search.specs.Sought.{IsSearched, IsSought};
 ghost use Rattle.label_search.specs.Limits.{IsConsistent, IsLimits};
+ghost use Rattle.label_search.specs.Search.{IsExploredTo, IsSearch, IsStarted};
 
 use crate::lent::LentPlan;
 use crate::limits::{Limits, no_limits};
 use crate::paths::path_to;
 use crate::plans::{Member, Plan, Step, Trip};
-use crate::searches::explore_all;
+use crate::searches::{Search, explore_all};
 use no_memory::NoMemory;
 use occupation_book::Occupations;
 use rail_types::List;
@@ -54,11 +55,30 @@ fn search_lent(
     ensures { IfOk result (IsSearched plan.now trip.now book.now limits) }
 {
     let search = explore_all(alloc, plan, book, trip, limits)?;
+    sought_by(alloc, plan, book, trip, &search)
+}
+
+// What a search has found all of whose labels are explored.
+fn sought_by(
+    alloc: Global,
+    plan: &LentPlan,
+    book: &Occupations,
+    trip: &Trip,
+    search: &Search,
+) -> Result<Sought, NoMemory>
+    requires plan { IsPlan plan.now book.now }
+    requires search { IsSearch plan.now trip.now book.now search.now }
+    requires started { IsStarted plan.now trip.now search.now }
+    requires explored { IsExploredTo plan.now trip.now book.now (λ search. length
+        search.labels.labels) search.now }
+    requires consistent { IsConsistent plan.now search.now.limits.ahead }
+    ensures { IfOk result (IsSearched plan.now trip.now book.now search.now.limits) }
+{
     let members = List::from_vec(search.labels.members(alloc)?);
     let Some(ending) = search.best else {
         return Ok(Sought::NoPath(members));
     };
-    let steps = path_to(alloc, plan, book, trip, &search, &ending)?;
+    let steps = path_to(alloc, plan, book, trip, search, &ending)?;
     Ok(Sought::Found(steps, members))
 }
 

@@ -14,7 +14,7 @@ use std::alloc::Global;
 use std::marker::Model;
 
 /// Ticks, as spans that do not overlap, in order.
-#[derive(Debug, Drop)]
+#[derive(Drop)]
 pub(crate) struct Seen {
     spans: Vec<Span>,
 }

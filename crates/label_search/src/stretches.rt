@@ -13,7 +13,7 @@ ghost use Rattle.rail_types.specs.Limits.{IsNear};
 use rail_types::{Claim, Span, Window};
 
 // The first ticks of a window, all of which are free or none.
-#[derive(Clone, Copy, Debug)]
+#[derive(Clone, Copy)]
 pub(crate) struct Stretch {
     pub(crate) free: bool,
     pub(crate) ticks: Window,

@@ -1,13 +1,10 @@
-use Rattle.std.proofs.Common.{◌≤ℤ◌, All, IfSome, subst, sym}
-use Rattle.label_search.specs.Closed.{IsHeld}
-use Rattle.label_search.specs.Search.{IsEnding}
-use Rattle.label_search.proofs.Seeking.{none_searched, found_searched}
+use Rattle.std.proofs.Common.{IfOk, subst, sym}
+use Rattle.label_search.specs.Limits.{IsConsistent}
+use Rattle.label_search.specs.Sought.{IsSearched}
 use Rattle.label_search.proofs.seeks.search_lent.Goals as goal
 
-pub returns-in_default : goal.returns-in_default
-returns-in_default c = none_searched c.args.plan.now c.args.trip.now c.args.book.now c.requires.plan c.args.limits c.in_ok-search.search c.in_ok-search.ensures.limits c.in_ok-search.ensures.search c.in_ok-search.ensures.started c.in_ok-search.ensures.explored c.requires.consistent _ (λ place tick at. subst (λ members. IsHeld members place tick) (sym c.from_vec-members.ensures) (c.in_ok-members.ensures.held place tick at)) (λ place tick at. c.in_ok-members.ensures.reached place tick (subst (λ members. IsHeld members place tick) c.from_vec-members.ensures at)) (subst (All (λ member. member.window.from ≤ℤ member.window.to)) (sym c.from_vec-members.ensures) c.in_ok-members.ensures.some) c.in_default.is
+pub sought_by-requires-clause-consistent : goal.sought_by-requires-clause-consistent
+sought_by-requires-clause-consistent c = subst (λ limits. IsConsistent c.args.plan.now limits.ahead) (sym c.in_ok-search.ensures.limits) c.requires.consistent
 
 pub returns : goal.returns
-returns c =
-    let ends = subst (λ best. IfSome best (IsEnding c.args.plan.now c.args.trip.now c.args.book.now c.in_ok-search.search.labels.labels)) c.in-Some.is c.in_ok-search.ensures.search.best in
-    found_searched c.args.plan.now c.args.trip.now c.args.book.now c.requires.plan c.args.limits c.in_ok-search.search c.in_ok-search.ensures.limits c.in_ok-search.ensures.search c.in_ok-search.ensures.started c.in_ok-search.ensures.explored c.requires.consistent _ (λ place tick at. subst (λ members. IsHeld members place tick) (sym c.from_vec-members.ensures) (c.in_ok-members.ensures.held place tick at)) (λ place tick at. c.in_ok-members.ensures.reached place tick (subst (λ members. IsHeld members place tick) c.from_vec-members.ensures at)) (subst (All (λ member. member.window.from ≤ℤ member.window.to)) (sym c.from_vec-members.ensures) c.in_ok-members.ensures.some) c.in-Some.ending c.in-Some.is ends _ c.in_ok-steps.ensures.path c.in_ok-steps.ensures.fits c.in_ok-steps.ensures.arrival
+returns c = subst (λ limits. IfOk c.sought_by.result (IsSearched c.args.plan.now c.args.trip.now c.args.book.now limits)) c.in_ok-search.ensures.limits c.sought_by.ensures

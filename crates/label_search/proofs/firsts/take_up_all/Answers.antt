@@ -1,19 +1,17 @@
-use Rattle.std.proofs.Common.{◌∙◌, length, arith, subst, sym}
+use Rattle.std.proofs.Common.{◌∙◌, length, refl, subst, sym}
 use Rattle.label_search.specs.Limits.{IsConsistent}
 use Rattle.label_search.proofs.Covers.{reached_more}
 use Rattle.label_search.proofs.Handling.{all_in_hand}
 use Rattle.label_search.proofs.Leaving.{labels_in_hand}
-use Rattle.label_search.proofs.firsts.explore_first.Goals as goal
+use Rattle.label_search.proofs.firsts.take_up_all.Goals as goal
 
 pub loop-init : goal.loop-init
-loop-init c =
-    let consistent : IsConsistent c.args.plan.now c.in_ok-search.search.limits.ahead = subst (λ l. IsConsistent c.args.plan.now l.ahead) (sym c.in_ok-search.ensures.limits) c.requires.consistent in
-    record {
-      search = c.in_ok-search.ensures.search;
-      started = c.in_ok-search.ensures.started;
-      limits = c.in_ok-search.ensures.limits;
-      in_hand = λ label inside tick held. labels_in_hand c.args.plan.now c.args.trip.now c.args.book.now c.requires.plan c.in_ok-search.search c.in_ok-search.ensures.search consistent c.leave_later.new.queue 0 c.in_ok-leave_later.ensures.left label (omega arith) inside tick held;
-    }
+loop-init c = record {
+  search = c.requires.search;
+  started = c.requires.started;
+  limits = refl;
+  in_hand = c.requires.in_hand;
+}
 
 pub loop-preserved : goal.loop-preserved
 loop-preserved c =
