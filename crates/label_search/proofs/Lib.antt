@@ -9,6 +9,7 @@ pub mod Covers
 pub mod Growth
 pub mod Reaching
 pub mod Waiting
+pub mod Looking
 pub mod Starting
 pub mod Fronts
 pub mod Members

@@ -21,8 +21,7 @@ pub fn bounds(alloc: Global, plan: &Plan) -> Result<List<Ahead>, NoMemory>
     ensures ahead { IfOk result (All IsAhead) }
     ensures consistent { IfOk result (IsConsistent plan.now) }
 {
-    let ahead = lent_bounds(alloc, &LentPlan::listed(plan))?;
-    Ok(ahead)
+    lent_bounds(alloc, &LentPlan::listed(plan))
 }
 
 // The same along a plan that is lent.
@@ -88,17 +87,24 @@ fn is_least(place: &LentPlace, step: &LentMove, here: &Ahead, there: &Ahead) -> 
     ensures { IsTrue result → here.now.ticks ≤ℤ ((wait_of place.now +ℤ step.now.run) +ℤ
         there.now.ticks) }
 {
-    is_within(here, &least_wait(place), step, there)
+    is_within(here, &least_wait(place), &run_of(step), there)
 }
 
-fn is_within(here: &Ahead, wait: &Ahead, step: &LentMove, there: &Ahead) -> bool
+fn is_within(here: &Ahead, wait: &Ahead, run: &Ahead, there: &Ahead) -> bool
     requires wait { IsShort wait.now.ticks }
-    requires run { IsShort step.now.run }
+    requires run { IsShort run.now.ticks }
     requires there { IsAhead there.now }
-    ensures { IsTrue result → here.now.ticks ≤ℤ ((wait.now.ticks +ℤ step.now.run) +ℤ
+    ensures { IsTrue result → here.now.ticks ≤ℤ ((wait.now.ticks +ℤ run.now.ticks) +ℤ
         there.now.ticks) }
 {
-    here.ticks <= wait.ticks + step.run + there.ticks
+    here.ticks <= wait.ticks + run.ticks + there.ticks
+}
+
+// The ticks that a move takes.
+fn run_of(step: &LentMove) -> Ahead
+    ensures { result.ticks ≡ step.now.run }
+{
+    Ahead { ticks: step.run }
 }
 
 // The ticks that a train waits at a place at least.

@@ -41,8 +41,7 @@ pub fn find(
     requires consistent { IsConsistent plan.now ahead.now }
     ensures { IfOk result (IsFinding plan.now trip.now book.now) }
 {
-    let finding = find_lent(alloc, &LentPlan::listed(plan), book, trip, ahead)?;
-    Ok(finding)
+    find_lent(alloc, &LentPlan::listed(plan), book, trip, ahead)
 }
 
 /// The same along a plan that is lent.
@@ -79,8 +78,7 @@ pub fn find_below(
     requires consistent { IsConsistent plan.now limits.ahead }
     ensures { IfOk result (IsFoundBelow plan.now trip.now book.now limits.below) }
 {
-    let found = find_lent_below(alloc, &LentPlan::listed(plan), book, trip, limits)?;
-    Ok(found)
+    find_lent_below(alloc, &LentPlan::listed(plan), book, trip, limits)
 }
 
 fn find_lent_below(

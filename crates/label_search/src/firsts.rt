@@ -14,8 +14,9 @@ ghost use Rattle.label_search.specs.Labels.{as_front, label_at};
 ghost use Rattle.label_search.specs.Search.{IsFrontOf, IsSearch, IsStarted};
 ghost use Rattle.label_search.specs.Queues.{Waits};
 ghost use Rattle.label_search.specs.Pending.{AreInHand, AreLongWaitsInHand, AreToBeLeft};
-ghost use Rattle.label_search.specs.Pending.{AreWaitsInHand, IsAdvanced, IsDone, IsMoveInHand, IsSettled};
-ghost use Rattle.label_search.specs.Pending.{IsToBeLeft, stop_at, waited as waited_there};
+ghost use Rattle.label_search.specs.Pending.{AreWaitsInHand, IsAdvanced, IsDone, IsMoveInHand};
+ghost use Rattle.label_search.specs.Pending.{IsSettled, IsToBeLeft, stop_at};
+ghost use Rattle.label_search.specs.Pending.{waited as waited_there};
 ghost use Rattle.label_search.specs.declared.queues.Due.{Due as due_type};
 
 use crate::labels::Front;

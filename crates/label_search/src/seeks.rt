@@ -38,8 +38,7 @@ pub fn search(
     requires consistent { IsConsistent plan.now limits.ahead }
     ensures { IfOk result (IsSearched plan.now trip.now book.now limits) }
 {
-    let sought = search_lent(alloc, &LentPlan::listed(plan), book, trip, limits)?;
-    Ok(sought)
+    search_lent(alloc, &LentPlan::listed(plan), book, trip, limits)
 }
 
 fn search_lent(

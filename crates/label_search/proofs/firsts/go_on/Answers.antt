@@ -5,6 +5,7 @@ use Rattle.label_search.specs.Plans.{IsShort}
 use Rattle.label_search.proofs.Reaching.{free_moves, free_below}
 use Rattle.label_search.proofs.Advancing.{advanced_none, advanced_later, advanced_push}
 use Rattle.label_search.proofs.Going.{none_in_hand, last_in_hand, rest_in_hand}
+use Rattle.label_search.proofs.Looking.{pieces_of_move, run_of_move}
 use Rattle.label_search.proofs.firsts.go_on.Goals as goal
 
 pub next_start-requires-clause-within : goal.next_start-requires-clause-within
@@ -69,3 +70,21 @@ pub returns-clause-done : goal.returns-clause-done
 returns-clause-done c = on_ok_weaker c.push.result
     (rest_in_hand c.args.plan.now c.args.book.now c.args.part.now c.args.onward.number c.move_at-step.result c.move_at-step.ensures c.pieces.result.now c.pieces.ensures c.enters-rest.result c.requires.part.ticks.0 c.enters-rest.ensures.from c.args.search.now.limits c.enters-rest.ensures.to c.args.trip.now c.args.search.now c.reach.new.search refl c.reach.ensures.further c.in-Some.free c.in-Some.ensures.found c.in_ok-reach.ensures.admitted c.push.new.self c.args.onward.label c.move_behind.result c.move_behind.ensures.label c.move_behind.ensures.work c.ahead_to-ahead.result c.ahead_to-ahead.ensures.value c.move_behind.ensures.tick)
     c.push.ensures.added
+
+pub enters-rest-requires-clause-run : goal.enters-rest-requires-clause-run
+enters-rest-requires-clause-run c = run_of_move c.args.plan.now c.args.book.now c.requires.plan c.args.part.now.place c.requires.part.place c.args.onward.number c.requires.number c.move_at-step.result c.move_at-step.ensures
+
+pub enters-rest-requires-clause-limits : goal.enters-rest-requires-clause-limits
+enters-rest-requires-clause-limits c = c.requires.search.limits
+
+pub next_start-requires-clause-pieces : goal.next_start-requires-clause-pieces
+next_start-requires-clause-pieces c = pieces_of_move c.args.plan.now c.args.book.now c.requires.plan c.args.part.now.place c.requires.part.place c.args.onward.number c.requires.number c.move_at-step.result c.move_at-step.ensures c.pieces.result.now c.pieces.ensures
+
+pub reach-requires-clause-some : goal.reach-requires-clause-some
+reach-requires-clause-some c = c.in-Some.ensures.found.ticks
+
+pub ahead_to-ahead-requires : goal.ahead_to-ahead-requires
+ahead_to-ahead-requires c = c.reach.ensures.search.limits.ahead
+
+pub move_behind-requires-clause-ahead : goal.move_behind-requires-clause-ahead
+move_behind-requires-clause-ahead c = c.ahead_to-ahead.ensures.ahead

@@ -6,6 +6,7 @@ use Rattle.label_search.specs.Labels.{IsReached}
 use Rattle.label_search.proofs.Waiting.{ready_within, waited}
 use Rattle.label_search.proofs.Advancing.{advanced_none, advanced_later, advanced_push}
 use Rattle.label_search.proofs.Going.{none_waits, last_waits, far_waits, rest_waits}
+use Rattle.label_search.proofs.Looking.{pieces_of_wait}
 use Rattle.label_search.proofs.firsts.go_on_waiting.Goals as goal
 
 pub returns-in_default-clause-advanced : goal.returns-in_default-clause-advanced
@@ -79,3 +80,32 @@ returns-clause-done c =
     on_ok_weaker c.push.result
     (rest_waits c.args.plan.now c.args.book.now c.args.part.now c.place_at-place.result c.place_at-place.ensures c.waits.result.now c.waits.ensures c.until_the_horizon-rest.result c.requires.part.ticks.0 c.until_the_horizon-rest.ensures.from c.until_the_horizon-rest.ensures.to dwell.0 c.push.new.self c.args.label c.in-Some.free c.in-Some.ensures.found c.ready_ticks.result c.ready_ticks.ensures.from c.ready_ticks.ensures.to c.args.search.now c.wait.new.search c.wait.ensures.further c.in_ok-wait.ensures.reached c.waits_behind-due.result c.waits_behind-due.ensures.label c.waits_behind-due.ensures.work c.ahead_at-ahead.result c.ahead_at-ahead.ensures.value c.waits_behind-due.ensures.tick)
     c.push.ensures.added
+
+pub next_start-requires-clause-pieces : goal.next_start-requires-clause-pieces
+next_start-requires-clause-pieces c = pieces_of_wait c.args.plan.now c.args.book.now c.requires.plan c.args.part.now.place c.requires.part.place c.place_at-place.result c.place_at-place.ensures c.waits.result.now c.waits.ensures
+
+pub next_start-requires-clause-within : goal.next_start-requires-clause-within
+next_start-requires-clause-within c =
+    let low = c.requires.part.ticks.0 in let horizon = c.requires.plan.horizon in
+    let from = c.until_the_horizon-rest.ensures.from in let to = c.until_the_horizon-rest.ensures.to in
+    (omega (arith, ints), omega (arith, ints))
+
+pub ready_ticks-requires-clause-near : goal.ready_ticks-requires-clause-near
+ready_ticks-requires-clause-near c =
+    let low = c.requires.part.ticks.0 in let horizon = c.requires.plan.horizon in
+    let from = c.until_the_horizon-rest.ensures.from in let to = c.until_the_horizon-rest.ensures.to in
+    let next = c.in-Some.ensures.found in let first = next.from in let some = next.ticks in let last = next.to in
+    ((omega (arith, ints), omega (arith, ints)), (omega (arith, ints), omega (arith, ints)))
+
+pub waits_behind-due-requires-clause-near : goal.waits_behind-due-requires-clause-near
+waits_behind-due-requires-clause-near c =
+    let low = c.requires.part.ticks.0 in let horizon = c.requires.plan.horizon in
+    let from = c.until_the_horizon-rest.ensures.from in let to = c.until_the_horizon-rest.ensures.to in
+    let next = c.in-Some.ensures.found in let first = next.from in let some = next.ticks in let last = next.to in
+    ((omega (arith, ints), omega (arith, ints)), (omega (arith, ints), omega (arith, ints)))
+
+pub ahead_at-ahead-requires : goal.ahead_at-ahead-requires
+ahead_at-ahead-requires c = c.wait.ensures.search.limits.ahead
+
+pub waits_behind-due-requires-clause-ahead : goal.waits_behind-due-requires-clause-ahead
+waits_behind-due-requires-clause-ahead c = c.ahead_at-ahead.ensures.ahead

@@ -1,7 +1,7 @@
 use Rattle.std.proofs.Common.{arith, sym, subst, take}
 use Rattle.std.proofs.lemmas.List.{take_more, take_all}
 use Rattle.label_search.specs.Labels.{AreJoined, IsIn}
-use Rattle.label_search.proofs.Fronts.{all_sound, all_complete}
+use Rattle.label_search.proofs.Fronts.{all_some, all_sound, all_complete}
 use Rattle.label_search.proofs.labels.merged.Goals as goal
 
 pub loop-number-preserved : goal.loop-number-preserved
@@ -12,3 +12,9 @@ returns-clause-sound c place ready tick is = subst (λ parts. IsIn parts place r
 
 pub returns-clause-complete : goal.returns-clause-complete
 returns-clause-complete c place ready tick is = all_complete _ _ _ c.loop-number.invariant _ c.in_ok-push.ensures.items place ready tick (subst (λ parts. IsIn parts place ready tick) (sym (take_all c.loop-number.number c.args.parts.now (omega arith))) is)
+
+pub join-requires : goal.join-requires
+join-requires c = record { some = c.requires.some c.loop-number.number _ c.loop-number-test.true }
+
+pub returns-clause-some : goal.returns-clause-some
+returns-clause-some c = all_some _ _ _ c.loop-number.invariant _ c.in_ok-push.ensures.items

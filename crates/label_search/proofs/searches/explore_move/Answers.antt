@@ -8,6 +8,7 @@ use Rattle.label_search.specs.Paths.{move_at, leave_of}
 use Rattle.label_search.specs.Search.{step_at}
 use Rattle.label_search.proofs.Growth.{further_none, further_more}
 use Rattle.label_search.proofs.Reaching.{free_moves, free_below, none_left, admitted_more}
+use Rattle.label_search.proofs.Looking.{pieces_of_move, run_of_move}
 use Rattle.label_search.proofs.searches.explore_move.Goals as goal
 
 pub loop-free-init : goal.loop-free-init
@@ -78,3 +79,9 @@ loop-free-smaller c =
 pub reach-requires-clause-below : goal.reach-requires-clause-below
 reach-requires-clause-below c =
     free_below c.args.plan.now c.args.book.now c.args.front.now c.args.number _ c.move_at-step.ensures _ c.pieces.ensures c.loop-free.rest c.requires.front.ticks.0 c.loop-free.invariant.from c.args.search.now.limits c.loop-free.invariant.to _ c.in-Some.ensures.found _ (sym c.loop-free.invariant.further.limits)
+
+pub enters-rest-requires-clause-run : goal.enters-rest-requires-clause-run
+enters-rest-requires-clause-run c = run_of_move c.args.plan.now c.args.book.now c.requires.plan c.args.front.now.place c.requires.front.place c.args.number c.requires.number c.move_at-step.result c.move_at-step.ensures
+
+pub next_start-requires-clause-pieces : goal.next_start-requires-clause-pieces
+next_start-requires-clause-pieces c = pieces_of_move c.args.plan.now c.args.book.now c.requires.plan c.args.front.now.place c.requires.front.place c.args.number c.requires.number c.move_at-step.result c.move_at-step.ensures c.pieces.result.now c.pieces.ensures

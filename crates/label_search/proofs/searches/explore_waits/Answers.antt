@@ -8,6 +8,7 @@ use Rattle.label_search.proofs.Covers.{reached_more}
 use Rattle.label_search.proofs.Growth.{further_more, front_further}
 use Rattle.label_search.proofs.Waiting.{ready_within, waited, waits_more, waits_all}
 use Rattle.label_search.proofs.Gaps.{gap_smaller}
+use Rattle.label_search.proofs.Looking.{dwell_of_wait, pieces_of_wait}
 use Rattle.label_search.proofs.searches.explore_waits.Goals as goal
 
 pub returns-then-free-front-clause-explored : goal.returns-then-free-front-clause-explored
@@ -75,3 +76,33 @@ returns-clause-explored c =
 
 pub wait-requires-clause-front : goal.wait-requires-clause-front
 wait-requires-clause-front c = front_further c.args.plan.now _ _ c.args.front.now c.loop-free.invariant.further c.requires.front
+
+pub loop-free-init : goal.loop-free-init
+loop-free-init c =
+    let from = c.until_the_horizon-rest.ensures.from in
+    record {
+      search = c.go_on_at_once.ensures.search;
+      further = c.go_on_at_once.ensures.further;
+      from = omega (arith, ints);
+      to = c.until_the_horizon-rest.ensures.to;
+      at_once = c.in_ok-go_on_at_once.ensures.reached;
+      explored = λ tick enter held early behind within later fits. let low = held.0 in absurd (omega (arith, ints));
+    }
+
+pub next_start-requires-clause-pieces : goal.next_start-requires-clause-pieces
+next_start-requires-clause-pieces c = pieces_of_wait c.args.plan.now c.args.book.now c.requires.plan c.args.front.now.place c.requires.front.place c.place_at-place.result c.place_at-place.ensures c.waits.result.now c.waits.ensures
+
+pub next_start-requires-clause-within : goal.next_start-requires-clause-within
+next_start-requires-clause-within c =
+    let low = c.requires.front.ticks.0 in let horizon = c.requires.plan.horizon in
+    let from = c.loop-free.invariant.from in let to = c.loop-free.invariant.to in
+    (omega (arith, ints), omega (arith, ints))
+
+pub ready_ticks-requires-clause-dwell : goal.ready_ticks-requires-clause-dwell
+ready_ticks-requires-clause-dwell c = dwell_of_wait c.args.plan.now c.args.book.now c.requires.plan c.args.front.now.place c.requires.front.place c.place_at-place.result c.place_at-place.ensures
+
+pub behind-rest-requires : goal.behind-rest-requires
+behind-rest-requires c =
+    let last = c.in-Some.ensures.found.to in let to = c.loop-free.invariant.to in
+    let horizon = c.requires.plan.horizon in
+    record { near = omega (arith, ints) }
