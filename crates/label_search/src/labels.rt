@@ -147,8 +147,7 @@ impl Labels {
     {
         let mut parts = fronts_from(alloc, self.labels.as_slice(), from)?;
         parts.sort_unstable();
-        let fronts = merged(alloc, parts.as_slice())?;
-        Ok(fronts)
+        merged(alloc, parts.as_slice())
     }
 
     // The places and ticks of arrival.
