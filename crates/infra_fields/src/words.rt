@@ -45,12 +45,10 @@ pub fn direction(
 fn direction_named(word: &str) -> Option<Direction>
     ensures { result ≡ direction_named word.now }
 {
-    if word == "START_TO_STOP" {
-        Some(Direction::StartToStop)
-    } else if word == "STOP_TO_START" {
-        Some(Direction::StopToStart)
-    } else {
-        None
+    match word {
+        "START_TO_STOP" => Some(Direction::StartToStop),
+        "STOP_TO_START" => Some(Direction::StopToStart),
+        _ => None,
     }
 }
 
@@ -68,12 +66,10 @@ pub fn end(alloc: Global, place: &Place, value: &Value, field: &str) -> Result<E
 fn end_named(word: &str) -> Option<End>
     ensures { result ≡ end_named word.now }
 {
-    if word == "BEGIN" {
-        Some(End::Begin)
-    } else if word == "END" {
-        Some(End::End)
-    } else {
-        None
+    match word {
+        "BEGIN" => Some(End::Begin),
+        "END" => Some(End::End),
+        _ => None,
     }
 }
 
@@ -96,14 +92,11 @@ pub fn applies(
 fn applies_named(word: &str) -> Option<Applies>
     ensures { result ≡ applies_named word.now }
 {
-    if word == "START_TO_STOP" {
-        Some(Applies::StartToStop)
-    } else if word == "STOP_TO_START" {
-        Some(Applies::StopToStart)
-    } else if word == "BOTH" {
-        Some(Applies::Both)
-    } else {
-        None
+    match word {
+        "START_TO_STOP" => Some(Applies::StartToStop),
+        "STOP_TO_START" => Some(Applies::StopToStart),
+        "BOTH" => Some(Applies::Both),
+        _ => None,
     }
 }
 
@@ -111,16 +104,12 @@ fn applies_named(word: &str) -> Option<Applies>
 pub fn kind_named(word: &str) -> Option<SwitchKind>
     ensures { result ≡ kind_named word.now }
 {
-    if word == "point_switch" {
-        Some(SwitchKind::Point)
-    } else if word == "link" {
-        Some(SwitchKind::Link)
-    } else if word == "crossing" {
-        Some(SwitchKind::Crossing)
-    } else if word == "double_slip_switch" {
-        Some(SwitchKind::DoubleSlip)
-    } else {
-        None
+    match word {
+        "point_switch" => Some(SwitchKind::Point),
+        "link" => Some(SwitchKind::Link),
+        "crossing" => Some(SwitchKind::Crossing),
+        "double_slip_switch" => Some(SwitchKind::DoubleSlip),
+        _ => None,
     }
 }
 
