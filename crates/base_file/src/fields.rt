@@ -8,7 +8,7 @@ ghost use Rattle.rail_types.specs.Limits.{IsTick};
 ghost use Rattle.base_file.specs.declared.faults.BaseFault.TheVariants.{Kind, Memory};
 ghost use Rattle.base_file.specs.Fields.{Gives, object_at, found_at, name_at, limited_name};
 ghost use Rattle.base_file.specs.Fields.{number_read, within, number_at, whole_at, near, tick_at};
-ghost use Rattle.base_file.specs.Fields.{zone_among, zone_at, flag, flag_at, list_at, elements_of};
+ghost use Rattle.base_file.specs.Fields.{zone_among, zone_at, flag, flag_at, list_at};
 
 use crate::faults::{BaseFault, What};
 use decimal_quote::NotWhole;
@@ -138,21 +138,7 @@ fn whole_of(alloc: Global, place: &Place, found: &Value, field: &str) -> Result<
         (number_read (spot_of place.now field.now) (view found.now)
         (whole_value (view found.now))) }
 {
-    read(alloc, place, found, field, whole_in(found))
-}
-
-/// The number that was read from a field, where one was.
-fn read(
-    alloc: Global,
-    place: &Place,
-    found: &Value,
-    field: &str,
-    read: Result<i64, NotWhole>,
-) -> Result<i64, BaseFault>
-    ensures { Gives (λ number. number) result
-        (number_read (spot_of place.now field.now) (view found.now) read) }
-{
-    match read {
+    match whole_in(found) {
         Ok(number) => Ok(number),
         Err(NotWhole::Range) => Err(BaseFault::Limit {
             what: What::Number,
@@ -273,6 +259,7 @@ fn flag_of(number: &i64, what: What) -> Result<bool, BaseFault>
 }
 
 /// The list of a field.
+#[tactic(auto, using(crate::proofs::Lists::list_back))]
 pub(crate) fn list<'a>(
     alloc: Global,
     place: &Place,
@@ -283,19 +270,6 @@ pub(crate) fn list<'a>(
         (list_at place.now field.now (view value.now)) }
 {
     let found = found(alloc, place, value, field)?;
-    elements(alloc, place, found, field)
-}
-
-#[tactic(auto, using(crate::proofs::Lists::list_back))]
-fn elements<'a>(
-    alloc: Global,
-    place: &Place,
-    found: &'a Value,
-    field: &str,
-) -> Result<&'a [Value], BaseFault>
-    ensures { Gives (λ items. map view items.now) result
-        (elements_of (spot_of place.now field.now) (view found.now)) }
-{
     let Some(items) = found.as_array() else {
         return Err(wrong_kind(alloc, place, field));
     };

@@ -7,7 +7,7 @@ ghost use Rattle.json_fields.specs.Reading.{or_fault};
 ghost use Rattle.json_fields.specs.Texts.{data_of};
 ghost use Rattle.rail_types.specs.Limits.{IsSettingsWithinLimits};
 ghost use Rattle.base_file.specs.declared.faults.BaseFault.TheVariants.{NotJson};
-ghost use Rattle.base_file.specs.Base.{GivesBase, base_at, claims_in, object_of};
+ghost use Rattle.base_file.specs.Base.{GivesBase, base_at, claims_in, object_of, text_at};
 ghost use Rattle.base_file.specs.Fields.{Gives};
 ghost use Rattle.base_file.specs.Sound.{AreClaimsOn, IsBaseOn};
 
@@ -38,6 +38,15 @@ pub fn read_base(alloc: Global, bytes: &[u8], zones: u32) -> Result<Base, BaseFa
             count: MAX_TIMETABLE_FILE_BYTES as i64 + 1,
         });
     }
+    read_text(alloc, bytes, zones)
+}
+
+/// The base of a text of JSON.
+fn read_text(alloc: Global, bytes: &[u8], zones: u32) -> Result<Base, BaseFault>
+    ensures read { (quoted : list_of ℕ) → IsQuoted bytes.now quoted →
+        GivesBase result (text_at zones quoted) }
+    ensures sound { IfOk result (λ base. IsBaseOn zones base) }
+{
     let file = parsed(alloc, bytes)?;
     read_object(alloc, &file, zones)
 }

@@ -1,0 +1,4 @@
+use Rattle.base_file.proofs.files.read_text.Goals as goal
+
+pub returns-clause-sound : goal.returns-clause-sound
+returns-clause-sound c = c.read_object.ensures.sound
