@@ -21,7 +21,7 @@ use std::alloc::Global;
 use track_graph::Graph;
 
 /// How a route ends.
-#[derive(Clone, Copy, Debug, PartialEq, Eq)]
+#[derive(Clone, Copy)]
 pub(crate) enum Ending {
     Exit,
     NoWay,

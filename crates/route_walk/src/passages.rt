@@ -9,7 +9,7 @@ use indexmap::IndexSet;
 use no_memory::NoMemory;
 
 /// What a place is to a walk that comes to it.
-#[derive(Clone, Copy, Debug, PartialEq, Eq)]
+#[derive(Clone, Copy)]
 pub(crate) enum Passage {
     On,
     Exit,

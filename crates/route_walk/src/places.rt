@@ -11,7 +11,7 @@ use rail_types::infra_types::{Direction, End, Infra, TrackEnd};
 use track_graph::{Graph, Stand};
 
 /// A point at which a route can end: a detector, or where a buffer stop stands.
-#[derive(Clone, Copy, Debug, PartialEq, Eq)]
+#[derive(Clone, Copy, PartialEq, Eq)]
 pub(crate) enum Point {
     Detector(u32),
     Stop { track: u32, at: u64 },
@@ -20,7 +20,7 @@ pub(crate) enum Point {
 /// Where a route is on a track: at a metre, with so many of the track's detectors on the
 /// begin's side of it, and the position of the first buffer stop ahead. It tells whether the
 /// route has just passed a detector.
-#[derive(Clone, Copy, Debug, PartialEq, Eq)]
+#[derive(Clone, Copy)]
 pub(crate) struct Spot {
     pub track: u32,
     pub direction: Direction,
@@ -32,7 +32,7 @@ pub(crate) struct Spot {
 
 /// What a route comes to: a point, or the end of a track where there is none. The stretch to it
 /// begins at a metre; at a level point it begins at a detector of the same position.
-#[derive(Clone, Copy, Debug, PartialEq, Eq)]
+#[derive(Clone, Copy)]
 pub(crate) struct Place {
     pub from: u64,
     pub point: Option<Point>,
