@@ -44,18 +44,31 @@ impl Pipe {
 /// The machine's name for a word: `<` and `>` are the ends of the pipe, and a word
 /// behind `~` is a file of this run.
 pub fn name_of(rt: &HostRuntime, pipe: &Pipe, word: &str) -> io::Result<String> {
-    if word == "<" {
-        return match &pipe.reader {
-            Some(reader) => Ok(format!(in rt.alloc(); "/dev/fd/{}", reader.as_raw_fd())?),
-            None => Err(not_understood()),
-        };
+    match word {
+        "<" => reader_name(rt, pipe),
+        ">" => writer_name(rt, pipe),
+        _ => file_name(rt, word),
     }
-    if word == ">" {
-        return match &pipe.writer {
-            Some(writer) => Ok(format!(in rt.alloc(); "/dev/fd/{}", writer.as_raw_fd())?),
-            None => Err(not_understood()),
-        };
+}
+
+// The machine's name of the end that is read from.
+fn reader_name(rt: &HostRuntime, pipe: &Pipe) -> io::Result<String> {
+    match &pipe.reader {
+        Some(reader) => Ok(format!(in rt.alloc(); "/dev/fd/{}", reader.as_raw_fd())?),
+        None => Err(not_understood()),
     }
+}
+
+// The machine's name of the end that is written to.
+fn writer_name(rt: &HostRuntime, pipe: &Pipe) -> io::Result<String> {
+    match &pipe.writer {
+        Some(writer) => Ok(format!(in rt.alloc(); "/dev/fd/{}", writer.as_raw_fd())?),
+        None => Err(not_understood()),
+    }
+}
+
+// The machine's name of a file.
+fn file_name(rt: &HostRuntime, word: &str) -> io::Result<String> {
     match word.strip_prefix("~") {
         Some(name) => own_file(rt, name),
         None => Ok(String::from_str(rt.alloc(), word)?),

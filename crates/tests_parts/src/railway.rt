@@ -14,13 +14,8 @@ use std::alloc::Global;
 
 // A block of 2000 m with the zone and the operational point of its number.
 fn block(alloc: Global, number: u32, sight_m: u32, ends: (u32, u32)) -> Result<Block, NoMemory> {
-    let mut cells = List::new(alloc);
-    cells.push(Cell {
-        zone: number,
-        release_m: 2000,
-    })?;
-    let mut serves = List::new(alloc);
-    serves.push(number)?;
+    let cells = cells_of(alloc, number)?;
+    let serves = serves_of(alloc, number)?;
     Ok(Block {
         length_m: 2000,
         speed: 200_000,
@@ -32,17 +27,41 @@ fn block(alloc: Global, number: u32, sight_m: u32, ends: (u32, u32)) -> Result<B
     })
 }
 
+fn cells_of(alloc: Global, number: u32) -> Result<List<Cell>, NoMemory> {
+    let mut cells = List::new(alloc);
+    cells.push(Cell {
+        zone: number,
+        release_m: 2000,
+    })?;
+    Ok(cells)
+}
+
+fn serves_of(alloc: Global, number: u32) -> Result<List<u32>, NoMemory> {
+    let mut serves = List::new(alloc);
+    serves.push(number)?;
+    Ok(serves)
+}
+
 fn line_of_three(alloc: Global) -> Result<Network, NoMemory> {
-    let mut blocks = List::new(alloc);
-    blocks.push(block(alloc, 0, 0, (4, 0))?)?;
-    blocks.push(block(alloc, 1, 400, (0, 2))?)?;
-    blocks.push(block(alloc, 2, 400, (2, 6))?)?;
     Ok(Network {
         zones: 3,
         points: 8,
         stops: 3,
-        blocks,
+        blocks: three_blocks(alloc)?,
     })
+}
+
+// The blocks, each with the points that it leads from and to.
+fn three_blocks(alloc: Global) -> Result<List<Block>, NoMemory> {
+    let mut blocks = List::new(alloc);
+    for (number, sight_m, ends) in [
+        (0u32, 0u32, (4u32, 0u32)),
+        (1, 400, (0, 2)),
+        (2, 400, (2, 6)),
+    ] {
+        blocks.push(block(alloc, number, sight_m, ends)?)?;
+    }
+    Ok(blocks)
 }
 
 fn is_settings(settings: &Settings) -> bool
@@ -78,10 +97,21 @@ pub fn first_world(alloc: Global, clients: u32) -> Result<Option<World>, NoMemor
     let claims = List::new(alloc);
     let base = Base { settings, claims };
     let net = line_of_three(alloc)?;
-    if !is_timetable(&net, &base) {
-        return Ok(None);
+    world_of(alloc, net, base, clients)
+}
+
+// The world of such a timetable, if nothing is wrong with it.
+fn world_of(
+    alloc: Global,
+    net: Network,
+    base: Base,
+    clients: u32,
+) -> Result<Option<World>, NoMemory> {
+    if is_timetable(&net, &base) {
+        Ok(Some(World::new(alloc, net, base, clients)?))
+    } else {
+        Ok(None)
     }
-    Ok(Some(World::new(alloc, net, base, clients)?))
 }
 
 fn train(alloc: Global) -> Result<Train, NoMemory> {
@@ -97,6 +127,13 @@ fn train(alloc: Global) -> Result<Train, NoMemory> {
 
 /// The path of the train from end to end that departs at this tick: 15, 10 and 14 ticks.
 pub fn path(alloc: Global, depart: i64) -> Result<Path, NoMemory> {
+    let runs = runs_of(alloc, depart)?;
+    let train = train(alloc)?;
+    Ok(Path { train, runs })
+}
+
+// The runs of that path.
+fn runs_of(alloc: Global, depart: i64) -> Result<List<Run>, NoMemory> {
     let mut runs = List::new(alloc);
     let mut enter = depart;
     for (block, ticks) in [(0u32, 15i64), (1, 10), (2, 14)] {
@@ -109,8 +146,7 @@ pub fn path(alloc: Global, depart: i64) -> Result<Path, NoMemory> {
         })?;
         enter = leave;
     }
-    let train = train(alloc)?;
-    Ok(Path { train, runs })
+    Ok(runs)
 }
 
 /// The request of the train for such a path.

@@ -82,14 +82,21 @@ fn carry_out_line(rt: &HostRuntime, table: &mut Table, line: &str) -> io::Result
             Ok(())
         }
         "event" | "client" => use_world(rt, table, word, rest),
-        _ => {
-            let text = if table.is_machine {
-                use_held(alloc, &mut table.of_machine, word, rest)?
-            } else {
-                use_held(alloc, &mut table.of_memory, word, rest)?
-            };
-            println!(rt; "  {text}")
-        }
+        _ => use_object(rt, table, word, rest),
+    }
+}
+
+// Uses what was opened last of the machine or of the outside in memory.
+fn use_object(rt: &HostRuntime, table: &mut Table, word: &str, rest: &str) -> io::Result<()> {
+    let text = text_of_use(rt.alloc(), table, word, rest)?;
+    println!(rt; "  {text}")
+}
+
+fn text_of_use(alloc: Global, table: &mut Table, word: &str, rest: &str) -> io::Result<String> {
+    if table.is_machine {
+        use_held(alloc, &mut table.of_machine, word, rest)
+    } else {
+        use_held(alloc, &mut table.of_memory, word, rest)
     }
 }
 
@@ -121,20 +128,13 @@ fn set(alloc: Global, table: &mut Table, word: &str, rest: &str) -> io::Result<(
             table.memory = MemOutside::new(alloc, fails);
             Ok(())
         }
-        "source" => {
-            let source = MemSource::new(Vec::from_slice(alloc, rest.as_bytes())?, fails);
-            table.memory.set_source(name, source).map_err(no_memory)
-        }
-        "long" => {
-            let source = MemSource::new(vec![in alloc; b'x'; size_of(rest)?]?, fails);
-            table.memory.set_source(name, source).map_err(no_memory)
-        }
+        "source" | "long" => set_source(alloc, &mut table.memory, word, name, rest, fails),
         "sink" => {
-            let sink = MemSink::new(alloc, size_of(rest)?, fails).map_err(no_memory)?;
+            let sink = sink_of(alloc, rest, fails)?;
             table.memory.set_sink(name, sink).map_err(no_memory)
         }
         "report" => {
-            let sink = MemSink::new(alloc, size_of(name)?, fails).map_err(no_memory)?;
+            let sink = sink_of(alloc, name, fails)?;
             table.memory.set_report(sink);
             Ok(())
         }
@@ -143,6 +143,35 @@ fn set(alloc: Global, table: &mut Table, word: &str, rest: &str) -> io::Result<(
             table.memory.set_disk(name, disk).map_err(no_memory)
         }
     }
+}
+
+// Sets a source of the outside in memory, of which calls fail.
+fn set_source(
+    alloc: Global,
+    memory: &mut MemOutside,
+    word: &str,
+    name: &str,
+    rest: &str,
+    fails: Vec<u64>,
+) -> io::Result<()> {
+    let bytes = bytes_of(alloc, word, rest)?;
+    let source = MemSource::new(bytes, fails);
+    memory.set_source(name, source).map_err(no_memory)
+}
+
+// A text's bytes, or so many.
+fn bytes_of(alloc: Global, word: &str, rest: &str) -> io::Result<Vec<u8>> {
+    if word == "source" {
+        Ok(Vec::from_slice(alloc, rest.as_bytes())?)
+    } else {
+        Ok(vec![in alloc; b'x'; size_of(rest)?]?)
+    }
+}
+
+// A sink of this room, of which calls fail.
+fn sink_of(alloc: Global, room: &str, fails: Vec<u64>) -> io::Result<MemSink> {
+    let room = size_of(room)?;
+    MemSink::new(alloc, room, fails).map_err(no_memory)
 }
 
 // A disk of this room with these bytes, of which calls fail, or syncs.
@@ -171,13 +200,22 @@ fn use_machine(rt: &HostRuntime, table: &mut Table, word: &str, rest: &str) -> i
             Ok(())
         }
         "close" => table.pipe.close(rest),
-        "content" => {
-            let path = name_of(rt, &table.pipe, rest)?;
-            let text = shown(rt.alloc(), content(rt, path.as_str())?.as_slice())?;
-            println!(rt; "  {rest} holds {text}")
-        }
+        "content" => print_content(rt, &table.pipe, rest),
         _ => remove(rt, name_of(rt, &table.pipe, rest)?.as_str()),
     }
+}
+
+// Prints what a file holds.
+fn print_content(rt: &HostRuntime, pipe: &Pipe, word: &str) -> io::Result<()> {
+    let path = name_of(rt, pipe, word)?;
+    let bytes = content(rt, path.as_str())?;
+    print_bytes(rt, word, &bytes)
+}
+
+// Prints what something holds.
+fn print_bytes(rt: &HostRuntime, what: &str, bytes: &[u8]) -> io::Result<()> {
+    let text = shown(rt.alloc(), bytes)?;
+    println!(rt; "  {what} holds {text}")
 }
 
 // How a machine holds its disks that was turned to by this word.
@@ -194,25 +232,35 @@ fn hand_over(rt: &HostRuntime, table: &mut Table, word: &str, rest: &str) -> io:
     let (kind, name) = kind_and_name(rest);
     let name = name_of(rt, &table.pipe, name)?;
     if word == "back" {
-        return if table.is_machine {
-            put_back(
-                &mut table.machine,
-                &mut table.of_machine,
-                kind,
-                name.as_str(),
-            )
-        } else {
-            put_back(&mut table.memory, &mut table.of_memory, kind, name.as_str())
-        };
+        hand_back(table, kind, name.as_str())
+    } else {
+        print_opened(rt, table, kind, name.as_str())
     }
-    let text = if table.is_machine {
+}
+
+// Puts back what was opened last of a kind.
+fn hand_back(table: &mut Table, kind: &str, name: &str) -> io::Result<()> {
+    if table.is_machine {
+        put_back(&mut table.machine, &mut table.of_machine, kind, name)
+    } else {
+        put_back(&mut table.memory, &mut table.of_memory, kind, name)
+    }
+}
+
+// Opens an object, and prints what came of it.
+fn print_opened(rt: &HostRuntime, table: &mut Table, kind: &str, name: &str) -> io::Result<()> {
+    let text = opened(rt.alloc(), table, kind, name)?;
+    println!(rt; "  {text}")
+}
+
+fn opened(alloc: Global, table: &mut Table, kind: &str, name: &str) -> io::Result<String> {
+    if table.is_machine {
         let (machine, held) = (&mut table.machine, &mut table.of_machine);
-        open(rt.alloc(), machine, held, kind, name.as_str(), table.calls)?
+        open(alloc, machine, held, kind, name, table.calls)
     } else {
         let (memory, held) = (&mut table.memory, &mut table.of_memory);
-        open(rt.alloc(), memory, held, kind, name.as_str(), table.calls)?
-    };
-    println!(rt; "  {text}")
+        open(alloc, memory, held, kind, name, table.calls)
+    }
 }
 
 // Prints what an object in memory holds that is not handed out.
@@ -228,10 +276,7 @@ fn look(rt: &HostRuntime, table: &mut Table, line: &str) -> io::Result<()> {
     };
     match bytes {
         None => println!(rt; "  {line} is not there"),
-        Some(bytes) => {
-            let text = shown(rt.alloc(), bytes)?;
-            println!(rt; "  {line} holds {text}")
-        }
+        Some(bytes) => print_bytes(rt, line, bytes),
     }
 }
 
@@ -241,11 +286,16 @@ fn print_images(rt: &HostRuntime, table: &mut Table, name: &str) -> io::Result<(
         return Err(not_understood());
     };
     for choice in 0..8u64 {
-        let image = disk.crash(rt.alloc(), choice).map_err(no_memory)?;
-        let text = shown(rt.alloc(), image.bytes())?;
-        println!(rt; "  image {choice} {text}")?;
+        print_image(rt, disk, choice)?;
     }
     Ok(())
+}
+
+// Prints what a crash leaves, by its choice.
+fn print_image(rt: &HostRuntime, disk: &MemDisk, choice: u64) -> io::Result<()> {
+    let image = disk.crash(rt.alloc(), choice).map_err(no_memory)?;
+    let text = shown(rt.alloc(), image.bytes())?;
+    println!(rt; "  image {choice} {text}")
 }
 
 // An event of the world, or what a client of it knows.

@@ -67,6 +67,12 @@ pub fn known(alloc: Global, world: &World, line: &str) -> io::Result<String> {
         return Err(not_understood());
     };
     let mut text = format!(in alloc; "front {front}")?;
+    push_known(&mut text, world, client)?;
+    Ok(text)
+}
+
+// Tells what a client knows behind its front.
+fn push_known(text: &mut String, world: &World, client: u32) -> io::Result<()> {
     if let Some(Some(searched)) = world.searched(client) {
         write!(text, ", searched {searched}")?;
     }
@@ -74,9 +80,9 @@ pub fn known(alloc: Global, world: &World, line: &str) -> io::Result<String> {
         return Err(not_understood());
     };
     for note in log {
-        push_note(&mut text, note)?;
+        push_note(text, note)?;
     }
-    Ok(text)
+    Ok(())
 }
 
 fn push_note(text: &mut String, note: &Note) -> io::Result<()> {
