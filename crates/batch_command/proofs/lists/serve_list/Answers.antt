@@ -5,8 +5,8 @@ use Rattle.batch_command.specs.Lists.{LinesSay}
 use Rattle.batch_command.proofs.Whole.{list_by}
 use Rattle.batch_command.proofs.lists.serve_list.Goals as goal
 
-pub returns : goal.returns
-returns g c =
+pub returns-in-Ok : goal.returns-in-Ok
+returns-in-Ok g c =
     let ghosts = run_ghosts g.O.Src.Source g.O.Snk.Sink g.O.Dsk.Disk g.L.Rule in
     let known = c.args.known in let batch = batch_of c.args.answering.now.client.now c.args.answering.now.workers c.args.rules.items in
     let found = c.args.book in let after = c.answer_lines.result.0 in
