@@ -43,10 +43,38 @@ WANTED = """\
 """
 
 
-def run(root: Path, *words: str) -> tuple[int, str, str]:
+#: A check that proves one function, whose modules it writes a second and three behind the first.
+PROVING = """\
+#!/bin/sh
+[ "$*" = "check --jobs 1" ] && [ ! -e out/incremental ] || exit 9
+mkdir -p out/incremental
+touch -d @50 out/incremental/Rattle-empty-specs.Lib.oantt
+touch -d @51 out/incremental/Rattle-empty-proofs.of.Lts.oantt
+touch -d @53 out/incremental/Rattle-empty-proofs.of.Proof.oantt
+echo checked empty::of, 1 of 1
+"""
+PROVED = """\
+| seconds | function or file | dearest parts |
+|---|---|---|
+| 3.0 | `of` | Proof 2.0, Lts 1.0 |
+| 3.0 | all 1 | |
+"""
+
+
+def run(root: Path, *words: str, path: str | None = None) -> tuple[int, str, str]:
+    """What the tool does, with these folders alone as PATH where they are given."""
     ran = subprocess.run([sys.executable, str(TOOL), "--root", str(root), *words],
-                         capture_output=True, text=True, check=False)
+                         capture_output=True, text=True, check=False,
+                         env=os.environ if path is None else os.environ | {"PATH": path})
     return ran.returncode, ran.stdout, ran.stderr
+
+
+def fake(folder: Path, text: str) -> str:
+    """A folder for PATH in which `rt` is this script, beside the machine's own commands."""
+    folder.mkdir()
+    (folder / "rt").write_text(text)
+    (folder / "rt").chmod(0o755)
+    return f"{folder}:/usr/bin:/bin"
 
 
 def main() -> int:
@@ -54,6 +82,7 @@ def main() -> int:
     with tempfile.TemporaryDirectory() as place:
         root = Path(place)
         (root / "crates.txt").write_text("tracks:\nempty: tracks\n")
+        (root / "crates/empty").mkdir(parents=True)
         for name, second in MODULES:
             path = root / "crates/tracks/out/incremental" / name
             path.parent.mkdir(parents=True, exist_ok=True)
@@ -67,6 +96,18 @@ def main() -> int:
                     (2, "", "proof_costs: crates/empty/out/incremental: no check is kept there: give"
                      " --check, or run rt check --jobs 1 in the crate's folder\n"),
                     run(root, "empty"))
+        cases.equal("no toolchain", (2, "", "proof_costs: rt: PATH: not found: install the Rattle"
+                                     " kit\n"), run(root, "empty", "--check", path=str(root)))
+        told = "goal left open\n"
+        failing = fake(root / "failing", f"#!/bin/sh\nprintf '{told[:-1]}\\n'\nexit 1\n")
+        cases.equal("a crate that is not proved",
+                    (2, "", f"{told}proof_costs: crates/empty: it is not proved, as its check"
+                     " told\n"), run(root, "empty", "--check", path=failing))
+        (root / "crates/empty/out/incremental").mkdir(parents=True)
+        proving = fake(root / "proving", PROVING)
+        cases.equal("a crate that is proved from nothing first",
+                    (0, PROVED, "checked empty::of, 1 of 1\n"),
+                    run(root, "empty", "--check", path=proving))
         cases.equal("no such crate", (2, "", "proof_costs: crates.txt: nosuch: no crate has this"
                                       " name\n"), run(root, "nosuch"))
     return cases.end()
