@@ -5,6 +5,7 @@ ghost use Rattle.serde_json.specs.View.{view};
 ghost use Rattle.json_fields.specs.Numbers.{whole_value};
 ghost use Rattle.json_fields.specs.Places.{spot_of};
 ghost use Rattle.rail_types.specs.Limits.{IsTick};
+ghost use Rattle.base_file.specs.declared.faults.BaseFault.TheVariants.{Kind, Memory};
 ghost use Rattle.base_file.specs.Fields.{Gives, object_at, found_at, name_at, limited_name};
 ghost use Rattle.base_file.specs.Fields.{number_read, within, number_at, whole_at, near, tick_at};
 ghost use Rattle.base_file.specs.Fields.{zone_among, zone_at, flag, flag_at, list_at, elements_of};
@@ -12,6 +13,7 @@ ghost use Rattle.base_file.specs.Fields.{zone_among, zone_at, flag, flag_at, lis
 use crate::faults::{BaseFault, What};
 use decimal_quote::NotWhole;
 use json_fields::{Place, count_in, whole_in};
+use no_memory::NoMemory;
 use rail_types::{MAX_TRAIN_NAME_BYTES, Tick, is_tick};
 use serde_json::Value;
 use std::alloc::Global;
@@ -23,9 +25,17 @@ pub(crate) fn object(alloc: Global, place: &Place, value: &Value) -> Result<(), 
     if value.is_object() {
         return Ok(());
     }
-    Err(BaseFault::Kind {
-        spot: place.spot(alloc, "")?,
-    })
+    Err(wrong_kind(alloc, place, ""))
+}
+
+/// That a field is of another kind than is wanted, or want of memory.
+fn wrong_kind(alloc: Global, place: &Place, field: &str) -> BaseFault
+    ensures { (result ≡ Memory → ⊥) → result ≡ Kind (spot_of place.now field.now) }
+{
+    match place.spot(alloc, field) {
+        Ok(spot) => BaseFault::Kind { spot },
+        Err(NoMemory) => BaseFault::Memory,
+    }
 }
 
 /// The value of a field.
@@ -57,12 +67,9 @@ pub(crate) fn name(
 {
     let found = found(alloc, place, value, field)?;
     let Some(text) = found.as_str() else {
-        return Err(BaseFault::Kind {
-            spot: place.spot(alloc, field)?,
-        });
+        return Err(wrong_kind(alloc, place, field));
     };
-    limited(text)?;
-    Ok(())
+    limited(text)
 }
 
 /// Refuses a name that is too short or too long.
@@ -94,8 +101,7 @@ pub(crate) fn number(
     ensures most { IfOk result (λ number. number ≤ most) }
 {
     let number = whole(alloc, place, value, field)?;
-    let number = limit(&number, what, least, most)?;
-    Ok(number)
+    limit(&number, what, least, most)
 }
 
 /// The same of a number of 32 bits.
@@ -123,8 +129,7 @@ fn whole(alloc: Global, place: &Place, value: &Value, field: &str) -> Result<i64
     ensures { Gives (λ number. number) result (whole_at place.now field.now (view value.now)) }
 {
     let found = found(alloc, place, value, field)?;
-    let number = whole_of(alloc, place, found, field)?;
-    Ok(number)
+    whole_of(alloc, place, found, field)
 }
 
 /// The whole number that a field's value is.
@@ -133,8 +138,7 @@ fn whole_of(alloc: Global, place: &Place, found: &Value, field: &str) -> Result<
         (number_read (spot_of place.now field.now) (view found.now)
         (whole_value (view found.now))) }
 {
-    let number = read(alloc, place, found, field, whole_in(found))?;
-    Ok(number)
+    read(alloc, place, found, field, whole_in(found))
 }
 
 /// The number that was read from a field, where one was.
@@ -154,12 +158,7 @@ fn read(
             what: What::Number,
             count: count_in(found),
         }),
-        Err(NotWhole::Shape) => Err(BaseFault::Kind {
-            spot: place.spot(alloc, field)?,
-        }),
-        Err(NotWhole::Fraction) => Err(BaseFault::Kind {
-            spot: place.spot(alloc, field)?,
-        }),
+        Err(NotWhole::Shape | NotWhole::Fraction) => Err(wrong_kind(alloc, place, field)),
     }
 }
 
@@ -190,8 +189,7 @@ pub(crate) fn tick(
     ensures near { IfOk result (λ tick. IsTick tick) }
 {
     let number = whole(alloc, place, value, field)?;
-    let tick = near(&number, what)?;
-    Ok(tick)
+    near(&number, what)
 }
 
 /// Refuses a tick that no file may name.
@@ -218,8 +216,7 @@ pub(crate) fn zone(
     ensures known { IfOk result (λ zone. zone < zones) }
 {
     let number = whole(alloc, place, value, field)?;
-    let zone = known_zone(alloc, place, field, &number, zones)?;
-    Ok(zone)
+    known_zone(alloc, place, field, &number, zones)
 }
 
 fn known_zone(
@@ -257,8 +254,7 @@ pub(crate) fn flag(
         return Ok(false);
     };
     let number = whole_of(alloc, place, found, field)?;
-    let is_set = flag_of(&number, what)?;
-    Ok(is_set)
+    flag_of(&number, what)
 }
 
 fn flag_of(number: &i64, what: What) -> Result<bool, BaseFault>
@@ -287,8 +283,7 @@ pub(crate) fn list<'a>(
         (list_at place.now field.now (view value.now)) }
 {
     let found = found(alloc, place, value, field)?;
-    let items = elements(alloc, place, found, field)?;
-    Ok(items)
+    elements(alloc, place, found, field)
 }
 
 #[tactic(auto, using(crate::proofs::Lists::list_back))]
@@ -302,9 +297,7 @@ fn elements<'a>(
         (elements_of (spot_of place.now field.now) (view found.now)) }
 {
     let Some(items) = found.as_array() else {
-        return Err(BaseFault::Kind {
-            spot: place.spot(alloc, field)?,
-        });
+        return Err(wrong_kind(alloc, place, field));
     };
     Ok(items.as_slice())
 }

@@ -39,8 +39,7 @@ pub fn read_base(alloc: Global, bytes: &[u8], zones: u32) -> Result<Base, BaseFa
         });
     }
     let file = parsed(alloc, bytes)?;
-    let base = read_object(alloc, &file, zones)?;
-    Ok(base)
+    read_object(alloc, &file, zones)
 }
 
 fn parsed(alloc: Global, bytes: &[u8]) -> Result<Value, BaseFault>
@@ -84,6 +83,5 @@ fn read_claims(alloc: Global, file: &Value, zones: u32) -> Result<List<BaseClaim
     ensures sound { IfOk result (λ claims. AreClaimsOn zones claims) }
 {
     let items = list(alloc, &Place::of_file(), file, "trains")?;
-    let claims = read_list_of_trains(alloc, items, zones)?;
-    Ok(claims)
+    read_list_of_trains(alloc, items, zones)
 }

@@ -27,7 +27,7 @@ use std::alloc::Global;
 use std::cmp::Ordering;
 
 /// Claims of two trains that clash, the lower index first.
-#[derive(Clone, Copy, Debug, PartialEq, Eq)]
+#[derive(Clone, Copy)]
 struct Pair {
     one: BaseClaim,
     other: BaseClaim,

@@ -49,7 +49,7 @@ fn journal_bytes(alloc: Global, place: &Place, file: &Value) -> Result<u64, Base
     ensures least { IfOk result (λ bytes. MIN_JOURNAL_BYTES ≤ bytes) }
     ensures most { IfOk result (λ bytes. bytes ≤ MAX_JOURNAL_BYTES) }
 {
-    let bytes = number(
+    number(
         alloc,
         place,
         file,
@@ -57,6 +57,5 @@ fn journal_bytes(alloc: Global, place: &Place, file: &Value) -> Result<u64, Base
         What::JournalBytes,
         MIN_JOURNAL_BYTES,
         MAX_JOURNAL_BYTES,
-    )?;
-    Ok(bytes)
+    )
 }

@@ -25,7 +25,7 @@ use std::alloc::Global;
 
 /// The trains that were read: how many, how many elements their lists have
 /// together, and their claims, joined.
-#[derive(Debug, Drop)]
+#[derive(Drop)]
 struct Planned {
     trains: u32,
     elements: u32,
@@ -117,8 +117,7 @@ fn read_train(
     name(alloc, place, value, "name")?;
     let items = list(alloc, place, value, "requirements")?;
     let items = count(items, elements)?;
-    let claims = read_list(alloc, place, items, zones)?;
-    Ok(claims)
+    read_list(alloc, place, items, zones)
 }
 
 /// Refuses a list with which there are too many elements.
