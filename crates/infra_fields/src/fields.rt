@@ -8,6 +8,7 @@ ghost use Rattle.rail_types.specs.IdLists.{is_known};
 ghost use Rattle.json_fields.specs.Places.{spot_of};
 ghost use Rattle.rail_types.specs.Named.{IsId};
 ghost use Rattle.rail_types.specs.declared.limits.TheConstants.{MAX_OBJECTS};
+ghost use Rattle.infra_fields.specs.declared.faults.InfraFault.TheVariants.{Kind, Memory};
 ghost use Rattle.infra_fields.specs.Fields.{Gives, object_at, found_at, text_of, text_at};
 ghost use Rattle.infra_fields.specs.Fields.{limited_id, id_at, new_id_at, known_number, number_at};
 ghost use Rattle.infra_fields.specs.Fields.{number_read, natural, metres_at, rounded_at, within};
@@ -16,6 +17,7 @@ ghost use Rattle.infra_fields.specs.Fields.{list_found, list_at, few, elements_i
 use crate::faults::{InfraFault, What};
 use decimal_quote::NotWhole;
 use json_fields::{Place, count_in, scaled_in, whole_in};
+use no_memory::NoMemory;
 use rail_types::id_lists::{HasId, Listed};
 use rail_types::{MAX_ID_BYTES, MAX_OBJECTS, Name};
 use serde_json::Value;
@@ -28,9 +30,17 @@ pub fn object(alloc: Global, place: &Place, value: &Value) -> Result<(), InfraFa
     if value.is_object() {
         return Ok(());
     }
-    Err(InfraFault::Kind {
-        spot: place.spot(alloc, "")?,
-    })
+    Err(wrong_kind(alloc, place, ""))
+}
+
+/// That a field is of another kind than is wanted, or want of memory.
+pub(crate) fn wrong_kind(alloc: Global, place: &Place, field: &str) -> InfraFault
+    ensures { (result ≡ Memory → ⊥) → result ≡ Kind (spot_of place.now field.now) }
+{
+    match place.spot(alloc, field) {
+        Ok(spot) => InfraFault::Kind { spot },
+        Err(NoMemory) => InfraFault::Memory,
+    }
 }
 
 /// The value of a field.
@@ -61,9 +71,7 @@ pub fn text_in<'a>(
     ensures { Gives (λ text. text.now) result (text_of place.now field.now (view value.now)) }
 {
     let Some(text) = value.as_str() else {
-        return Err(InfraFault::Kind {
-            spot: place.spot(alloc, field)?,
-        });
+        return Err(wrong_kind(alloc, place, field));
     };
     Ok(text)
 }
@@ -78,8 +86,7 @@ pub fn text<'a>(
     ensures { Gives (λ text. text.now) result (text_at place.now field.now (view value.now)) }
 {
     let found = found(alloc, place, value, field)?;
-    let text = text_in(alloc, place, found, field)?;
-    Ok(text)
+    text_in(alloc, place, found, field)
 }
 
 /// Refuses an id that is too short or too long.
@@ -108,8 +115,7 @@ pub fn id<'a>(
     ensures named { IfOk result (λ id. IsId id.now) }
 {
     let text = text(alloc, place, value, field)?;
-    let id = limited(text)?;
-    Ok(id)
+    limited(text)
 }
 
 /// The object's own id, which none of those before it has.
@@ -167,8 +173,7 @@ pub fn number<T: HasId>(
     ensures within { IfOk result (λ number. number < length among.now) }
 {
     let id = id(alloc, place, value, field)?;
-    let number = known(alloc, place, id, field, among)?;
-    Ok(number)
+    known(alloc, place, id, field, among)
 }
 
 /// The number that was read from a field, where one was.
@@ -184,9 +189,7 @@ pub fn read(
 {
     match read {
         Ok(number) => Ok(number),
-        Err(NotWhole::Shape) => Err(InfraFault::Kind {
-            spot: place.spot(alloc, field)?,
-        }),
+        Err(NotWhole::Shape) => Err(wrong_kind(alloc, place, field)),
         Err(NotWhole::Range) => Err(InfraFault::Limit {
             what: What::Number,
             count: count_in(found),
@@ -224,8 +227,7 @@ pub fn metres(alloc: Global, place: &Place, value: &Value, field: &str) -> Resul
 {
     let found = found(alloc, place, value, field)?;
     let number = read(alloc, place, found, field, whole_in(found))?;
-    let metres = not_negative(alloc, place, field, &number)?;
-    Ok(metres)
+    not_negative(alloc, place, field, &number)
 }
 
 /// The metres of a field, rounded up or down.
@@ -242,8 +244,7 @@ pub fn rounded(
 {
     let found = found(alloc, place, value, field)?;
     let number = read(alloc, place, found, field, scaled_in(found, up, false))?;
-    let metres = not_negative(alloc, place, field, &number)?;
-    Ok(metres)
+    not_negative(alloc, place, field, &number)
 }
 
 /// Refuses a number outside its limits.
@@ -276,8 +277,7 @@ pub fn list<'a>(
     let Some(found) = value.get(field) else {
         return Ok(&[]);
     };
-    let items = elements(alloc, place, found, field)?;
-    Ok(items)
+    elements(alloc, place, found, field)
 }
 
 /// The elements of a list, None where the value is no list.
@@ -302,12 +302,9 @@ fn elements<'a>(
     ensures few { IfOk result (λ items. length items.now ≤ MAX_OBJECTS) }
 {
     let Some(items) = items_in(found) else {
-        return Err(InfraFault::Kind {
-            spot: place.spot(alloc, field)?,
-        });
+        return Err(wrong_kind(alloc, place, field));
     };
-    let items = few(items)?;
-    Ok(items)
+    few(items)
 }
 
 fn few(items: &[Value]) -> Result<&[Value], InfraFault>

@@ -8,7 +8,7 @@ ghost use Rattle.infra_fields.specs.Words.{applies_named, applies_at, kind_named
 ghost use Rattle.infra_fields.specs.Words.{ports_of, port_name, port_within};
 
 use crate::faults::InfraFault;
-use crate::fields::text;
+use crate::fields::{text, wrong_kind};
 use json_fields::Place;
 use rail_types::infra_types::{Applies, Direction, End, Group, SwitchKind};
 use serde_json::Value;
@@ -37,9 +37,7 @@ pub fn direction(
 {
     let word = text(alloc, place, value, field)?;
     let Some(direction) = direction_named(word) else {
-        return Err(InfraFault::Kind {
-            spot: place.spot(alloc, field)?,
-        });
+        return Err(wrong_kind(alloc, place, field));
     };
     Ok(direction)
 }
@@ -62,9 +60,7 @@ pub fn end(alloc: Global, place: &Place, value: &Value, field: &str) -> Result<E
 {
     let word = text(alloc, place, value, field)?;
     let Some(end) = end_named(word) else {
-        return Err(InfraFault::Kind {
-            spot: place.spot(alloc, field)?,
-        });
+        return Err(wrong_kind(alloc, place, field));
     };
     Ok(end)
 }
@@ -92,9 +88,7 @@ pub fn applies(
 {
     let word = text(alloc, place, value, field)?;
     let Some(applies) = applies_named(word) else {
-        return Err(InfraFault::Kind {
-            spot: place.spot(alloc, field)?,
-        });
+        return Err(wrong_kind(alloc, place, field));
     };
     Ok(applies)
 }
@@ -134,20 +128,14 @@ pub fn kind_named(word: &str) -> Option<SwitchKind>
 pub fn group_named(word: &str) -> Group
     ensures { result ≡ group_named word.now }
 {
-    if word == "A_B1" {
-        Group::AB1
-    } else if word == "A_B2" {
-        Group::AB2
-    } else if word == "A1_B1" {
-        Group::A1B1
-    } else if word == "A1_B2" {
-        Group::A1B2
-    } else if word == "A2_B1" {
-        Group::A2B1
-    } else if word == "A2_B2" {
-        Group::A2B2
-    } else {
-        Group::Other
+    match word {
+        "A_B1" => Group::AB1,
+        "A_B2" => Group::AB2,
+        "A1_B1" => Group::A1B1,
+        "A1_B2" => Group::A1B2,
+        "A2_B1" => Group::A2B1,
+        "A2_B2" => Group::A2B2,
+        _ => Group::Other,
     }
 }
 
