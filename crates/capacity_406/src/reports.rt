@@ -1,9 +1,9 @@
 //! The text of a capacity.
 
-ghost use Rattle.std.specs.Prelude.{◌≡◌, ◌+◌, ◌<◌, ◌≤◌, ◌^◌, ◌++◌, ◌-ℤ◌, ◌<ℤ◌, ◌≤ℤ◌, ℕ, ◌↔◌, pos};
-ghost use Rattle.std.specs.Prelude.{codes, length, min, All, IsErr, IfErr, IfOk, IsTrue, OnOk};
+ghost use Rattle.std.specs.Prelude.{◌≡◌, ◌+◌, ◌<◌, ◌≤◌, ◌^◌, ◌++◌, ◌+ℤ◌, ◌-ℤ◌, ◌<ℤ◌, ◌≤ℤ◌, ℕ, ◌↔◌};
+ghost use Rattle.std.specs.Prelude.{codes, length, pos, min, All, IsErr, IfErr, IfOk, IsTrue, OnOk};
 ghost use Rattle.std.specs.List.{flat_map};
-ghost use Rattle.rail_types.specs.Limits.{IsNearSpan};
+ghost use Rattle.rail_types.specs.Limits.{IsNear, IsNearSpan};
 ghost use Rattle.rail_types.specs.declared.limits.TheConstants.{FAR_TICK};
 ghost use Rattle.rail_types.specs.declared.paths.Claim.{Claim as claim_type};
 ghost use Rattle.capacity_406.specs.declared.TheConstants.{MAX_TRAINS as max_trains};
@@ -29,7 +29,7 @@ use rail_types::{Claim, Owner, Span, Tick};
 use std::alloc::Global;
 
 /// What is told of a train: its owner, its first begin after the shifts, and its shift.
-#[derive(Clone, Copy, Debug, PartialEq, Eq)]
+#[derive(Clone, Copy)]
 pub(crate) struct Told {
     pub(crate) owner: Owner,
     pub(crate) begin: Tick,
@@ -205,9 +205,17 @@ fn moved(span: &Span, shift: &i64) -> Span
     ensures { result ≡ moved_by shift.now span.now }
 {
     Span {
-        from: span.from + *shift,
-        to: span.to + *shift,
+        from: moved_tick(&span.from, shift),
+        to: moved_tick(&span.to, shift),
     }
+}
+
+fn moved_tick(tick: &Tick, shift: &i64) -> Tick
+    requires near { IsNear tick.now }
+    requires shift { IsNearShift shift.now }
+    ensures { result ≡ tick.now +ℤ shift.now }
+{
+    *tick + *shift
 }
 
 fn ends_before(one: &Span, other: &Span) -> bool

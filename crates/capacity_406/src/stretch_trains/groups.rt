@@ -13,7 +13,7 @@ use rail_types::{Claim, List, Owner};
 use std::alloc::Global;
 
 /// A train, its claims on a stretch, and the first of them.
-#[derive(Debug, Drop)]
+#[derive(Drop)]
 pub(crate) struct Standing {
     pub(crate) first: Claim,
     pub(crate) owner: Owner,

@@ -1,9 +1,11 @@
 use Rattle.std.proofs.Common.{◌≡◌, ◌∙◌, ℕ, ◌<◌, List, length, sym, subst, ap, All}
 use Rattle.std.specs.Prelude.{ℤ, pos, ◌≤ℤ◌}
 use Rattle.rail_types.specs.declared.paths.Claim.{Claim}
+use Rattle.capacity_406.specs.declared.trains.Link.{Link}
 use Rattle.capacity_406.specs.declared.trains.Occupied.{Occupied}
 use Rattle.capacity_406.specs.declared.places.Place.{Place}
 use Rattle.rail_types.specs.Limits.{IsNear}
+use Rattle.capacity_406.specs.Chain.{IsChain}
 use Rattle.capacity_406.specs.Compression.{IsLastStart, IsLeastCompression}
 use Rattle.capacity_406.specs.Inside.{AreFirsts, AreTaken, IsNearShift, begin_at, shifts_of}
 use Rattle.capacity_406.proofs.Settling.{firsts_near}
@@ -36,3 +38,11 @@ pub returns-clause-near : goal.returns-clause-near
 returns-clause-near c =
     let same : c.from_vec.result ≡ shifts_of c.in_ok-places.places.items = c.from_vec.ensures ∙ (c.in_ok-shifts.ensures ∙ ap shifts_of c.deref-6.ensures.value) in
     subst (All IsNearShift) (sym same) (all_near c.args.trains.now c.deref.result.now c.in_ok-places.places.items c.in_ok-places.ensures)
+
+pub returns-clause-chain : goal.returns-clause-chain
+returns-clause-chain c =
+    let trains : List Occupied = c.args.trains.now in
+    let links : List Link = c.in_ok-chain.chain.items in
+    let same : c.from_vec.result ≡ shifts_of c.deref-5.result.now = c.from_vec.ensures ∙ (c.in_ok-shifts.ensures ∙ ap shifts_of (c.deref-6.ensures.value ∙ sym c.deref-5.ensures.value)) in
+    subst (IsChain trains c.from_vec.result) (sym c.from_vec-2.ensures)
+    (subst (λ shifts. IsChain trains shifts links) (sym same) c.in_ok-chain.ensures)
