@@ -141,9 +141,8 @@ impl<S: Stands> Gate<S> {
     {
         let Held { book } = held;
         self.put_back(pass, book);
-        self.advance(pass);
-        // Each of those that sleep waits for a number of its own, so all have to look.
-        self.table.shared.wake_all(SERVING);
+        let number = self.advance(pass);
+        self.wake_behind(number);
     }
 
     /// Gives some of its turns to a new pass, for another thread. That one has seen as

@@ -1,4 +1,4 @@
-//! The five kinds of step that a turn is made of.
+//! The five kinds of step that a turn is made of, and the wake at its end.
 ghost use Rattle.std.specs.Prelude.{◌≡◌, ◌≢◌, ◌≤◌, [], ◌∷◌, true, None};
 
 use crate::gates::{Gate, Pass};
@@ -65,8 +65,9 @@ impl<S: Stands> Gate<S> {
         let None = before else { unreachable!() };
     }
 
-    // The slot goes home, with a book that goes on from the one that was found.
-    pub(crate) fn advance(&self, pass: &mut Pass<S>)
+    // The slot goes home, with a book that goes on from the one that was found. It answers the
+    // number of the ticket that was served.
+    pub(crate) fn advance(&self, pass: &mut Pass<S>) -> u64
         requires own { IsOf S.footing self.now pass.old }
         requires turn { ((view pass.old).has_ticket ≡ true) × ((view pass.old).has_book ≡ true) }
         requires back { (b : S) × HasBook b pass.old × (S.footing b ≡ S.footing (opened self.now))
@@ -78,6 +79,22 @@ impl<S: Stands> Gate<S> {
             → view pass.new ≡ served (view pass.old) (statement_of S.list S.settled S.count b) }
     {
         let shared = &self.table.shared;
-        shared.fetch_add::<Advance<S>>(&mut pass.seat, SERVING, 1);
+        shared.fetch_add::<Advance<S>>(&mut pass.seat, SERVING, 1)
+    }
+
+    // Wakes those that wait behind the ticket of that number, once SERVING is past it. Where no
+    // ticket behind it was taken nobody can sleep, and the call to the system is spared. That rests
+    // on one order of all steps on both words, since each is sequentially consistent. A thread
+    // reads SERVING only after it took its ticket, and sleeps only while the word is what it read,
+    // which the kernel compares again. If it read this number, it did so before the word was
+    // raised, so its ticket is among those that TICKET counts here. If its ticket is not among
+    // those, it took it after the word was raised: it finds itself served, or it sleeps until the
+    // end of a later turn, which looks for itself.
+    pub(crate) fn wake_behind(&self, number: u64) {
+        let taken = self.table.shared.peek(TICKET);
+        if taken.wrapping_sub(number) != 1 {
+            // Each of those that sleep waits for a number of its own, so all have to look.
+            self.table.shared.wake_all(SERVING);
+        }
     }
 }
