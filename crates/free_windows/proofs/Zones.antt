@@ -38,6 +38,10 @@ ends_by_tick number kept tick zone i j other le within test = elim (cases_order 
   ]
 ]
 
+-- a claim that is moved to a tick meets a span that begins before it ends and ends after it begins
+pub blocked_by : (kept : List HeldClaim) (piece : Claim) → AreInOrder piece.zone kept → (at : ℕ) (tick : ℤ) (other : HeldClaim) → at < length kept → (get_or kept at other).0.span.from <ℤ (tick +ℤ piece.span.to) → (tick +ℤ piece.span.from) <ℤ (get_or kept at other).0.span.to → ¬ IsFreeOf kept piece tick
+blocked_by kept piece zone at tick other within begun ends free = free at other within (zone.on_zone at other within, (begun, ends))
+
 module _ (kept : List HeldClaim) (piece : Claim) (first : ℤ) (at : ℕ) (zone : AreInOrder piece.zone kept) (before : AllWithin (λ one. one.0.span.to ≤ℤ (first +ℤ piece.span.from)) kept 0 at) (after : AllWithin (λ one. (first +ℤ piece.span.from) <ℤ one.0.span.to) kept at (length kept)) where
   -- the claim is free where it ends before the span at the place begins
   pub free_before_the_next : (tick : ℤ) → first ≤ℤ tick → ((other : HeldClaim) → at < length kept → (tick +ℤ piece.span.to) ≤ℤ (get_or kept at other).0.span.from) → IsFreeOf kept piece tick
@@ -51,10 +55,6 @@ module _ (kept : List HeldClaim) (piece : Claim) (first : ℤ) (at : ℕ) (zone 
           | inr behind ↦ let here = early other (omega arith) in let ordered = zone.sorted at k other behind within in let lasts = zone.ticks at other (omega arith) in omega (arith, ints)
         ]
       ]
-
-  -- and blocked where it begins before that span ends, and ends after it begins
-  pub blocked_by_the_next : (tick : ℤ) (other : HeldClaim) → at < length kept → (get_or kept at other).0.span.from <ℤ (tick +ℤ piece.span.to) → (tick +ℤ piece.span.from) <ℤ (get_or kept at other).0.span.to → ¬ IsFreeOf kept piece tick
-  blocked_by_the_next tick other within begun ends free = free at other within (zone.on_zone at other within, (begun, ends))
 
 -- how long it stays so
 module _ (kept : List HeldClaim) (piece : Claim) (within : Window) (at : ℕ) (zone : AreInOrder piece.zone kept) (some : within.from ≤ℤ within.to) (ticks : HasTicks piece.span) (start : ℤ) (start_is : start ≡ (within.from +ℤ piece.span.from)) (before_start : AllWithin (λ one. one.0.span.to ≤ℤ start) kept 0 at) (after_start : AllWithin (λ one. start <ℤ one.0.span.to) kept at (length kept)) (until : Window) (from : until.from ≡ within.from) where
@@ -82,21 +82,39 @@ module _ (kept : List HeldClaim) (piece : Claim) (within : Window) (at : ℕ) (z
     when_free = λ _ tick held. free_before_the_next kept piece within.from at zone before after tick (omega (arith, ints, held.0)) (λ other _. let last = held.1 in subst (λ one. (tick +ℤ piece.span.to) ≤ℤ one.0.span.from) (sym (here other)) (omega (arith, ints, clamps)));
     ends = λ _. by_lt_z (next.0.span.from -ℤ piece.span.to) within.to
         (λ early. inr (let lasts : HasTicks next.0.span = subst (λ one. HasTicks one.0.span) (here next) (zone.ticks at next inside) in
-        blocked_by_the_next kept piece within.from at zone before after (until.to +ℤ pos 1) next inside
+        blocked_by kept piece zone at (until.to +ℤ pos 1) next inside
         (subst (λ one. one.0.span.from <ℤ ((until.to +ℤ pos 1) +ℤ piece.span.to)) (sym (here next)) (omega (arith, ints, clamps)))
         (subst (λ one. ((until.to +ℤ pos 1) +ℤ piece.span.from) <ℤ one.0.span.to) (sym (here next)) (omega (arith, ints, clamps)))))
         (λ late. inl (omega (arith, ints, clamps)));
     when_blocked = λ blocked. cc;
   }
 
-  pub blocked_to_its_end : (next : HeldClaim) → at < length kept → ((other : HeldClaim) → get_or kept at other ≡ next) → until.to ≡ int_min within.to ((next.0.span.to -ℤ piece.span.from) -ℤ pos 1) → next.0.span.from <ℤ (within.from +ℤ piece.span.to) → IsStretch (IsFreeOf kept piece) within false until
-  blocked_to_its_end next inside here to early = record {
-    from = from;
-    some = let ends = subst (λ one. (within.from +ℤ piece.span.from) <ℤ one.0.span.to) (here next) (after at next (omega arith) inside) in omega (arith, ints, clamps);
-    to = omega (arith, ints, clamps);
-    when_free = λ is_free. cc;
-    ends = λ is_free. cc;
-    when_blocked = λ _ tick held. let low = held.0 in let high = held.1 in blocked_by_the_next kept piece within.from at zone before after tick next inside
-        (subst (λ one. one.0.span.from <ℤ (tick +ℤ piece.span.to)) (sym (here next)) (omega (arith, ints)))
-        (subst (λ one. (tick +ℤ piece.span.from) <ℤ one.0.span.to) (sym (here next)) (omega (arith, ints, clamps)));
-  }
+-- how long it is blocked: up to the end of a span that is met, and on where the next one is met
+-- before the claim would end
+module _ (kept : List HeldClaim) (piece : Claim) (within until : Window) (zone : AreInOrder piece.zone kept) (some : within.from ≤ℤ within.to) (first at : ℕ) (behind : first ≤ at) (inside : at < length kept) (ends : AllWithin (λ one. (within.from +ℤ piece.span.from) <ℤ one.0.span.to) kept first (length kept)) (other : HeldClaim) (from : until.from ≡ within.from) (to : until.to ≡ int_min within.to (((get_or kept at other).0.span.to -ℤ piece.span.from) -ℤ pos 1)) where
+  pub blocked_at_first : (get_or kept at other).0.span.from <ℤ (within.from +ℤ piece.span.to) → IsStretch (IsFreeOf kept piece) within false until
+  blocked_at_first begun =
+      let met = ends at other behind inside in
+      record {
+        from = from;
+        some = omega (arith, ints, clamps);
+        to = omega (arith, ints, clamps);
+        when_free = λ is_free. cc;
+        ends = λ is_free. cc;
+        when_blocked = λ blocked tick held. let low = held.0 in let high = held.1 in blocked_by kept piece zone at tick other inside (omega (arith, ints)) (omega (arith, ints, clamps));
+      }
+
+  pub blocked_on : (last : Window) → IsStretch (IsFreeOf kept piece) within false last → (get_or kept at other).0.span.from <ℤ ((last.to +ℤ pos 1) +ℤ piece.span.to) → IsStretch (IsFreeOf kept piece) within false until
+  blocked_on last before begun =
+      let met = ends at other behind inside in
+      let begins = before.from in
+      record {
+        from = from;
+        some = omega (arith, ints, clamps);
+        to = omega (arith, ints, clamps);
+        when_free = λ is_free. cc;
+        ends = λ is_free. cc;
+        when_blocked = λ blocked tick held. let low = held.0 in let high = held.1 in by_lt_z last.to tick
+            (λ later. blocked_by kept piece zone at tick other inside (omega (arith, ints)) (omega (arith, ints, clamps)))
+            (λ early. before.when_blocked refl tick (omega (arith, ints), omega (arith, ints)));
+      }

@@ -1,7 +1,7 @@
 //! The ticks at which claims are free.
 
-ghost use Rattle.std.specs.Prelude.{◌≡◌, ℕ, ◌≤◌, ◌<◌, ℤ, pos, ◌+ℤ◌, ◌-ℤ◌, ◌<ℤ◌, ◌≤ℤ◌, ◌↔◌, All};
-ghost use Rattle.std.specs.Prelude.{AllPairs, IfOk, IfSome, IsNone, length};
+ghost use Rattle.std.specs.Prelude.{◌≡◌, ℕ, ◌+◌, ◌≤◌, ◌<◌, ℤ, pos, ◌+ℤ◌, ◌-ℤ◌, ◌<ℤ◌, ◌≤ℤ◌, ◌↔◌};
+ghost use Rattle.std.specs.Prelude.{false, All, AllPairs, IfOk, IfSome, IsNone, length};
 ghost use Rattle.std.specs.Int.{int_min};
 ghost use Rattle.std.specs.List.{AllWithin};
 ghost use Rattle.rail_types.specs.declared.limits.TheConstants.{FAR_TICK};
@@ -102,7 +102,7 @@ fn stretch_of(kept: &[(Claim, Owner)], piece: &Claim, within: &Window) -> Stretc
     if next.from < start.to {
         Stretch {
             free: false,
-            ticks: until_it_ends(next, piece, within),
+            ticks: taken_from(kept, at, piece, within),
         }
     } else {
         Stretch {
@@ -110,6 +110,39 @@ fn stretch_of(kept: &[(Claim, Owner)], piece: &Claim, within: &Window) -> Stretc
             ticks: until_it_begins(next, piece, within),
         }
     }
+}
+
+// The first ticks of a window at which a claim meets those of a zone, from the one of a number on,
+// which it meets at the first tick: they go on as long as the next one begins before it would end.
+fn taken_from(kept: &[(Claim, Owner)], at: usize, piece: &Claim, within: &Window) -> Window
+    requires zone { AreInOrder piece.now.zone kept.now }
+    requires near { IsNearSpan piece.now.span }
+    requires within { IsNearWindow within.now }
+    requires some { within.now.from ≤ℤ within.now.to }
+    requires at { at < length kept.now }
+    requires begun { AllWithin (λ one. one.0.span.from <ℤ (within.now.from +ℤ piece.now.span.to))
+        kept.now at (at + 1) }
+    requires ends { AllWithin (λ one. (within.now.from +ℤ piece.now.span.from) <ℤ one.0.span.to)
+        kept.now at (length kept.now) }
+    ensures { IsStretch (IsFreeOf kept.now piece.now) within.now false result }
+{
+    let mut ticks = until_it_ends(&kept[at].0.span, piece, within);
+    for number in at + 1..kept.len() {
+        let next = &kept[number].0.span;
+        if ticks.to >= within.to || is_free_behind(next, piece, &ticks) {
+            return ticks;
+        }
+        ticks = until_it_ends(next, piece, within);
+    }
+    ticks
+}
+
+// Whether a claim that begins behind the last of some ticks ends before the next span begins.
+fn is_free_behind(next: &Span, piece: &Claim, ticks: &Window) -> bool
+    requires near { IsNear piece.now.span.to × IsNear ticks.now.to }
+    ensures { result ≡ false → next.now.from <ℤ ((ticks.now.to +ℤ pos 1) +ℤ piece.now.span.to) }
+{
+    ticks.to + 1 + piece.span.to <= next.from
 }
 
 fn at_start(piece: &Claim, within: &Window) -> Span
