@@ -79,6 +79,13 @@ abbrev pub NetworkStep : {Src Snk Dsk : Type 0} → Ghosts Src → List ℕ → 
 NetworkStep source name old new result =
     FileStep file.Network source name IsNetworkFile HasNetworkFault old new result
 
+-- the same where nothing is told of the file but its network
+abbrev pub NetworkTold : {Src Snk Dsk : Type 0} → Ghosts Src → List ℕ → Scene Src Snk Dsk
+    → Scene Src Snk Dsk → Result Named Refusal → Type 0
+NetworkTold source name old new (Ok named) =
+    (file : NetworkFile) × (file.named ≡ named) × NetworkStep source name old new (Ok file)
+NetworkTold source name old new (Err refusal) = NetworkStep source name old new (Err refusal)
+
 -- the bytes, with their numbers quoted, read as this base timetable on so many zones
 abbrev pub TellsBaseOf : ℕ → List ℕ → Base → Type 0
 TellsBaseOf zones bytes base =

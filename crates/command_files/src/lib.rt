@@ -12,7 +12,7 @@ pub use base_file as base;
 pub use bases::{BaseFile, read_base_file};
 #[doc(hidden)]
 pub use files::FileKind;
-pub use networks::{NetworkFile, network_of_bytes, read_network_file};
+pub use networks::{NetworkFile, network_of_bytes, read_network, read_network_file};
 pub use outs::write_out;
 pub use train_file as train;
 pub use trains::read_train_file;

@@ -2,7 +2,7 @@
 
 ghost use Rattle.std.specs.Prelude.{◌≡◌, IfErr, IfOk};
 ghost use Rattle.command_files.specs.Files.{InfraSays, IsInfraOf, IsNetworkFile, NamedSays};
-ghost use Rattle.command_files.specs.Files.{NetworkStep, TellsNet, TellsRead};
+ghost use Rattle.command_files.specs.Files.{NetworkStep, NetworkTold, TellsNet, TellsRead};
 ghost use Rattle.command_reports.specs.Scenes.{scene};
 ghost use Rattle.rail_types.specs.Infras.{IsInfra};
 ghost use Rattle.rail_types.specs.Named.{IsNamed};
@@ -43,6 +43,21 @@ pub fn read_network_file<O: Outside>(
         named,
         digest: Sha256::digest(bytes.as_slice()),
     })
+}
+
+/// The same where nothing is asked of the file but its network: no digest is made.
+pub fn read_network<O: Outside>(
+    alloc: Global,
+    name: &str,
+    outside: &mut O,
+) -> Result<Named, Refusal>
+    ensures step { NetworkTold O.Src.Source name.now (scene O.Outside outside.old)
+        (scene O.Outside outside.new) result }
+    ensures named { IfOk result IsNamed }
+{
+    let bytes = bytes_of(alloc, FileKind::Network, name, outside)?;
+    let named = network_of_bytes(alloc, &bytes)?;
+    Ok(named)
 }
 
 /// The network that a file's bytes tell.

@@ -5,7 +5,7 @@ ghost use Rattle.command_reports.specs.Scenes.{scene};
 ghost use Rattle.stairway_print.specs.Networks.{network_text};
 ghost use Rattle.print_commands.specs.Works.{ListWorks, WritesTable};
 
-use command_files::{read_network_file, write_out};
+use command_files::{read_network, write_out};
 use command_reports::Refusal;
 use command_reports::exit_status::Status;
 use no_memory::NoMemory;
@@ -24,8 +24,8 @@ pub(crate) fn work<O: Outside>(
     ensures works { ListWorks O.Src.Source O.Snk.Sink network.now out.now
         (scene O.Outside outside.old) (scene O.Outside outside.new) result }
 {
-    let file = read_network_file(alloc, network, outside)?;
-    write_table(alloc, &file.named, out, outside)
+    let named = read_network(alloc, network, outside)?;
+    write_table(alloc, &named, out, outside)
 }
 
 // Writes the table of a network.
