@@ -1,15 +1,15 @@
 -- Labels that have each tick that is seen, as they grow.
-use Rattle.std.proofs.Common.{◌≡◌, ◌⊎◌, ℕ, ◌<◌, List, [], ◌∷◌, ◌++◌, length, get_or, Bool, true, false, set, sym, subst, ap, ◌∙◌, inl, inr, refl, arith, append-nil, append_assoc}
+use Rattle.std.proofs.Common.{◌≡◌, ◌⊎◌, ℕ, List, [], ◌∷◌, ◌++◌, Bool, true, false, set, sym, subst, ap, ◌∙◌, inl, inr, refl, arith, append-nil, append_assoc}
 use Rattle.std.specs.Prelude.{ℤ}
 use Rattle.std.proofs.lemmas.List.Quantifiers.{Any-push}
-use Rattle.std.proofs.lemmas.List.Elements.{All-nil, All-append, All-weaker, All-cons}
+use Rattle.std.proofs.lemmas.List.Elements.{All-nil, All-append, All-weaker, All-cons, All-set}
 use Rattle.std.proofs.lemmas.Int.{ints, by_lt_z}
-use Rattle.std.proofs.lemmas.Bool.{cases_eq}
-use Rattle.std.proofs.lemmas.List.{get_or_default, get_or-set_same, get_or-set_other, length-set}
 use Rattle.rail_types.specs.declared.paths.Span.{Span}
+use Rattle.rail_types.specs.Occupation.{Overlap}
 use Rattle.label_search.specs.declared.labels.Label.{Label}
-use Rattle.free_windows.specs.Free.{Holds}
-use Rattle.label_search.specs.Labels.{IsUnseen, IsReached, IsCovered, IsGrown, AreCovered}
+use Rattle.label_search.specs.declared.seen.SeenPlace.{SeenPlace}
+use Rattle.free_windows.specs.Free.{Holds, moved}
+use Rattle.label_search.specs.Labels.{IsUnseen, IsReached, IsCovered, IsCoveredAt, IsGrown, AreCovered, one_tick}
 use Rattle.label_search.proofs.Anys.{any_left}
 
 pub grown_none : (IsSo : Label → Type 0) (old : List Label) → IsGrown IsSo old old
@@ -53,35 +53,43 @@ reached_when_seen labels place ready spans tick covered seen = elim (covered tic
   | inr reached ↦ reached
 ]
 
--- the spans of one place, changed
-module _ (labels : List Label) (arrived ready : List (List Span)) (covered : AreCovered labels arrived ready) (place : ℕ) (within : place < length arrived) (is_ready : Bool) where
-  pub covered_ready : (spans d : List Span) → is_ready ≡ true → spans ≡ get_or ready place d → IsCovered labels place is_ready spans
-  covered_ready spans d is read =
-      let same : spans ≡ get_or ready place [] = read ∙ get_or_default ready place d [] (omega (arith, covered.counted)) in
-      subst (λ b. IsCovered labels place b spans) (sym is) (subst (IsCovered labels place true) (sym same) (covered.readies place within))
+pub covered_none : (labels : List Label) (place : ℕ) (ready : Bool) → IsCovered labels place ready []
+covered_none labels place ready tick = inl (All-nil (λ one. ¬ Overlap one (moved tick one_tick).span))
 
-  pub covered_arrived : (spans d : List Span) → is_ready ≡ false → spans ≡ get_or arrived place d → IsCovered labels place is_ready spans
-  covered_arrived spans d is read =
-      let same : spans ≡ get_or arrived place [] = read ∙ get_or_default arrived place d [] within in
-      subst (λ b. IsCovered labels place b spans) (sym is) (subst (IsCovered labels place false) (sym same) (covered.arrivals place within))
+pub covered_new : (labels : List Label) (seen : SeenPlace) → seen.arrived ≡ [] → seen.ready ≡ [] → IsCoveredAt labels seen
+covered_new labels seen arrived ready = record {
+  arrivals = subst (IsCovered labels seen.place false) (sym arrived) (covered_none labels seen.place false);
+  readies = subst (IsCovered labels seen.place true) (sym ready) (covered_none labels seen.place true);
+}
+
+pub covered_at_more : (IsSo : Label → Type 0) (old new : List Label) → IsGrown IsSo old new → (seen : SeenPlace) → IsCoveredAt old seen → IsCoveredAt new seen
+covered_at_more IsSo old new grown seen covered = record {
+  arrivals = covered_more IsSo old new seen.place false seen.arrived grown covered.arrivals;
+  readies = covered_more IsSo old new seen.place true seen.ready grown covered.readies;
+}
+
+-- the places that are seen, one of them changed
+pub all_covered_with : (IsSo : Label → Type 0) (old new : List Label) (places : List SeenPlace) (at : ℕ) (seen : SeenPlace) → AreCovered old places → IsGrown IsSo old new → IsCoveredAt new seen → AreCovered new (set places at seen)
+all_covered_with IsSo old new places at seen covered grown is =
+    All-set (λ one. IsCoveredAt new one) places at seen is (All-weaker (λ one. IsCoveredAt old one) (λ one. IsCoveredAt new one) (covered_at_more IsSo old new grown) places covered)
+
+-- the ticks of one place, changed
+module _ (labels : List Label) (seen : SeenPlace) (covered : IsCoveredAt labels seen) (place : ℕ) (at : seen.place ≡ place) (is_ready : Bool) where
+  pub covered_ready : is_ready ≡ true → IsCovered labels place is_ready seen.ready
+  covered_ready is = subst (λ b. IsCovered labels place b seen.ready) (sym is) (subst (λ p. IsCovered labels p true seen.ready) at covered.readies)
+
+  pub covered_arrived : is_ready ≡ false → IsCovered labels place is_ready seen.arrived
+  covered_arrived is = subst (λ b. IsCovered labels place b seen.arrived) (sym is) (subst (λ p. IsCovered labels p false seen.arrived) at covered.arrivals)
 
   module _ (IsSo : Label → Type 0) (more : List Label) (grown : IsGrown IsSo labels more) (spans : List Span) (new : IsCovered more place is_ready spans) where
-    pub covered_with_ready : is_ready ≡ true → AreCovered more arrived (set ready place spans)
+    pub covered_with_ready : is_ready ≡ true → IsCoveredAt more (record { place = seen.place; arrived = seen.arrived; ready = spans })
     covered_with_ready is = record {
-      counted = covered.counted ∙ sym (length-set ready place spans);
-      arrivals = λ one inside. covered_more IsSo labels more one false _ grown (covered.arrivals one inside);
-      readies = λ one inside. elim (cases_eq one place) [
-        | inl same ↦ subst (λ p. IsCovered more p true (get_or (set ready place spans) p [])) (sym same) (subst (IsCovered more place true) (sym (get_or-set_same ready place spans [] (omega (arith, covered.counted)))) (subst (λ b. IsCovered more place b spans) is new))
-        | inr differs ↦ subst (IsCovered more one true) (sym (get_or-set_other ready place one spans [] differs)) (covered_more IsSo labels more one true _ grown (covered.readies one inside))
-      ];
+      arrivals = covered_more IsSo labels more seen.place false seen.arrived grown covered.arrivals;
+      readies = subst (λ p. IsCovered more p true spans) (sym at) (subst (λ b. IsCovered more place b spans) is new);
     }
 
-    pub covered_with_arrived : is_ready ≡ false → AreCovered more (set arrived place spans) ready
+    pub covered_with_arrived : is_ready ≡ false → IsCoveredAt more (record { place = seen.place; arrived = spans; ready = seen.ready })
     covered_with_arrived is = record {
-      counted = length-set arrived place spans ∙ covered.counted;
-      arrivals = λ one inside. elim (cases_eq one place) [
-        | inl same ↦ subst (λ p. IsCovered more p false (get_or (set arrived place spans) p [])) (sym same) (subst (IsCovered more place false) (sym (get_or-set_same arrived place spans [] within)) (subst (λ b. IsCovered more place b spans) is new))
-        | inr differs ↦ subst (IsCovered more one false) (sym (get_or-set_other arrived place one spans [] differs)) (covered_more IsSo labels more one false _ grown (covered.arrivals one (simp length-set at inside)))
-      ];
-      readies = λ one inside. covered_more IsSo labels more one true _ grown (covered.readies one (simp length-set at inside));
+      arrivals = subst (λ p. IsCovered more p false spans) (sym at) (subst (λ b. IsCovered more place b spans) is new);
+      readies = covered_more IsSo labels more seen.place true seen.ready grown covered.readies;
     }

@@ -1,5 +1,5 @@
--- What is lent of a plan over a chart is what the plan has.
-use Rattle.std.proofs.Common.{ℕ, ◌≡◌, ◌<◌, ◌∙◌, sym, ap, arith, subst, List, length, All}
+-- What is lent of a plan over a chart is what the plan has, and so it is of what is ahead.
+use Rattle.std.proofs.Common.{ℕ, ◌≡◌, ◌<◌, ◌∙◌, Bor, sym, ap, arith, subst, List, length, map, All}
 use Rattle.std.specs.Prelude.{suc, ◌+◌, ◌/◌, ◌%◌, ◌^◌}
 use Rattle.std.proofs.lemmas.List.{length-map, get_or-map}
 use Rattle.std.proofs.lemmas.List.Elements.{All-get_or, All-filter}
@@ -13,12 +13,19 @@ use Rattle.label_search.specs.declared.lent.Lender.{Lender}
 use Rattle.label_search.specs.declared.lent.Lender.TheVariants as lender
 use Rattle.label_search.specs.declared.lent.MovesLender.{MovesLender}
 use Rattle.label_search.specs.declared.lent.MovesLender.TheVariants as moves_lender
+use Rattle.label_search.specs.declared.lent_limits.AheadLender.{AheadLender}
+use Rattle.label_search.specs.declared.lent_limits.AheadLender.TheVariants as ahead_lender
+use Rattle.label_search.specs.declared.limits.Ahead.{Ahead}
+use Rattle.label_search.specs.declared.nearing.Near.{Near}
 use Rattle.label_search.specs.declared.plans.Move.{Move}
 use Rattle.label_search.specs.declared.plans.Place.{Place}
+use Rattle.label_search.specs.declared.sum_loans.Summed.{Summed}
 use Rattle.label_search.specs.Charts.{count_over, is_open, move_among, move_of_way}
 use Rattle.label_search.specs.Charts.{number_over, open_among, place_among, place_over, spot_at}
 use Rattle.label_search.specs.Charts.{made_over, stay_over, way_among, ways_over}
 use Rattle.label_search.specs.Lent.{moves_lent, places_lent}
+use Rattle.label_search.specs.LentLimits.{aheads_lent}
+use Rattle.label_search.specs.Nearing.{aheads_over}
 
 -- there are as many places as the chart says
 pub places_counted : (lent : Lender) (charted : Charted) (places : List Place)
@@ -90,3 +97,10 @@ way_numbered levels made call ways number way few within is =
     λ way. number_over levels way.next (made + 1) < 2 ^ 32 in
     subst numbered (sym is) (All-get_or numbered (open_among call ways) number _ within
     (All-filter (is_open call) numbered ways few))
+
+-- the sums over a chart are what is ahead
+pub sums_lent : (lent : AheadLender) (summed : Summed) (all : List Ahead)
+    → lent ≡ ahead_lender.Summed summed → aheads_lent lent ≡ all
+    → aheads_over summed.chart.now.spots summed.calls.now
+    (map (λ (near : Bor Near). near.now) summed.nears.now) summed.rests.now ≡ all
+sums_lent lent summed all is seen = ap aheads_lent (sym is) ∙ seen

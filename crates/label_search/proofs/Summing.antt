@@ -1,15 +1,15 @@
 -- What is ahead over a chart as a sum is consistent.
-use Rattle.std.proofs.Common.{◌≡◌, ◌∙◌, ℕ, suc, zero, ◌+◌, ◌*◌, ◌/◌, ◌%◌, ◌<◌, ◌≤◌, List, [], ◌∷◌, ◌++◌, length, map, get_or, All, Bool, true, false, not, ◌&&◌, ◌||◌, nat_le, if◌then◌else◌, sym, ap, subst, refl, arith, add-one, add_assoc, inl, inr}
+use Rattle.std.proofs.Common.{◌≡◌, ◌∙◌, ℕ, suc, zero, ◌+◌, ◌*◌, ◌/◌, ◌%◌, ◌<◌, ◌≤◌, List, [], length, map, get_or, All, Bool, true, false, not, ◌&&◌, ◌||◌, nat_le, if◌then◌else◌, sym, ap, subst, refl, arith, add-one, inl, inr}
 use Rattle.std.specs.Prelude.{ℤ, pos, ◌+ℤ◌, ◌≤ℤ◌}
 use Rattle.std.specs.Int.{int_min}
 use Rattle.std.specs.List.{range_with_len}
 use Rattle.std.proofs.lemmas.Int.{ints, clamps}
 use Rattle.std.proofs.lemmas.Bool.{cases_lt, leb-true, leb-false}
-use Rattle.std.proofs.lemmas.Nat.{div-mul-add, mod-mul-add, div_below, mod_below}
+use Rattle.std.proofs.lemmas.Nat.{div-mul-add, mod-mul-add, div_below, le-div, mod_below}
 use Rattle.std.proofs.lemmas.Option.{unwrap_or-slice_get}
 use Rattle.std.proofs.lemmas.List.{get_or_past, get_or-map, length-map}
 use Rattle.std.proofs.lemmas.List.Elements.{All-nil, All-cons, All-get_or, All-filter, All-map, filter_passes}
-use Rattle.std.proofs.lemmas.List.FromFn.{get_or-map-range_with_len, length-map-range_with_len, map-range_with_len_more}
+use Rattle.std.proofs.lemmas.List.FromFn.{get_or-map-range_with_len, length-map-range_with_len}
 use Rattle.rail_types.specs.declared.limits.TheConstants.{FAR_TICK}
 use Rattle.label_search.specs.declared.charts.ChartCall.{ChartCall}
 use Rattle.label_search.specs.declared.charts.ChartSpot.{ChartSpot}
@@ -24,7 +24,7 @@ use Rattle.label_search.specs.declared.plans.Target.TheVariants.{Place as To, En
 use Rattle.label_search.specs.Charts.{call_at, count_over, dwell_over, is_called, is_open, made_behind, move_among, move_of_way, number_over, open_among, place_over, plan_over, spot_at, stay_over, target_over}
 use Rattle.label_search.specs.Free.{Book}
 use Rattle.label_search.specs.Limits.{IsAhead, IsBound, ahead_at, ahead_of, least_wait}
-use Rattle.label_search.specs.Nearing.{AreNears, AreRests, HaveShortDwells, IsNearAlong, ahead_over, aheads_over, aheads_to, is_call, near_at, stay_ahead}
+use Rattle.label_search.specs.Nearing.{AreNears, AreRests, HaveShortDwells, IsNearAlong, ahead_over, aheads_over, is_call, near_at, stay_ahead}
 use Rattle.label_search.specs.Paths.{move_at, place_at}
 use Rattle.label_search.specs.Plans.{IsMoveOf, IsPlaceOf, IsPlan, IsShort, IsTarget}
 use Rattle.label_search.proofs.Calling.{Leads, spots_lead}
@@ -66,6 +66,21 @@ some_level : (number spots levels : ℕ) → number < spots * levels → 0 < lev
 some_level number spots zero below = absurd (omega arith)
 some_level number spots (suc levels) below = omega arith
 
+crossed : (one other : ℕ) → one < other → other ≤ one → ⊥
+crossed one other less more = omega arith
+
+on_chart : (number spots levels : ℕ) → 0 < levels → number / levels < spots → number < spots * levels
+on_chart number spots levels called within = elim (cases_lt number (spots * levels)) [
+  | inl below ↦ below
+  | inr past ↦ absurd (crossed (number / levels) spots within (le-div spots number levels called past))
+]
+
+past_chart : (number spots levels : ℕ) → 0 < levels → spots ≤ number / levels → spots * levels ≤ number
+past_chart number spots levels called past = elim (cases_lt number (spots * levels)) [
+  | inl below ↦ absurd (crossed (number / levels) spots (div_below number levels spots called below) past)
+  | inr behind ↦ behind
+]
+
 both : (halts called : Bool) → halts ≡ true → (not halts || called) ≡ true → (halts && called) ≡ true
 both true called is opens = opens
 both false called is opens = absurd (cc)
@@ -86,19 +101,37 @@ module _ (spots : List ChartSpot) (calls : List ChartCall) (nears : List Near) (
       ap (λ n. stay n ((spot * length calls + made) % length calls)) (div-mul-add spot (length calls) made within)
       ∙ ap (λ n. stay spot n) (mod-mul-add spot (length calls) made within)
 
-  -- one number more at a spot
-  pub more_over : (spot made : ℕ) (before : List Ahead) (one : Ahead) → made < length calls → before ≡ aheads_to spots calls nears rests (spot * length calls + made) → one.ticks ≡ stay spot made
-      → before ++ one ∷ [] ≡ aheads_to spots calls nears rests (spot * length calls + (made + 1))
-  more_over spot made before one within is one_is =
-      ap (λ (list : List Ahead). list ++ one ∷ []) is
-      ∙ (ap (λ (last : Ahead). aheads_to spots calls nears rests (spot * length calls + made) ++ last ∷ []) (ap told (one_is ∙ sym (stay_at spot made within)))
-      ∙ (ap (λ (list : List Ahead). nothing ∷ list) (sym (map-range_with_len_more (ahead_over spots calls nears rests) 0 (spot * length calls + made) (spot * length calls + made) (omega arith)))
-      ∙ ap (λ (count : ℕ). aheads_to spots calls nears rests count) (add_assoc (spot * length calls) made 1)))
-
   ahead_here : (number : ℕ) → number < length spots * length calls → ahead_at all_over (suc number) ≡ ahead_over spots calls nears rests number
   ahead_here number within =
       unwrap_or-slice_get (map (ahead_over spots calls nears rests) (range_with_len 0 (length spots * length calls))) number nothing
       ∙ get_or-map-range_with_len (ahead_over spots calls nears rests) 0 (length spots * length calls) number number nothing within (omega arith)
+
+  -- nothing is ahead at the start
+  pub nothing_at_start : (place : ℕ) → place ≡ 0 → nothing ≡ ahead_at all_over place
+  nothing_at_start place is = sym (ap (λ n. ahead_at all_over n) is)
+
+  -- nor at a number behind those of all places
+  nothing_behind : (place before : ℕ) → place ≡ suc before → length spots * length calls ≤ before → nothing ≡ ahead_at all_over place
+  nothing_behind place before is past =
+      let sums : List Ahead = map (ahead_over spots calls nears rests) (range_with_len 0 (length spots * length calls)) in
+      let counted : length sums ≡ length spots * length calls = length-map-range_with_len (ahead_over spots calls nears rests) 0 (length spots * length calls) in
+      sym (ap (λ n. ahead_at all_over n) is
+      ∙ (unwrap_or-slice_get sums before nothing
+      ∙ get_or_past sums before nothing (subst (λ count. count ≤ before) (sym counted) past)))
+
+  pub nothing_past : (place before levels : ℕ) → place ≡ suc before → levels ≡ length calls → 0 < levels → length spots ≤ before / levels → nothing ≡ ahead_at all_over place
+  nothing_past place before levels is counted called past =
+      nothing_behind place before is (subst (λ n. length spots * n ≤ before) counted (past_chart before (length spots) levels called past))
+
+  pub nothing_uncalled : (place before : ℕ) → place ≡ suc before → length calls ≡ 0 → nothing ≡ ahead_at all_over place
+  nothing_uncalled place before is none = nothing_behind place before is (subst (λ n. length spots * n ≤ before) (sym none) (omega arith))
+
+  -- at the place of a number the sum is ahead
+  pub sum_at_place : (place before levels : ℕ) → place ≡ suc before → levels ≡ length calls → 0 < levels → before / levels < length spots
+      → (one : Ahead) → one.ticks ≡ stay (before / levels) (before % levels) → one ≡ ahead_at all_over place
+  sum_at_place place before levels is counted called within one sum =
+      ap told (sum ∙ ap (λ n. stay (before / n) (before % n)) counted)
+      ∙ sym (ap (λ n. ahead_at all_over n) is ∙ ahead_here before (subst (λ n. before < length spots * n) counted (on_chart before (length spots) levels called within)))
 
   -- what is ahead at a spot stands at the number of its place
   ahead_there : (spot made : ℕ) → made < length calls → spot * length calls + made < length spots * length calls → ahead_of all_over (To (number_over (length calls) spot made)) ≡ stay spot made

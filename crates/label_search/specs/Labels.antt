@@ -1,5 +1,5 @@
 -- What labels say.
-use Rattle.std.specs.Prelude.{◌≡◌, ◌⊎◌, ℕ, ◌≤◌, ◌<◌, ℤ, pos, ◌+ℤ◌, ◌≤ℤ◌, List, [], ◌++◌, Bool, true}
+use Rattle.std.specs.Prelude.{◌≡◌, ◌⊎◌, ℕ, ◌≤◌, ◌<◌, ℤ, pos, ◌+ℤ◌, ◌≤ℤ◌, List, ◌++◌, Bool, true}
 use Rattle.std.specs.Prelude.{false, length, slice_index_or, All, Any, map, filter, not}
 use Rattle.rail_types.specs.declared.paths.Span.{Span}
 use Rattle.rail_types.specs.declared.paths.Claim.{Claim}
@@ -8,6 +8,7 @@ use Rattle.label_search.specs.declared.labels.Label.{Label}
 use Rattle.label_search.specs.declared.labels.Front.{Front}
 use Rattle.label_search.specs.declared.labels.Source.{Source}
 use Rattle.label_search.specs.declared.labels.Origin.TheVariants.{Start}
+use Rattle.label_search.specs.declared.seen.SeenPlace.{SeenPlace}
 use Rattle.free_windows.specs.Free.{Holds}
 use Rattle.label_search.specs.Spans.{IsFreeOf}
 
@@ -28,16 +29,14 @@ abbrev pub IsCovered : List Label → ℕ → Bool → List Span → Type 0
 IsCovered labels place ready spans = (tick : ℤ) → IsUnseen spans tick
     ⊎ IsReached labels place ready tick
 
-abbrev pub spans_at : List (List Span) → ℕ → List Span
-spans_at seen place = slice_index_or seen place []
+-- Inside: labels have the ticks that are seen of a place
+pub record IsCoveredAt (labels : List Label) (seen : SeenPlace) : Type 0 where
+  pub arrivals : IsCovered labels seen.place false seen.arrived
+  pub readies : IsCovered labels seen.place true seen.ready
 
--- this holds of the arrivals and of the ready ticks of each place
-pub record AreCovered (labels : List Label) (arrived ready : List (List Span)) : Type 0 where
-  pub counted : length arrived ≡ length ready
-  pub arrivals : (place : ℕ) → place < length arrived
-      → IsCovered labels place false (spans_at arrived place)
-  pub readies : (place : ℕ) → place < length arrived
-      → IsCovered labels place true (spans_at ready place)
+-- Inside: and those of all places that are seen
+abbrev pub AreCovered : List Label → List SeenPlace → Type 0
+AreCovered labels places = All (λ seen. IsCoveredAt labels seen) places
 
 -- more labels, each of which is so
 abbrev pub IsGrown : (Label → Type 0) → List Label → List Label → Type 0

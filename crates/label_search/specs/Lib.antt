@@ -1,5 +1,6 @@
 pub mod Free
 pub mod Spans
+pub mod Longer
 pub mod Paths
 pub mod Limits
 pub mod Closed
@@ -15,3 +16,4 @@ pub mod Pending
 pub mod Charts
 pub mod Lent
 pub mod Nearing
+pub mod LentLimits

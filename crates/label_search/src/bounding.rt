@@ -119,14 +119,15 @@ fn least_wait(place: &LentPlace) -> Ahead
     }
 }
 
-// The least ticks to the end, which stands as one place behind the others.
+// The least ticks to the end.
 fn distances(alloc: Global, plan: &LentPlan) -> Result<Vec<Ahead>, NoMemory> {
-    let mut entries = Entries::none(alloc, plan.count())?;
+    let end = plan.count();
+    let mut entries = Entries::none(alloc, end.saturating_add(1))?;
     put_all(&mut entries, plan)?;
-    entries.distances(alloc)
+    entries.distances(alloc, entries.moves_into(end))
 }
 
-// Puts the moves of a plan in, once they are counted.
+// Puts the moves of a plan in, once they are counted; the end stands as one place behind the others.
 fn put_all(entries: &mut Entries, plan: &LentPlan) -> Result<(), NoMemory> {
     let end = plan.count();
     for from in 0..end {

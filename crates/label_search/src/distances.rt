@@ -14,8 +14,7 @@ pub(crate) struct Entry {
     pub(crate) ticks: Tick,
 }
 
-/// The moves into each place, and into the end, which stands as one place behind the others: those
-/// into one stand together, from its first on.
+/// The moves into each place: those into one stand together, from its first on.
 #[derive(Drop)]
 pub(crate) struct Entries {
     firsts: Vec<usize>,
@@ -23,14 +22,10 @@ pub(crate) struct Entries {
 }
 
 impl Entries {
-    /// None into so many places and the end.
+    /// None into so many places.
     pub(crate) fn none(alloc: Global, places: usize) -> Result<Entries, NoMemory> {
-        let mut firsts = Vec::new(alloc);
-        for _ in 0..=places {
-            firsts.push(0usize)?;
-        }
         Ok(Entries {
-            firsts,
+            firsts: vec![in alloc; 0; places]?,
             entries: Vec::new(alloc),
         })
     }
@@ -44,9 +39,8 @@ impl Entries {
 
     /// Makes room for the moves that are counted.
     pub(crate) fn make_room(&mut self) -> Result<(), NoMemory> {
-        for _ in 0..sum_up(self.firsts.as_mut_slice()) {
-            self.entries.push(Entry { from: 0, ticks: 0 })?;
-        }
+        let count = sum_up(self.firsts.as_mut_slice());
+        self.entries.resize(count, Entry { from: 0, ticks: 0 })?;
         Ok(())
     }
 
@@ -62,15 +56,16 @@ impl Entries {
         }
     }
 
-    /// The least ticks from each place to the end, and none from the end.
-    pub(crate) fn distances(&self, alloc: Global) -> Result<Vec<Ahead>, NoMemory> {
-        let end = self.firsts.len().saturating_sub(1);
-        let mut ahead = all_far(alloc, end)?;
+    /// The least ticks from each place to an end, which is so far from where these moves begin.
+    pub(crate) fn distances(&self, alloc: Global, lasts: &[Entry]) -> Result<Vec<Ahead>, NoMemory> {
+        let mut ahead = vec![in alloc; Ahead { ticks: FAR_TICK }; self.firsts.len()]?;
         let mut open = Vec::new(alloc);
-        open.push(end)?;
+        come_nearer(ahead.as_mut_slice(), lasts, &Ahead { ticks: 0 }, &mut open)?;
         let mut nearer = Vec::new(alloc);
-        for _ in 0..end {
-            come_nearer(self, ahead.as_mut_slice(), open.as_slice(), &mut nearer)?;
+        for _ in 0..self.firsts.len() {
+            for place in open.as_slice() {
+                self.come_nearer_to(*place, ahead.as_mut_slice(), &mut nearer)?;
+            }
             mem::swap(&mut open, &mut nearer);
             nearer.clear();
             if open.is_empty() {
@@ -78,6 +73,29 @@ impl Entries {
             }
         }
         Ok(ahead)
+    }
+
+    // Adds the places that come nearer by a move into this one.
+    fn come_nearer_to(
+        &self,
+        place: usize,
+        ahead: &mut [Ahead],
+        nearer: &mut Vec<usize>,
+    ) -> Result<(), NoMemory> {
+        let Some(there) = ahead.get(place) else {
+            return Ok(());
+        };
+        let there = *there;
+        come_nearer(ahead, self.moves_into(place), &there, nearer)
+    }
+
+    /// The moves into a place.
+    pub(crate) fn moves_into(&self, place: usize) -> &[Entry] {
+        let first = self.first(place);
+        match self.entries.get(first..self.first(place.saturating_add(1))) {
+            Some(entries) => entries,
+            None => &[],
+        }
     }
 
     // The number of the first move into a place, or of what stands behind all.
@@ -99,43 +117,15 @@ fn sum_up(counts: &mut [usize]) -> usize {
     sum
 }
 
-fn all_far(alloc: Global, places: usize) -> Result<Vec<Ahead>, NoMemory> {
-    let mut ahead = Vec::with_capacity(alloc, places.saturating_add(1))?;
-    for _ in 0..places {
-        ahead.push(Ahead { ticks: FAR_TICK })?;
-    }
-    ahead.push(Ahead { ticks: 0 })?;
-    Ok(ahead)
-}
-
-// Adds the places that come nearer by a move into one of these.
+// Adds the places that come nearer by moves to where it is so far.
 fn come_nearer(
-    entries: &Entries,
     ahead: &mut [Ahead],
-    open: &[usize],
+    entries: &[Entry],
+    there: &Ahead,
     nearer: &mut Vec<usize>,
 ) -> Result<(), NoMemory> {
-    for place in open {
-        come_nearer_to(entries, ahead, *place, nearer)?;
-    }
-    Ok(())
-}
-
-fn come_nearer_to(
-    entries: &Entries,
-    ahead: &mut [Ahead],
-    place: usize,
-    nearer: &mut Vec<usize>,
-) -> Result<(), NoMemory> {
-    let Some(there) = ahead.get(place) else {
-        return Ok(());
-    };
-    let there = *there;
-    for number in entries.first(place)..entries.first(place.saturating_add(1)) {
-        let Some(entry) = entries.entries.get(number) else {
-            return Ok(());
-        };
-        if comes_nearer(ahead, entry, &there) {
+    for entry in entries {
+        if comes_nearer(ahead, entry, there) {
             nearer.push(entry.from)?;
         }
     }

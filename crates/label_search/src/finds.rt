@@ -11,6 +11,7 @@ ghost use Rattle.label_search.specs.Search.{IsSearch, IsStarted};
 
 use crate::firsts::explore_first;
 use crate::lent::LentPlan;
+use crate::lent_limits::{Aheads, LentLimits};
 use crate::limits::{Ahead, Limits};
 use crate::paths::path_to;
 use crate::plans::{Plan, Step, Trip};
@@ -41,23 +42,29 @@ pub fn find(
     requires consistent { IsConsistent plan.now ahead.now }
     ensures { IfOk result (IsFinding plan.now trip.now book.now) }
 {
-    find_lent(alloc, &LentPlan::listed(plan), book, trip, ahead)
+    find_lent(
+        alloc,
+        &LentPlan::listed(plan),
+        book,
+        trip,
+        &Aheads::listed(ahead),
+    )
 }
 
-/// The same along a plan that is lent.
+/// The same along a plan that is lent, by what is ahead of each place as it is lent.
 pub fn find_lent(
     alloc: Global,
     plan: &LentPlan,
     book: &Occupations,
     trip: &Trip,
-    ahead: &List<Ahead>,
+    ahead: &Aheads,
 ) -> Result<Finding, NoMemory>
     requires plan { IsPlan plan.now book.now }
     requires ahead { All IsAhead ahead.now }
     requires consistent { IsConsistent plan.now ahead.now }
     ensures { IfOk result (IsFinding plan.now trip.now book.now) }
 {
-    let limits = limits_behind(alloc, plan, trip, ahead)?;
+    let limits = limits_behind(plan, trip, ahead);
     let found = find_lent_below(alloc, plan, book, trip, limits)?;
     let Some(steps) = found else {
         return Ok(Finding::NoPath);
@@ -78,7 +85,13 @@ pub fn find_below(
     requires consistent { IsConsistent plan.now limits.ahead }
     ensures { IfOk result (IsFoundBelow plan.now trip.now book.now limits.below) }
 {
-    find_lent_below(alloc, &LentPlan::listed(plan), book, trip, limits)
+    find_lent_below(
+        alloc,
+        &LentPlan::listed(plan),
+        book,
+        trip,
+        LentLimits::listed(&limits),
+    )
 }
 
 fn find_lent_below(
@@ -86,12 +99,12 @@ fn find_lent_below(
     plan: &LentPlan,
     book: &Occupations,
     trip: &Trip,
-    limits: Limits,
+    limits: LentLimits,
 ) -> Result<Option<List<Step>>, NoMemory>
     requires plan { IsPlan plan.now book.now }
     requires limits { IsLimits limits }
     requires consistent { IsConsistent plan.now limits.ahead }
-    ensures { IfOk result (IsFoundBelow plan.now trip.now book.now limits.below) }
+    ensures { IfOk result (IsFoundBelow plan.now trip.now book.now limits.entry.below) }
 {
     let search = explore_first(alloc, plan, book, trip, limits)?;
     path_found(alloc, plan, book, trip, &search)
@@ -120,24 +133,18 @@ fn path_found(
 }
 
 // A limit that no path can arrive behind.
-fn limits_behind(
-    alloc: Global,
-    plan: &LentPlan,
-    trip: &Trip,
-    ahead: &List<Ahead>,
-) -> Result<Limits, NoMemory>
+fn limits_behind<'a>(plan: &LentPlan, trip: &Trip, ahead: &Aheads<'a>) -> LentLimits<'a>
     requires horizon { IsShort plan.now.horizon }
     requires ahead { All IsAhead ahead.now }
-    ensures limits { IfOk result IsLimits }
-    ensures ahead { IfOk result (λ limits. limits.ahead ≡ ahead.now) }
-    ensures past { IfOk result (λ limits. (plan.now.horizon <ℤ limits.below)
-        ⊎ (trip.now.arrive.to <ℤ limits.below)) }
+    ensures limits { IsLimits result }
+    ensures ahead { result.ahead ≡ ahead.now }
+    ensures past { (plan.now.horizon <ℤ result.below) ⊎ (trip.now.arrive.to <ℤ result.below) }
 {
     let last = last_arrival(plan, trip);
-    Ok(Limits {
-        ahead: ahead.copy(alloc)?,
+    LentLimits {
+        ahead: ahead.again(),
         below: last.ticks + 1,
-    })
+    }
 }
 
 // The last tick by which a path can arrive, or 0.

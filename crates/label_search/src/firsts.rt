@@ -21,7 +21,8 @@ ghost use Rattle.label_search.specs.declared.queues.Due.{Due as due_type};
 
 use crate::labels::Front;
 use crate::lent::{LentMove, LentPlace, LentPlan};
-use crate::limits::{Ahead, Limits, ahead_at, ahead_to};
+use crate::lent_limits::LentLimits;
+use crate::limits::Ahead;
 use crate::plans::Trip;
 use crate::queues::{Due, Queue, Task, Work};
 use crate::searches::{
@@ -42,17 +43,17 @@ struct Onward {
 }
 
 // What the search has when no work is due before its best end.
-pub(crate) fn explore_first(
+pub(crate) fn explore_first<'a>(
     alloc: Global,
     plan: &LentPlan,
     book: &Occupations,
     trip: &Trip,
-    limits: Limits,
-) -> Result<Search, NoMemory>
+    limits: LentLimits<'a>,
+) -> Result<Search<'a>, NoMemory>
     requires plan { IsPlan plan.now book.now }
     requires limits { IsLimits limits }
     requires consistent { IsConsistent plan.now limits.ahead }
-    ensures limits { IfOk result (λ search. search.limits ≡ limits) }
+    ensures limits { IfOk result (λ search. search.limits ≡ limits.entry) }
     ensures search { IfOk result (IsSearch plan.now trip.now book.now) }
     ensures started { IfOk result (IsStarted plan.now trip.now) }
     ensures settled { IfOk result (IsSettled plan.now trip.now book.now) }
@@ -122,9 +123,7 @@ fn stop_of(search: &Search) -> Ahead
         Some(ending) => Ahead {
             ticks: ending.arrive.from,
         },
-        None => Ahead {
-            ticks: search.limits.below,
-        },
+        None => search.limits.below(),
     }
 }
 
@@ -358,7 +357,7 @@ fn go_on(
     if free.to >= rest.to {
         return Ok(());
     }
-    let ahead = ahead_to(&search.limits.ahead, &step);
+    let ahead = search.limits.ahead_to(&step);
     queue.push(alloc, &move_behind(&free, &step, &ahead, onward))
 }
 
@@ -426,9 +425,10 @@ fn go_on_waiting(
     if free.to >= part.ticks.to {
         return Ok(());
     }
-    let ahead = ahead_at(&search.limits.ahead, part.place as usize);
+    let ahead = search.limits.ahead_at(part.place as usize);
     let due = waits_behind(&free, &ahead, label);
-    if due.tick >= search.limits.below {
+    let below = search.limits.below();
+    if due.tick >= below.ticks {
         return Ok(());
     }
     queue.push(alloc, &due)
@@ -490,9 +490,10 @@ fn leave_one(
 {
     let front = search.labels.front(label);
     let place = place_at(plan, front.place);
-    let ahead = ahead_at(&search.limits.ahead, front.place as usize);
+    let ahead = search.limits.ahead_at(front.place as usize);
     let due = leaving(&front, &waited(front.ready, &place), &ahead, label);
-    if due.tick >= search.limits.below {
+    let below = search.limits.below();
+    if due.tick >= below.ticks {
         return Ok(());
     }
     queue.push(alloc, &due)

@@ -8,7 +8,8 @@ ghost use Rattle.free_windows.specs.Free.{Holds};
 ghost use Rattle.rail_types.specs.Limits.{IsNear};
 ghost use Rattle.label_search.specs.Spans.{IsNearBelow};
 ghost use Rattle.label_search.specs.Labels.{AreFronts, AreJoined, GoesOn, HasAllFrom, IsCovered};
-ghost use Rattle.label_search.specs.Labels.{IsGrown, IsIn, IsPartOf, IsSourceOf, IsReached};
+ghost use Rattle.label_search.specs.Labels.{IsCoveredAt, IsGrown, IsIn, IsPartOf, IsSourceOf};
+ghost use Rattle.label_search.specs.Labels.{IsReached};
 ghost use Rattle.label_search.specs.Labels.{IsUnseen, as_front, as_member, label_at, members_of};
 ghost use Rattle.std.specs.Prelude.{List as list_of};
 ghost use Rattle.label_search.specs.declared.labels.Front.{Front as front_type};
@@ -16,7 +17,7 @@ ghost use Rattle.label_search.specs.Closed.{IsHeld};
 ghost use Rattle.std.specs.Int.{int_max};
 
 use crate::plans::Member;
-use crate::seen::Seen;
+use crate::seen::{Seen, SeenPlace, place_in};
 use crate::stretches::behind;
 use no_memory::NoMemory;
 use rail_types::{Tick, Window};
@@ -72,12 +73,14 @@ pub(crate) struct Moment {
     pub(crate) tick: Tick,
 }
 
-/// Labels, and of each place the ticks that they have.
+/// Labels, and of each place that they reach the ticks that they have.
 #[derive(Drop)]
 pub(crate) struct Labels {
+    alloc: Global,
     labels: Vec<Label>,
-    arrived: Vec<Seen>,
-    ready: Vec<Seen>,
+    seen: Vec<SeenPlace>,
+    // For each place where it may stand among those that are seen.
+    hints: Vec<u32>,
 }
 
 impl Model for Labels {
@@ -87,9 +90,9 @@ impl Model for Labels {
 
     ghost Value = { Known };
 
-    ghost view = { λ a. record { labels = a.labels.items; places = length a.arrived.items } };
+    ghost view = { λ a. record { labels = a.labels.items; places = length a.hints.items } };
 
-    ghost invariant = { λ a. AreCovered a.labels.items a.arrived.items a.ready.items };
+    ghost invariant = { λ a. AreCovered a.labels.items a.seen.items };
 }
 
 impl Labels {
@@ -98,16 +101,12 @@ impl Labels {
         ensures labels { IfOk result (λ known. known.labels ≡ []) }
         ensures places { IfOk result (λ known. known.places ≡ places) }
     {
-        let mut arrived = Vec::with_capacity(alloc, places)?;
-        let mut ready = Vec::with_capacity(alloc, places)?;
-        for _ in 0..places {
-            arrived.push(Seen::new(alloc))?;
-            ready.push(Seen::new(alloc))?;
-        }
+        let hints = vec![in alloc; 0u32; places]?;
         Ok(Labels {
+            alloc,
             labels: Vec::new(alloc),
-            arrived,
-            ready,
+            seen: Vec::new(alloc),
+            hints,
         })
     }
 
@@ -174,13 +173,9 @@ impl Labels {
         ensures reached { OnOk result ((tick : ℤ) → Holds wanted.now.ticks tick
             → IsReached self.new.labels wanted.now.place wanted.now.ready tick) }
     {
-        if wanted.ready {
-            let seen = &mut self.ready[wanted.place as usize];
-            extend(&mut self.labels, seen, wanted)
-        } else {
-            let seen = &mut self.arrived[wanted.place as usize];
-            extend(&mut self.labels, seen, wanted)
-        }
+        let at = place_in(self.alloc, &mut self.seen, &mut self.hints, wanted.place)?;
+        let seen = &mut self.seen[at];
+        extend_at(&mut self.labels, seen, wanted)
     }
 }
 
@@ -320,6 +315,23 @@ fn member_of(front: &Front) -> Member
     Member {
         place: front.place,
         window: front.ticks,
+    }
+}
+
+// Labels for those ticks of a place that no label has.
+fn extend_at(labels: &mut Vec<Label>, seen: &mut SeenPlace, wanted: &Label) -> Result<(), NoMemory>
+    requires near { IsNearBelow wanted.now.ticks }
+    requires place { seen.old.place ≡ wanted.now.place }
+    requires covered { IsCoveredAt labels.old.items seen.old }
+    ensures covered { IsCoveredAt labels.new.items seen.new }
+    ensures grown { IsGrown (IsPartOf wanted.now) labels.old.items labels.new.items }
+    ensures reached { OnOk result ((tick : ℤ) → Holds wanted.now.ticks tick
+        → IsReached labels.new.items wanted.now.place wanted.now.ready tick) }
+{
+    if wanted.ready {
+        extend(labels, &mut seen.ready, wanted)
+    } else {
+        extend(labels, &mut seen.arrived, wanted)
     }
 }
 

@@ -10,15 +10,18 @@ mod firsts;
 mod labels;
 mod laws;
 mod lent;
+mod lent_limits;
 mod limits;
 mod nearing;
 mod paths;
 mod plans;
 mod queues;
+mod roads;
 mod searches;
 mod seeks;
 mod seen;
 mod stretches;
+mod sum_loans;
 
 pub use bounding::bounds;
 pub use charts::{Chart, ChartCall, ChartSpot, ChartWay};
@@ -29,7 +32,9 @@ pub use laws::{
     closed_members_exclude_paths, limits_are_these,
 };
 pub use lent::{LentPlan, way_on_chart};
+pub use lent_limits::Aheads;
 pub use limits::{Ahead, Limits};
-pub use nearing::{Near, aheads, near_to};
+pub use nearing::{Near, near_to, rests_of};
 pub use plans::{LATEST, Member, Move, Place, Plan, Step, Target, Trip};
+pub use roads::Roads;
 pub use seeks::{Sought, search, seek};

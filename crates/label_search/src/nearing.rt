@@ -1,34 +1,33 @@
 //! How near a train is to its next call from each spot of a chart, which is the same for all
-//! requests with that call, and what is ahead by that at each place of a request over the chart.
+//! requests with that call, and what is ahead by that at a place of a request over the chart.
 
-ghost use Rattle.std.specs.Prelude.{◌≡◌, ℕ, ◌+◌, ◌*◌, ◌<◌, pos, ◌+ℤ◌, ◌≤ℤ◌, ◌++◌, length, map};
+ghost use Rattle.std.specs.Prelude.{◌≡◌, ℕ, ◌+◌, ◌<◌, pos, ◌+ℤ◌, ◌≤ℤ◌, ◌++◌, length, map};
 ghost use Rattle.std.specs.Prelude.{replicate, false, true, if◌then◌else◌};
 ghost use Rattle.std.specs.Prelude.{All, IfOk, IsTrue, OnOk};
 ghost use Rattle.label_search.specs.Charts.{call_at, spot_at};
-ghost use Rattle.label_search.specs.Limits.{IsAhead};
+ghost use Rattle.label_search.specs.Limits.{IsAhead, ahead_at as place_ahead};
 ghost use Rattle.label_search.specs.Nearing.{
   AreNears,
   AreRests,
   AreRestsFrom,
   HaveShortDwells,
   HaveShortRuns,
-  IsConsistentOver,
   IsNearAlong,
   IsNearTo,
-  aheads_to,
+  aheads_over,
   behind_calls,
   behind_ways,
   is_call as calls_there,
   near_at,
+  stay_ahead,
   sum_ahead,
 };
 ghost use Rattle.label_search.specs.Plans.{IsShort};
 
 use crate::bounding::are_ahead;
 use crate::charts::{Chart, ChartCall, ChartSpot, ChartWay};
-use crate::distances::{Entries, Entry};
-use crate::laws::aheads_are_consistent;
 use crate::limits::{Ahead, ahead_at};
+use crate::roads::Roads;
 use no_memory::NoMemory;
 use rail_types::{FAR_TICK, List};
 use std::alloc::Global;
@@ -41,25 +40,35 @@ pub struct Near {
     pub(crate) behind: List<u32>,
 }
 
-/// How near a train is that is called at the ends of these blocks. The ticks are found without
-/// proof and tested.
-pub fn near_to(alloc: Global, chart: &Chart, blocks: &[u32]) -> Result<Near, NoMemory>
+/// How near a train is that is called at the ends of these blocks. The ticks are found by the roads
+/// of the chart without proof, and tested.
+pub fn near_to(
+    alloc: Global,
+    chart: &Chart,
+    roads: &Roads,
+    blocks: &[u32],
+) -> Result<Near, NoMemory>
     requires runs { HaveShortRuns chart.now.spots }
     ensures { IfOk result (IsNearTo chart.now.spots blocks.now) }
 {
     let behind = spots_behind(alloc, chart.spots.as_slice(), blocks)?;
-    let ticks = ticks_along(alloc, chart, blocks)?;
+    let ticks = ticks_along(alloc, chart, roads, blocks)?;
     Ok(Near { ticks, behind })
 }
 
 // The ticks from each spot, or none where the test fails.
-fn ticks_along(alloc: Global, chart: &Chart, blocks: &[u32]) -> Result<List<Ahead>, NoMemory>
+fn ticks_along(
+    alloc: Global,
+    chart: &Chart,
+    roads: &Roads,
+    blocks: &[u32],
+) -> Result<List<Ahead>, NoMemory>
     requires runs { HaveShortRuns chart.now.spots }
     ensures ahead { IfOk result (All IsAhead) }
     ensures near { IfOk result (λ ticks. (number : ℕ) → number < length chart.now.spots
         → All (IsNearAlong blocks.now ticks number) (spot_at chart.now.spots number).ways) }
 {
-    let ticks = List::from_vec(entries_of(alloc, chart, blocks)?.distances(alloc)?);
+    let ticks = List::from_vec(roads.ticks_to(alloc, blocks)?);
     if are_ahead(&ticks) && are_near(chart, blocks, &ticks) {
         return Ok(ticks);
     }
@@ -161,104 +170,61 @@ fn calls_no_nearer(blocks: &[u32], way: &ChartWay, here: &Ahead) -> bool
     !is_call(blocks, way) || here.ticks <= way.run
 }
 
-// The ways into each spot, and into the calls, which stand as one spot behind the others.
-fn entries_of(alloc: Global, chart: &Chart, blocks: &[u32]) -> Result<Entries, NoMemory> {
-    let end = chart.spots.len();
-    let mut entries = Entries::none(alloc, end)?;
-    for spot in chart.spots.as_slice() {
-        count_ways(&mut entries, blocks, end, spot);
-    }
-    entries.make_room()?;
-    for (from, spot) in chart.spots.as_slice().iter().enumerate() {
-        put_ways(&mut entries, blocks, end, from, spot);
-    }
-    Ok(entries)
-}
-
-fn count_ways(entries: &mut Entries, blocks: &[u32], end: usize, spot: &ChartSpot) {
-    for way in spot.ways.as_slice() {
-        if let Some(to) = target_of(way, blocks, end) {
-            entries.count(to);
-        }
-    }
-}
-
-fn put_ways(entries: &mut Entries, blocks: &[u32], end: usize, from: usize, spot: &ChartSpot) {
-    for way in spot.ways.as_slice() {
-        let entry = Entry {
-            from,
-            ticks: way.run,
-        };
-        if let Some(to) = target_of(way, blocks, end) {
-            entries.put(to, &entry);
-        }
-    }
-}
-
-// Where a way leads to: no train halts where it is not called.
-fn target_of(way: &ChartWay, blocks: &[u32], end: usize) -> Option<usize> {
-    if is_call(blocks, way) {
-        return Some(end);
-    }
-    if way.halts {
-        return None;
-    }
-    Some(way.next as usize)
-}
-
-/// What is ahead at each place of a plan of calls over a chart, by how near the train is to each of
-/// them: its dwell where it stands, the way to its next call, and what is left behind that.
-pub fn aheads(
-    alloc: Global,
+// What is ahead at the place of a number over a chart, nothing where it has no such place: the dwell
+// where the train stands, the way to its next call, and what is left behind that.
+pub(crate) fn sum_of_place(
     chart: &Chart,
     calls: &List<ChartCall>,
     nears: &[&Near],
-) -> Result<List<Ahead>, NoMemory>
+    rests: &List<Ahead>,
+    place: usize,
+) -> Ahead
     requires dwells { HaveShortDwells calls.now }
     requires nears { AreNears chart.now.spots calls.now (map (λ near. near.now) nears.now) }
-    ensures ahead { IfOk result (All IsAhead) }
-    ensures consistent { IfOk result (IsConsistentOver chart.now.spots calls.now) }
+    requires rests { All IsAhead rests.now }
+    ensures value { result ≡ place_ahead (aheads_over chart.now.spots calls.now
+        (map (λ near. near.now) nears.now) rests.now) place }
+    ensures ahead { IsAhead result }
 {
-    aheads_are_consistent();
-    let rests = rests_of(alloc, chart, calls, nears)?;
-    let places = chart.spots.len().saturating_mul(calls.len());
-    let mut aheads = Vec::with_capacity(alloc, places.saturating_add(1))?;
-    aheads.push(Ahead { ticks: 0 })?;
-    for spot in 0..chart.spots.len() {
-        push_aheads(chart, calls, nears, &rests, spot, &mut aheads)?;
+    if place == 0 {
+        return Ahead { ticks: 0 };
     }
-    Ok(List::from_vec(aheads))
+    let levels = calls.len();
+    if levels == 0 {
+        return Ahead { ticks: 0 };
+    }
+    let spot = (place - 1) / levels;
+    if spot >= chart.spots.len() {
+        return Ahead { ticks: 0 };
+    }
+    sum_of_stay(chart, calls, nears, rests, spot, (place - 1) % levels)
 }
 
-// Puts what is ahead at a spot with each count of calls made behind the others.
-fn push_aheads(
+// What is ahead at a spot where so many calls are made.
+fn sum_of_stay(
     chart: &Chart,
     calls: &List<ChartCall>,
     nears: &[&Near],
     rests: &List<Ahead>,
     spot: usize,
-    aheads: &mut Vec<Ahead>,
-) -> Result<(), NoMemory>
+    made: usize,
+) -> Ahead
     requires dwells { HaveShortDwells calls.now }
     requires nears { AreNears chart.now.spots calls.now (map (λ near. near.now) nears.now) }
     requires rests { All IsAhead rests.now }
-    requires before { aheads.old.items ≡ aheads_to chart.now.spots calls.now
-        (map (λ near. near.now) nears.now) rests.now (spot * length calls.now) }
-    ensures { OnOk result (aheads.new.items ≡ aheads_to chart.now.spots calls.now
-        (map (λ near. near.now) nears.now) rests.now (spot * length calls.now
-        + length calls.now)) }
+    requires made { made < length calls.now }
+    ensures ahead { IsAhead result }
+    ensures sum { result.ticks ≡ stay_ahead chart.now.spots calls.now
+        (map (λ near. near.now) nears.now) rests.now spot made }
 {
     let standing = stands_at(chart, spot);
-    for made in 0..calls.len() {
-        let call = call_of(calls, made);
-        let near = near_of(nears, made);
-        aheads.push(sum_of(standing, call, near, &ahead_at(rests, made), spot))?;
-    }
-    Ok(())
+    let call = call_of(calls, made);
+    let near = near_of(nears, made);
+    sum_of(standing, call, near, &ahead_at(rests, made), spot)
 }
 
-// What is left behind each call.
-fn rests_of(
+/// What is left behind each call, by how near the train is to each of them.
+pub fn rests_of(
     alloc: Global,
     chart: &Chart,
     calls: &List<ChartCall>,

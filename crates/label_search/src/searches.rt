@@ -19,7 +19,8 @@ ghost use Rattle.label_search.specs.Search.{IsOneOf, IsSearch, IsStarted, IsWait
 
 use crate::labels::{Front, Label, Labels, Origin};
 use crate::lent::{LentMove, LentPlace, LentPlan};
-use crate::limits::{Ahead, Limits, ahead_to};
+use crate::lent_limits::LentLimits;
+use crate::limits::Ahead;
 use crate::plans::{Target, Trip};
 use crate::stretches::behind;
 use free_windows::next_start;
@@ -39,23 +40,23 @@ pub struct Ending {
 }
 
 #[derive(Drop)]
-pub(crate) struct Search {
+pub(crate) struct Search<'a> {
     pub(crate) labels: Labels,
     pub(crate) best: Option<Ending>,
-    pub(crate) limits: Limits,
+    pub(crate) limits: LentLimits<'a>,
 }
 
 // All labels, each explored.
-pub(crate) fn explore_all(
+pub(crate) fn explore_all<'a>(
     alloc: Global,
     plan: &LentPlan,
     book: &Occupations,
     trip: &Trip,
-    limits: Limits,
-) -> Result<Search, NoMemory>
+    limits: LentLimits<'a>,
+) -> Result<Search<'a>, NoMemory>
     requires plan { IsPlan plan.now book.now }
     requires limits { IsLimits limits }
-    ensures limits { IfOk result (λ search. search.limits ≡ limits) }
+    ensures limits { IfOk result (λ search. search.limits ≡ limits.entry) }
     ensures search { IfOk result (IsSearch plan.now trip.now book.now) }
     ensures started { IfOk result (IsStarted plan.now trip.now) }
     ensures explored { IfOk result (IsExploredTo plan.now trip.now book.now (λ search. length
@@ -115,16 +116,16 @@ fn explore_fronts(
 }
 
 // The label of the start.
-pub(crate) fn start(
+pub(crate) fn start<'a>(
     alloc: Global,
     plan: &LentPlan,
     book: &Occupations,
     trip: &Trip,
-    limits: Limits,
-) -> Result<Search, NoMemory>
+    limits: LentLimits<'a>,
+) -> Result<Search<'a>, NoMemory>
     requires plan { IsPlan plan.now book.now }
     requires limits { IsLimits limits }
-    ensures limits { IfOk result (λ search. search.limits ≡ limits) }
+    ensures limits { IfOk result (λ search. search.limits ≡ limits.entry) }
     ensures search { IfOk result (IsSearch plan.now trip.now book.now) }
     ensures started { IfOk result (IsStarted plan.now trip.now) }
 {
@@ -443,7 +444,7 @@ pub(crate) fn move_at<'a>(plan: &LentPlan<'a>, place: u32, number: usize) -> Len
 
 // The ticks of a label at which a move can be entered, leave by the
 // horizon and end below the limit.
-pub(crate) fn enters(front: &Front, plan: &LentPlan, limits: &Limits, step: &LentMove) -> Window
+pub(crate) fn enters(front: &Front, plan: &LentPlan, limits: &LentLimits, step: &LentMove) -> Window
     requires horizon { IsShort plan.now.horizon }
     requires run { IsShort step.now.run }
     requires limits { IsLimits limits.now }
@@ -451,7 +452,7 @@ pub(crate) fn enters(front: &Front, plan: &LentPlan, limits: &Limits, step: &Len
     ensures to { result.to ≡ int_min (int_min front.now.ticks.to (plan.now.horizon -ℤ
         step.now.run)) (last_enter limits.now step.now) }
 {
-    let ahead = ahead_to(&limits.ahead, step);
+    let ahead = limits.ahead_to(step);
     let within = enters_within(front, plan, step);
     until_the_limit(&within, limits, step, &ahead)
 }
@@ -468,7 +469,7 @@ fn enters_within(front: &Front, plan: &LentPlan, step: &LentMove) -> Window
     }
 }
 
-fn until_the_limit(within: &Window, limits: &Limits, step: &LentMove, ahead: &Ahead) -> Window
+fn until_the_limit(within: &Window, limits: &LentLimits, step: &LentMove, ahead: &Ahead) -> Window
     requires run { IsShort step.now.run }
     requires below { IsNear limits.now.below }
     requires ahead { IsAhead ahead.now }

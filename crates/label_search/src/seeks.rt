@@ -7,6 +7,7 @@ ghost use Rattle.label_search.specs.Limits.{IsConsistent, IsLimits};
 ghost use Rattle.label_search.specs.Search.{IsExploredTo, IsSearch, IsStarted};
 
 use crate::lent::LentPlan;
+use crate::lent_limits::LentLimits;
 use crate::limits::{Limits, no_limits};
 use crate::paths::path_to;
 use crate::plans::{Member, Plan, Step, Trip};
@@ -38,7 +39,13 @@ pub fn search(
     requires consistent { IsConsistent plan.now limits.ahead }
     ensures { IfOk result (IsSearched plan.now trip.now book.now limits) }
 {
-    search_lent(alloc, &LentPlan::listed(plan), book, trip, limits)
+    search_lent(
+        alloc,
+        &LentPlan::listed(plan),
+        book,
+        trip,
+        LentLimits::listed(&limits),
+    )
 }
 
 fn search_lent(
@@ -46,12 +53,12 @@ fn search_lent(
     plan: &LentPlan,
     book: &Occupations,
     trip: &Trip,
-    limits: Limits,
+    limits: LentLimits,
 ) -> Result<Sought, NoMemory>
     requires plan { IsPlan plan.now book.now }
     requires limits { IsLimits limits }
     requires consistent { IsConsistent plan.now limits.ahead }
-    ensures { IfOk result (IsSearched plan.now trip.now book.now limits) }
+    ensures { IfOk result (IsSearched plan.now trip.now book.now limits.entry) }
 {
     let search = explore_all(alloc, plan, book, trip, limits)?;
     sought_by(alloc, plan, book, trip, &search)

@@ -1,11 +1,15 @@
-//! The ticks of a place that labels have.
+//! The ticks that labels have, by the places that they reach.
 
 ghost use Rattle.rail_types.specs.declared.limits.TheConstants.{FAR_TICK};
-ghost use Rattle.std.specs.Prelude.{◌≡◌, ℕ, ℤ, pos, ◌+ℤ◌, ◌<ℤ◌, ◌≤ℤ◌, []};
+ghost use Rattle.std.specs.Prelude.{◌≡◌, ◌<◌, ℕ, ℤ, pos, ◌+ℤ◌, ◌<ℤ◌, ◌≤ℤ◌, [], IfOk, IsTrue};
+ghost use Rattle.std.specs.Prelude.{◌≤◌, false, length, List as list_of};
+ghost use Rattle.std.specs.List.{HoldsAt};
 ghost use Rattle.free_windows.specs.Free.{Holds};
 ghost use Rattle.rail_types.specs.Limits.{IsNear};
 ghost use Rattle.free_windows.specs.Starts.{IsNearWindow, IsStretch};
-ghost use Rattle.label_search.specs.Labels.{IsUnseen, one_tick as tick_claim};
+ghost use Rattle.label_search.specs.Longer.{IsLonger};
+ghost use Rattle.label_search.specs.declared.labels.Label.{Label as label_type};
+ghost use Rattle.label_search.specs.Labels.{AreCovered, IsUnseen, one_tick as tick_claim};
 
 use crate::stretches::{Stretch, first_ending_after, stretch_of};
 use no_memory::NoMemory;
@@ -59,9 +63,95 @@ impl Seen {
     {
         let span = span_of(ticks);
         let at = first_ending_after(self.spans.as_slice(), &span);
+        if lengthens(&mut self.spans, at, &span) {
+            return Ok(());
+        }
         self.spans.insert(at, span)?;
         Ok(())
     }
+}
+
+/// The ticks of a place at which the train arrives there, and those from which it can go on.
+#[derive(Drop)]
+pub(crate) struct SeenPlace {
+    pub(crate) place: u32,
+    pub(crate) arrived: Seen,
+    pub(crate) ready: Seen,
+}
+
+impl SeenPlace {
+    // A place none of whose ticks is there.
+    fn new(alloc: Global, place: u32) -> SeenPlace
+        ensures place { result.place ≡ place }
+        ensures arrived { result.arrived ≡ [] }
+        ensures ready { result.ready ≡ [] }
+    {
+        SeenPlace {
+            place,
+            arrived: Seen::new(alloc),
+            ready: Seen::new(alloc),
+        }
+    }
+}
+
+// Where a place stands among those that are seen; it is added where it is not there. Its hint says
+// where to look, and may be wrong, so that one number is all that a place needs until it is seen.
+pub(crate) fn place_in(
+    alloc: Global,
+    seen: &mut Vec<SeenPlace>,
+    hints: &mut Vec<u32>,
+    place: u32,
+) -> Result<usize, NoMemory>
+    requires { place < length hints.old.items }
+    ensures hints { length hints.new.items ≡ length hints.old.items }
+    ensures within { IfOk result (λ at. at < length seen.new.items) }
+    ensures place { IfOk result (HoldsAt (λ one. one.place ≡ place) seen.new.items) }
+    ensures covered { (labels : list_of label_type) → AreCovered labels seen.old.items
+        → AreCovered labels seen.new.items }
+{
+    let hint = hints[place as usize] as usize;
+    if is_there(seen.as_slice(), hint, place) {
+        return Ok(hint);
+    }
+    let number = seen.len();
+    seen.push(SeenPlace::new(alloc, place))?;
+    hints[place as usize] = hint_of(number);
+    Ok(number)
+}
+
+// Whether the place stands under that number.
+fn is_there(seen: &[SeenPlace], number: usize, place: u32) -> bool
+    ensures within { IsTrue result → number < length seen.now }
+    ensures place { IsTrue result → HoldsAt (λ one. one.place ≡ place) seen.now number }
+{
+    let Some(one) = seen.get(number) else {
+        return false;
+    };
+    one.place == place
+}
+
+fn hint_of(number: usize) -> u32 {
+    u32::try_from(number).unwrap_or(0)
+}
+
+// Makes the span before the number as long as to the end of another that begins as it ends.
+fn lengthens(spans: &mut Vec<Span>, at: usize, span: &Span) -> bool
+    requires { at ≤ length spans.old.items }
+    ensures same { result ≡ false → spans.new.items ≡ spans.old.items }
+    ensures longer { IsTrue result → IsLonger spans.old.items at span.now spans.new.items }
+{
+    if at == 0 {
+        return false;
+    }
+    let one = spans[at - 1];
+    if one.to != span.from {
+        return false;
+    }
+    spans[at - 1] = Span {
+        from: one.from,
+        to: span.to,
+    };
+    true
 }
 
 fn span_of(ticks: &Window) -> Span

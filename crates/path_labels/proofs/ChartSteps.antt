@@ -1,14 +1,13 @@
 -- The moves that ways are in the plan over a chart, and the runs of a path along it.
-use Rattle.std.proofs.Common.{◌≡◌, ◌∙◌, sym, ap, refl, subst, arith, ℕ, zero, suc, ◌+◌, ◌*◌, ◌<◌, pos, ◌+ℤ◌, ◌≤ℤ◌, Bool, true, false, List, [], ◌∷◌, ◌++◌, length, map, get_or, replicate}
+use Rattle.std.proofs.Common.{◌≡◌, ◌∙◌, sym, ap, refl, subst, arith, ℕ, zero, suc, ◌+◌, ◌*◌, ◌<◌, pos, ◌+ℤ◌, ◌≤ℤ◌, Bool, true, false, List, [], ◌∷◌, ◌++◌, length, map, get_or}
 use Rattle.std.proofs.lemmas.Int.{ints}
-use Rattle.std.proofs.lemmas.List.{length-map, length-replicate, get_or-map}
+use Rattle.std.proofs.lemmas.List.{length-map, get_or-map}
 use Rattle.std.proofs.lemmas.List.FromFn.{get_or-map-range_with_len, length-map-range_with_len}
 use Rattle.rail_types.specs.declared.tracks.Network.{Network}
 use Rattle.rail_types.specs.declared.trains.Request.{Request}
 use Rattle.rail_types.specs.declared.entries.Settings.{Settings}
 use Rattle.rail_types.specs.declared.paths.Run.{Run}
 use Rattle.rail_types.specs.Limits.{IsRequestWithinLimits}
-use Rattle.occupation_book.specs.Zones.{Zone}
 use Rattle.running_time.specs.declared.edges.Edge.TheVariants.{Still as Halted}
 use Rattle.blocking_time.specs.Runs.{exit_of}
 use Rattle.stair_pieces.specs.Places.{stands_after}
@@ -24,12 +23,11 @@ use Rattle.label_search.specs.declared.plans.Step.{Step}
 use Rattle.label_search.specs.declared.plans.Target.{Target}
 use Rattle.label_search.specs.declared.plans.Target.TheVariants.{Place as To, End}
 use Rattle.label_search.specs.declared.plans.TheConstants.{LATEST}
-use Rattle.label_search.specs.Charts.{count_over, made_over, move_among, move_of_way, moves_over, open_ways, place_over, plan_over, way_over, ways_over}
+use Rattle.label_search.specs.Charts.{count_over, made_over, move_among, move_of_way, moves_over, open_ways, place_over, way_over, ways_over}
 use Rattle.label_search.specs.Free.{Book}
 use Rattle.label_search.specs.Paths.{IsMove, leave_of, move_at, place_at, target_of}
 use Rattle.label_search.specs.Plans.{IsPlan}
 use Rattle.path_labels.specs.declared.chart_courses.ChartCourse.{ChartCourse}
-use Rattle.path_labels.specs.declared.train_charts.TrainChart.{TrainChart}
 use Rattle.path_labels.specs.ChartCourses.{ChartsArePlanned, IsChartCourse, IsPlannedAlong, listed_along, listed_move, moves_along, plan_along}
 use Rattle.path_labels.specs.Joining.{move_of, run_of}
 use Rattle.path_labels.specs.Searched.{IsPlannedOver}
@@ -47,14 +45,6 @@ module _ (law : ChartsArePlanned) (net : Network) (settings : Settings) (request
 
   pub lent_in : (plan : Plan) (book : Book) → plan ≡ plan_along settings course → length book ≡ net.zones → IsPlan plan book
   lent_in plan book lent zones = subst (λ (p : Plan). IsPlan p book) (sym lent) (planned_along.searched book zones)
-
--- such a plan may be searched beside a book without claims
-pub lent_somewhere : (net : Network) (settings : Settings) (request : Request) (chart : TrainChart) (starts : List ChartWay) (calls : List ChartCall) (plan : Plan)
-    → IsPlannedAlong net settings request chart starts calls → plan ≡ plan_over chart.chart.spots starts calls (pos settings.horizon)
-    → (book : Book) × IsPlan plan book
-lent_somewhere net settings request chart starts calls plan planned lent =
-    let zone : Zone = record { claims = []; spare = 0 } in
-    (replicate net.zones zone, subst (λ (p : Plan). IsPlan p (replicate net.zones zone)) (sym lent) (planned.searched (replicate net.zones zone) (length-replicate net.zones zone)))
 
 -- ---- the ways of a course by the numbers of its places
 

@@ -1,5 +1,5 @@
 -- How near a train is to its calls, as it is kept with its chart.
-use Rattle.std.proofs.Common.{◌≡◌, ◌∙◌, refl, inl, inr, sym, ap, subst, arith, ℕ, ◌+◌, ◌-◌, ◌<◌, ◌≤◌, List, [], ◌∷◌, ◌++◌, length, map, get_or, drop, All, append-nil, append_assoc, length-append}
+use Rattle.std.proofs.Common.{◌≡◌, ◌∙◌, Bor, refl, inl, inr, sym, ap, subst, arith, ℕ, ◌+◌, ◌-◌, ◌<◌, ◌≤◌, List, [], ◌∷◌, ◌++◌, length, map, get_or, drop, All, append-nil, append_assoc, length-append}
 use Rattle.std.proofs.lemmas.Bool.{cases_lt}
 use Rattle.std.proofs.lemmas.List.{get_or_append_left, get_or_default, get_or_push, length-map, get_or-map}
 use Rattle.label_search.specs.declared.charts.ChartCall.{ChartCall}
@@ -95,6 +95,12 @@ pub numbers_within : (kept : List KeptNear) (calls : List ChartCall) (numbers : 
 numbers_within kept calls numbers at k d within =
     subst (λ number. number < length kept) (get_or_default numbers k 0 d within)
     (at.each k (let same = at.count in omega (arith, same, within))).within
+
+-- what was read at numbers that were read
+pub nears_read : (kept : List KeptNear) (numbers all : List ℕ) (nears found : List (Bor Near)) → numbers ≡ all → map (λ near. near.now) found ≡ map (near_kept kept) numbers → nears ≡ found
+    → map (λ near. near.now) nears ≡ map (near_kept kept) all
+nears_read kept numbers all nears found same is read =
+    ap (λ (list : List (Bor Near)). map (λ near. near.now) list) read ∙ (is ∙ ap (λ (list : List ℕ). map (near_kept kept) list) same)
 
 pub near_calls : (spots : List ChartSpot) (kept : List KeptNear) (calls : List ChartCall) (numbers : List ℕ) (nears : List Near) → nears ≡ map (near_kept kept) numbers
     → All (IsNearKept spots) kept → AreNearAt kept calls numbers → AreNears spots calls nears

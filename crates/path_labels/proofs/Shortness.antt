@@ -69,8 +69,8 @@ dwells_short net request calls asked are k one within =
 pub stays_chart : (net : Network) (settings : Settings) (train : Train) (before after : TrainChart) → after.train ≡ before.train → after.spots ≡ before.spots → after.chart ≡ before.chart
     → All (IsNearKept before.chart.spots) after.nears → IsChartOf net settings train before → IsChartOf net settings train after
 stays_chart net settings train before after train_same spots_same chart_same near is =
-    let same : after ≡ record { train = before.train; spots = before.spots; chart = before.chart; nears = after.nears } =
-    λ j. record { train = train_same j; spots = spots_same j; chart = chart_same j; nears = after.nears } in
+    let same : after ≡ record { train = before.train; spots = before.spots; chart = before.chart; roads = after.roads; nears = after.nears } =
+    λ j. record { train = train_same j; spots = spots_same j; chart = chart_same j; roads = after.roads; nears = after.nears } in
     subst (IsChartOf net settings train) (sym same) (record {
       train_is = is.train_is;
       flawless = is.flawless;

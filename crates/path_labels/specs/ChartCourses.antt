@@ -26,10 +26,11 @@ use Rattle.label_search.specs.declared.charts.ChartWay.{ChartWay}
 use Rattle.label_search.specs.declared.plans.Plan.{Plan}
 use Rattle.label_search.specs.Charts.{HasNumbers, LeadOnChart, call_at, ends_path, is_called}
 use Rattle.label_search.specs.Charts.{made_behind, open_ways, plan_over, spot_at}
-use Rattle.label_search.specs.Limits.{IsAhead, IsConsistent}
+use Rattle.label_search.specs.Nearing.{AreRests}
 use Rattle.label_search.specs.Plans.{IsPlan}
 use Rattle.path_labels.specs.declared.chart_courses.ChartCourse.{ChartCourse}
 use Rattle.path_labels.specs.declared.train_charts.TrainChart.{TrainChart}
+use Rattle.path_labels.specs.KeptNears.{AreNearAt, near_kept}
 use Rattle.path_labels.specs.Plans.{dwell_at}
 use Rattle.path_labels.specs.Searched.{AreCut, IsPlannedOver}
 use Rattle.path_labels.specs.TrainCharts.{IsChartOf, way_in}
@@ -78,13 +79,14 @@ abbrev pub plan_along : Settings → ChartCourse → Plan
 plan_along settings course =
     plan_over course.chart.chart.spots course.starts course.calls (pos settings.horizon)
 
--- The course of a request over the chart of its train; with ticks that no train falls short of from
--- each place to an end.
+-- The course of a request over the chart of its train; with the numbers at which the chart keeps how
+-- near the train is to each call, and what is left behind each by that.
 pub record IsChartCourse (net : Network) (settings : Settings) (request : Request)
     (course : ChartCourse) : Type 0 where
   pub over : IsOverChart net settings request course.chart course.starts course.calls
-  pub ahead : All IsAhead course.ahead
-  pub consistent : IsConsistent (plan_along settings course) course.ahead
+  pub kept : AreNearAt course.chart.nears course.calls course.numbers.items
+  pub left : AreRests course.chart.chart.spots course.calls
+      (map (near_kept course.chart.nears) course.numbers.items) course.rests
 
 -- a request that has such a course has no more places than are searched
 abbrev pub ChartCoursesAreNarrow : Type 0

@@ -1,6 +1,6 @@
 //! The course of a request over the chart of its train, and the search that has it.
 
-ghost use Rattle.std.specs.Prelude.{◌≡◌, ◌≤◌, ◌+ℤ◌, ◌≤ℤ◌, All, IfOk, OnOk, length, pos};
+ghost use Rattle.std.specs.Prelude.{◌≡◌, ◌≤◌, ◌+ℤ◌, ◌≤ℤ◌, All, IfOk, OnOk, length, map, pos};
 ghost use Rattle.rail_types.specs.declared.limits.TheConstants.{MAX_STOPS};
 ghost use Rattle.rail_types.specs.Limits.{IsRequestWithinLimits};
 ghost use Rattle.running_time.specs.declared.edges.Edge.TheVariants.{Rolling};
@@ -10,8 +10,7 @@ ghost use Rattle.tail_states.specs.Spots.{AreFewEnough, IsStride};
 ghost use Rattle.label_search.specs.declared.plans.Target.TheVariants.{Place as To};
 ghost use Rattle.label_search.specs.declared.plans.TheConstants.{LATEST};
 ghost use Rattle.label_search.specs.Charts.{HasNumbers, LeadOnChart};
-ghost use Rattle.label_search.specs.Limits.{IsAhead};
-ghost use Rattle.label_search.specs.Nearing.{HaveShortDwells, IsConsistentOver};
+ghost use Rattle.label_search.specs.Nearing.{AreRests, HaveShortDwells};
 ghost use Rattle.path_labels.specs.Answers.{IsFinding, claims_held};
 ghost use Rattle.path_labels.specs.ChartCourses.{
   AddsStart,
@@ -24,7 +23,7 @@ ghost use Rattle.path_labels.specs.ChartCourses.{
   plan_along,
 };
 ghost use Rattle.path_labels.specs.Joining.{AreSteps, path_in};
-ghost use Rattle.path_labels.specs.KeptNears.{AreNearAt, GoOn, IsNearKept};
+ghost use Rattle.path_labels.specs.KeptNears.{AreNearAt, GoOn, IsNearKept, near_kept};
 ghost use Rattle.path_labels.specs.TrainCharts.{IsChartOf};
 
 use crate::laws::{charts_are_planned, granted_paths_are_planned, planned_paths_are_granted};
@@ -32,8 +31,8 @@ use crate::plan_searches::{claims_have_ticks, trip};
 use crate::request_plans::dwell_after;
 use crate::train_charts::{TrainChart, charted_way};
 use label_search::{
-    Ahead, ChartCall, ChartWay, Finding, LentPlan, Step as PlannedStep, Target, aheads, find_lent,
-    way_on_chart,
+    Ahead, Aheads, ChartCall, ChartWay, Finding, LentPlan, Step as PlannedStep, Target, find_lent,
+    rests_of, way_on_chart,
 };
 use no_memory::NoMemory;
 use occupation_book::Occupations;
@@ -44,13 +43,15 @@ use std::alloc::Global;
 use tail_states::{Followers, sound_networks_are_run, stop_ahead};
 
 /// What a search needs of a request, whatever its windows: the chart of its train, the ways of its
-/// start, what is asked at each count of stops made, and the ticks ahead of each place.
+/// start, what is asked at each count of stops made, where the chart keeps how near the train is to
+/// each of these calls, and what is left behind each.
 #[derive(Drop)]
 pub struct ChartCourse {
     pub(crate) chart: TrainChart,
     pub(crate) starts: List<ChartWay>,
     pub(crate) calls: List<ChartCall>,
-    pub(crate) ahead: List<Ahead>,
+    pub(crate) numbers: Vec<usize>,
+    pub(crate) rests: List<Ahead>,
 }
 
 impl ChartCourse {
@@ -73,19 +74,20 @@ impl ChartCourse {
         ensures nears { IfOk result (λ course.
             GoOn chart.nears (length course.calls) course.chart.nears) }
     {
-        charts_are_planned();
         let mut chart = chart;
         let ways = ways_over(alloc, net, settings, followers, request, &mut chart)?;
         let Ways {
             starts,
             calls,
-            ahead,
+            numbers,
+            rests,
         } = ways;
         Ok(ChartCourse {
             chart,
             starts,
             calls,
-            ahead,
+            numbers,
+            rests,
         })
     }
 
@@ -116,7 +118,8 @@ impl ChartCourse {
 struct Ways {
     starts: List<ChartWay>,
     calls: List<ChartCall>,
-    ahead: List<Ahead>,
+    numbers: Vec<usize>,
+    rests: List<Ahead>,
 }
 
 // What the course of a request has beside the chart of its train; the chart keeps how near the
@@ -141,25 +144,27 @@ fn ways_over(
     ensures calls { IfOk result (λ ways. AreCalls net.now request.now ways.calls) }
     ensures starts { IfOk result (λ ways.
         AreStarts net.now settings.now request.now chart.new.spots.spots ways.starts) }
-    ensures ahead { IfOk result (λ ways. All IsAhead ways.ahead) }
-    ensures consistent { IfOk result (λ ways.
-        IsConsistentOver chart.new.chart.spots ways.calls ways.ahead) }
+    ensures numbers { IfOk result (λ ways.
+        AreNearAt chart.new.nears ways.calls ways.numbers.items) }
+    ensures rests { IfOk result (λ ways. AreRests chart.new.chart.spots ways.calls
+        (map (near_kept chart.new.nears) ways.numbers.items) ways.rests) }
 {
     let calls = calls_of(alloc, net, followers, request)?;
     let numbers = chart.numbers_of_calls(alloc, calls.as_slice())?;
-    let begun = starts_with_ahead(
+    let begun = starts_with_rests(
         alloc, net, settings, followers, request, chart, &calls, &numbers,
     )?;
-    let (starts, ahead) = begun;
+    let (starts, rests) = begun;
     Ok(Ways {
         starts,
         calls,
-        ahead,
+        numbers,
+        rests,
     })
 }
 
-// The ways with which a path of the request begins, and the ticks ahead of each place.
-fn starts_with_ahead(
+// The ways with which a path of the request begins, and what is left behind each call.
+fn starts_with_rests(
     alloc: Global,
     net: &Network,
     settings: &Settings,
@@ -176,17 +181,16 @@ fn starts_with_ahead(
     requires numbers { AreNearAt chart.now.nears calls.now numbers.now }
     ensures starts { IfOk result (λ begun.
         AreStarts net.now settings.now request.now chart.now.spots.spots begun.0) }
-    ensures ahead { IfOk result (λ begun. All IsAhead begun.1) }
-    ensures consistent { IfOk result (λ begun.
-        IsConsistentOver chart.now.chart.spots calls.now begun.1) }
+    ensures rests { IfOk result (λ begun. AreRests chart.now.chart.spots calls.now
+        (map (near_kept chart.now.nears) numbers.now) begun.1) }
 {
     let starts = starts_of(alloc, net, settings, followers, request, chart)?;
-    let ahead = aheads_by_calls(alloc, chart, calls, numbers)?;
-    Ok((starts, ahead))
+    let rests = rests_by_calls(alloc, chart, calls, numbers)?;
+    Ok((starts, rests))
 }
 
-// The ticks ahead of each place of a plan over a chart, by how near the train is to its calls.
-fn aheads_by_calls(
+// What is left behind each call of a plan over a chart, by how near the train is to them.
+fn rests_by_calls(
     alloc: Global,
     chart: &TrainChart,
     calls: &List<ChartCall>,
@@ -195,12 +199,12 @@ fn aheads_by_calls(
     requires dwells { HaveShortDwells calls.now }
     requires kept { All (IsNearKept chart.now.chart.spots) chart.now.nears }
     requires numbers { AreNearAt chart.now.nears calls.now numbers.now }
-    ensures ahead { IfOk result (All IsAhead) }
-    ensures consistent { IfOk result (IsConsistentOver chart.now.chart.spots calls.now) }
+    ensures { IfOk result (AreRests chart.now.chart.spots calls.now
+        (map (near_kept chart.now.nears) numbers.now)) }
 {
     let nears = chart.nears.nears_at(alloc, numbers)?;
-    let ahead = aheads(alloc, &chart.chart, calls, nears.as_slice())?;
-    Ok(ahead)
+    let rests = rests_of(alloc, &chart.chart, calls, nears.as_slice())?;
+    Ok(rests)
 }
 
 // The ways with which a path of the request begins.
@@ -343,8 +347,15 @@ pub fn find_over(
     granted_paths_are_planned();
     charts_are_planned();
     claims_have_ticks(book);
+    let nears = course.chart.nears.nears_at(alloc, &course.numbers)?;
+    let ahead = Aheads::summed(
+        &course.chart.chart,
+        &course.calls,
+        nears.as_slice(),
+        &course.rests,
+    );
     let plan = course.plan(settings);
-    match find_lent(alloc, &plan, book, &trip(request), &course.ahead)? {
+    match find_lent(alloc, &plan, book, &trip(request), &ahead)? {
         Finding::Found(steps) => {
             let path = told_over(alloc, settings, request, course, &plan, &steps)?;
             Ok(Some(path))

@@ -13,7 +13,7 @@ ghost use Rattle.path_labels.specs.KeptNears.{
   near_kept,
 };
 
-use label_search::{Chart, ChartCall, Near, near_to};
+use label_search::{Chart, ChartCall, Near, Roads, near_to};
 use no_memory::NoMemory;
 use rail_types::List;
 use std::alloc::Global;
@@ -66,6 +66,7 @@ impl Nears {
         &mut self,
         alloc: Global,
         chart: &Chart,
+        roads: &Roads,
         calls: &[ChartCall],
     ) -> Result<Vec<usize>, NoMemory>
         requires runs { HaveShortRuns chart.now.spots }
@@ -79,7 +80,7 @@ impl Nears {
             return Ok(numbers);
         }
         make_room(&mut self.kept, calls.len());
-        let numbers = numbers_of(alloc, &mut self.kept, chart, calls)?;
+        let numbers = numbers_of(alloc, &mut self.kept, chart, roads, calls)?;
         Ok(numbers)
     }
 
@@ -134,6 +135,7 @@ fn numbers_of(
     alloc: Global,
     kept: &mut Vec<KeptNear>,
     chart: &Chart,
+    roads: &Roads,
     calls: &[ChartCall],
 ) -> Result<Vec<usize>, NoMemory>
     requires runs { HaveShortRuns chart.now.spots }
@@ -146,7 +148,7 @@ fn numbers_of(
 {
     let mut numbers = Vec::with_capacity(alloc, calls.len())?;
     for call in calls {
-        numbers.push(number_of(alloc, kept, chart, &call.blocks)?)?;
+        numbers.push(number_of(alloc, kept, chart, roads, &call.blocks)?)?;
     }
     Ok(numbers)
 }
@@ -157,6 +159,7 @@ fn number_of(
     alloc: Global,
     kept: &mut Vec<KeptNear>,
     chart: &Chart,
+    roads: &Roads,
     blocks: &List<u32>,
 ) -> Result<usize, NoMemory>
     requires runs { HaveShortRuns chart.now.spots }
@@ -168,7 +171,7 @@ fn number_of(
     if let Some(at) = first_near(kept.as_slice(), blocks.as_slice()) {
         return Ok(at);
     }
-    let near = near_to(alloc, chart, blocks.as_slice())?;
+    let near = near_to(alloc, chart, roads, blocks.as_slice())?;
     let one = KeptNear {
         blocks: blocks.copy(alloc)?,
         near,

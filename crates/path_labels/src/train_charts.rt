@@ -19,7 +19,7 @@ ghost use Rattle.path_labels.specs.TrainCharts.{spot_in, way_in};
 use crate::kept_nears::Nears;
 use crate::paths::is_still;
 use crate::request_plans::{push_kept, ticks_of};
-use label_search::{Chart, ChartCall, ChartSpot, ChartWay};
+use label_search::{Chart, ChartCall, ChartSpot, ChartWay, Roads};
 use no_memory::NoMemory;
 use rail_types::{Claim, List, Network, Request, Settings, Span, Train};
 use stair_pieces::{Place, pieces, standing};
@@ -33,6 +33,7 @@ pub struct TrainChart {
     pub(crate) train: Train,
     pub(crate) spots: Spots,
     pub(crate) chart: Chart,
+    pub(crate) roads: Roads,
     pub(crate) nears: Nears,
 }
 
@@ -54,10 +55,12 @@ impl TrainChart {
         sound_networks_are_run();
         let spots = list_spots(alloc, net, followers, train)?;
         let chart = chart_of(alloc, net, settings, train, &spots)?;
+        let roads = Roads::of(alloc, &chart)?;
         Ok(TrainChart {
             train: train.copy(alloc)?,
             spots,
             chart,
+            roads,
             nears: Nears::new(alloc),
         })
     }
@@ -94,7 +97,9 @@ impl TrainChart {
         ensures numbers { IfOk result (λ numbers.
             AreNearAt self.new.nears calls.now numbers.items) }
     {
-        let numbers = self.nears.numbers_of_calls(alloc, &self.chart, calls)?;
+        let numbers = self
+            .nears
+            .numbers_of_calls(alloc, &self.chart, &self.roads, calls)?;
         Ok(numbers)
     }
 }

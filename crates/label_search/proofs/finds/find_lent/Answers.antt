@@ -5,5 +5,5 @@ use Rattle.label_search.proofs.finds.find_lent.Goals as goal
 
 pub returns-in_default : goal.returns-in_default
 returns-in_default c =
-    let from = subst (IsFoundBelow c.args.plan.now c.args.trip.now c.args.book.now c.in_ok-limits.limits.below) c.in_default.is c.in_ok-found.ensures in
-    none_past c.args.plan.now c.args.trip.now c.args.book.now c.in_ok-limits.limits.below from c.in_ok-limits.ensures.past
+    let from = subst (IsFoundBelow c.args.plan.now c.args.trip.now c.args.book.now c.limits_behind-limits.result.below) c.in_default.is c.in_ok-found.ensures in
+    none_past c.args.plan.now c.args.trip.now c.args.book.now c.limits_behind-limits.result.below from c.limits_behind-limits.ensures.past

@@ -58,13 +58,14 @@ returns-then-free-part-2-clause-done c =
     let ends = c.if-free-part-2.true in
     last_waits c.args.plan.now c.args.book.now c.args.part.now c.place_at-place.result c.place_at-place.ensures c.waits.result.now c.waits.ensures c.until_the_horizon-rest.result c.requires.part.ticks.0 c.until_the_horizon-rest.ensures.from c.until_the_horizon-rest.ensures.to dwell.0 c.leave_later.new.queue c.args.label c.in-Some.free c.in-Some.ensures.found c.ready_ticks.result c.ready_ticks.ensures.from c.ready_ticks.ensures.to c.args.search.now c.wait.new.search c.wait.ensures.further c.in_ok-wait.ensures.reached (omega (arith, ints))
 
-pub returns-then-due-search-clause-advanced : goal.returns-then-due-search-clause-advanced
-returns-then-due-search-clause-advanced c = advanced_later c.args.plan.now c.args.search.now c.wait.new.search c.args.queue.now c.leave_later.new.queue c.len-known.result c.wait.ensures.further c.len-known.ensures c.leave_later.ensures.kept c.in_ok-leave_later.ensures.left
+pub returns-then-due-below-clause-advanced : goal.returns-then-due-below-clause-advanced
+returns-then-due-below-clause-advanced c = advanced_later c.args.plan.now c.args.search.now c.wait.new.search c.args.queue.now c.leave_later.new.queue c.len-known.result c.wait.ensures.further c.len-known.ensures c.leave_later.ensures.kept c.in_ok-leave_later.ensures.left
 
-pub returns-then-due-search-clause-done : goal.returns-then-due-search-clause-done
-returns-then-due-search-clause-done c =
+pub returns-then-due-below-clause-done : goal.returns-then-due-below-clause-done
+returns-then-due-below-clause-done c =
     let dwell = (c.requires.plan.places c.args.part.now.place _ c.requires.part.place).dwell in
-    let far = c.if-due-search.true in
+    let far = c.if-due-below.true in
+    let limit = c.below-below.ensures in
     let tick = c.waits_behind-due.ensures.tick in
     far_waits c.args.plan.now c.args.book.now c.args.part.now c.place_at-place.result c.place_at-place.ensures c.waits.result.now c.waits.ensures c.until_the_horizon-rest.result c.requires.part.ticks.0 c.until_the_horizon-rest.ensures.from c.until_the_horizon-rest.ensures.to dwell.0 c.leave_later.new.queue c.args.label c.in-Some.free c.in-Some.ensures.found c.ready_ticks.result c.ready_ticks.ensures.from c.ready_ticks.ensures.to c.args.search.now c.wait.new.search c.wait.ensures.further c.in_ok-wait.ensures.reached c.ahead_at-ahead.result c.ahead_at-ahead.ensures.value (omega (arith, ints))
 

@@ -1,24 +1,20 @@
-use Rattle.std.proofs.Common.{◌<◌, length, sym, subst}
-use Rattle.label_search.specs.Labels.{IsPartOf}
-use Rattle.label_search.proofs.Covers.{covered_ready, covered_arrived, covered_with_ready, covered_with_arrived}
+use Rattle.std.proofs.Common.{sym, subst, ap, ◌∙◌}
+use Rattle.label_search.specs.declared.seen.SeenPlace.{SeenPlace}
+use Rattle.label_search.specs.Labels.{IsCoveredAt, IsGrown, IsPartOf}
+use Rattle.label_search.proofs.Covers.{all_covered_with, grown_none}
 use Rattle.label_search.proofs.labels.Labels.add.Goals as goal
 
-pub extend-requires-clause-covered : goal.extend-requires-clause-covered
-extend-requires-clause-covered c =
-    let within : c.args.wanted.now.place < length c.self.inside.arrived.items = subst (λ known. c.args.wanted.now.place < known.places) (sym c.self.view_is) c.requires.place in
-    covered_ready _ _ _ c.self.invariant _ within _ _ _ c.if-wanted.true c.index_mut-seen.ensures.value
-
 pub invariant_of-self : goal.invariant_of-self
-invariant_of-self c =
-    let within : c.args.wanted.now.place < length c.self.inside.arrived.items = subst (λ known. c.args.wanted.now.place < known.places) (sym c.self.view_is) c.requires.place in
-    covered_with_ready _ _ _ c.self.invariant _ within _ (IsPartOf c.args.wanted.now) _ c.extend.ensures.grown _ c.extend.ensures.covered c.if-wanted.true
+invariant_of-self c = c.place_in.ensures.covered c.self.inside.labels.items c.self.invariant
 
-pub extend-requires-else-wanted-clause-covered : goal.extend-requires-else-wanted-clause-covered
-extend-requires-else-wanted-clause-covered c =
-    let within : c.args.wanted.now.place < length c.self.inside.arrived.items = subst (λ known. c.args.wanted.now.place < known.places) (sym c.self.view_is) c.requires.place in
-    covered_arrived _ _ _ c.self.invariant _ within _ _ _ c.if-wanted.false c.index_mut-seen-else-wanted.ensures.value
+pub returns-in_err-at-clause-grown : goal.returns-in_err-at-clause-grown
+returns-in_err-at-clause-grown c = subst (λ known. IsGrown (IsPartOf c.args.wanted.now) known.labels c.self.inside.labels.items) c.self.view_is (grown_none (IsPartOf c.args.wanted.now) c.self.inside.labels.items)
 
-pub invariant_of-self-else-wanted : goal.invariant_of-self-else-wanted
-invariant_of-self-else-wanted c =
-    let within : c.args.wanted.now.place < length c.self.inside.arrived.items = subst (λ known. c.args.wanted.now.place < known.places) (sym c.self.view_is) c.requires.place in
-    covered_with_arrived _ _ _ c.self.invariant _ within _ (IsPartOf c.args.wanted.now) _ c.extend-else-wanted.ensures.grown _ c.extend-else-wanted.ensures.covered c.if-wanted.false
+pub extend_at-requires-clause-place : goal.extend_at-requires-clause-place
+extend_at-requires-clause-place c = ap (λ (one : SeenPlace). one.place) c.index_mut-seen.ensures.value ∙ c.in_ok-at.ensures.place c.index_mut-seen.result.now
+
+pub extend_at-requires-clause-covered : goal.extend_at-requires-clause-covered
+extend_at-requires-clause-covered c = subst (IsCoveredAt c.self.inside.labels.items) (sym c.index_mut-seen.ensures.value) (c.place_in.ensures.covered c.self.inside.labels.items c.self.invariant c.in_ok-at.at c.index_mut-seen.result.now c.in_ok-at.ensures.within)
+
+pub invariant_of-self-2 : goal.invariant_of-self-2
+invariant_of-self-2 c = all_covered_with (IsPartOf c.args.wanted.now) c.self.inside.labels.items _ _ c.in_ok-at.at _ (c.place_in.ensures.covered c.self.inside.labels.items c.self.invariant) c.extend_at.ensures.grown c.extend_at.ensures.covered
