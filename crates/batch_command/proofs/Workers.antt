@@ -97,7 +97,7 @@ module _ {Btw L : Type 0} (batch : List ℕ) (before : ℕ) (rules : List (Clien
       ∙ sym (map-append named (worker_names batch before) (worker_name batch (suc before) ∷ []))))))
 
 -- a list that was changed as a slice
-slice_back : {X : Type 0} (left rest : List X) (len : ℕ) → length left ≡ length rest → len ≡ length rest → take len (left ++ drop (length left) rest) ≡ left
+pub slice_back : {X : Type 0} (left rest : List X) (len : ℕ) → length left ≡ length rest → len ≡ length rest → take len (left ++ drop (length left) rest) ≡ left
 slice_back {X} left rest len kept whole =
     let none : drop (length left) rest ≡ [] = drop_of_length-le rest (omega (arith, kept)) in
     ap (λ (l : List X). take len (left ++ l)) none ∙ (ap (take len) (append-nil left) ∙ take_all len left (omega (arith, kept, whole)))

@@ -17,6 +17,7 @@ use crate::lists::serve_list;
 use command_files::train::Trains;
 use command_line::client_words::ClientWord;
 use command_reports::Refusal;
+use no_memory::NoMemory;
 use outside_io::Outside;
 use rail_types::named_network::Named;
 use served_clients::admission::Rule;
@@ -52,24 +53,51 @@ pub(crate) fn serve_book<R: AllocGlobal + Threads + Wait + Sync, O: Outside, L: 
     ensures keeps { KeepsTo (pair_calls client.now) (scene O.Outside outside.old)
         (scene O.Outside outside.new) result.1 }
 {
-    let Ok(known) = Known::new(rt.alloc(), named, trains) else {
-        return (book.close(), Err(Refusal::Memory));
-    };
-    let (mut source, mut sink) = match open_streams(rt.alloc(), client, outside) {
-        Ok(streams) => streams,
-        Err(refusal) => return (book.close(), Err(refusal)),
-    };
-    let answering = ListWorkers { client, workers };
-    let (disk, outcome) = serve_list(
-        rt,
-        book,
-        known,
-        &answering,
-        rules,
-        &mut source,
-        &mut sink,
-        outside,
-    );
-    put_back_client(client, source, sink, outside);
-    (disk, outcome)
+    match Known::new(rt.alloc(), named, trains) {
+        Ok(known) => {
+            let answering = ListWorkers { client, workers };
+            serve_known(rt, book, known, &answering, rules, outside)
+        }
+        Err(NoMemory) => (book.close(), Err(Refusal::Memory)),
+    }
+}
+
+// The same over the names that lines may tell.
+fn serve_known<R: AllocGlobal + Threads + Wait + Sync, O: Outside, L: Rule + Send>(
+    rt: &R,
+    book: Book<O::Dsk>,
+    known: Known,
+    answering: &ListWorkers<'_>,
+    rules: Vec<ClientRules<L>>,
+    outside: &mut O,
+) -> (O::Dsk, Result<Ends, Refusal>)
+    requires client { IsBatchClient answering.now.client.now }
+    requires workers { AreWorkers answering.now.workers }
+    requires settled { settled_of book ≡ length book.entries }
+    requires sound { AreSound known }
+    requires network { known.railway.network ≡ book.timetable.net }
+    ensures says { BookSays (run_ghosts O.Src.Source O.Snk.Sink O.Dsk.Disk L.Rule) known
+        (batch_of answering.now.client.now answering.now.workers rules.items) book result.0
+        (scene O.Outside outside.old) (scene O.Outside outside.new) result.1 }
+    ensures keeps { KeepsTo (pair_calls answering.now.client.now) (scene O.Outside outside.old)
+        (scene O.Outside outside.new) result.1 }
+{
+    match open_streams(rt.alloc(), answering.client, outside) {
+        Ok(streams) => {
+            let (mut source, mut sink) = streams;
+            let (disk, outcome) = serve_list(
+                rt,
+                book,
+                known,
+                answering,
+                rules,
+                &mut source,
+                &mut sink,
+                outside,
+            );
+            put_back_client(answering.client, source, sink, outside);
+            (disk, outcome)
+        }
+        Err(refusal) => (book.close(), Err(refusal)),
+    }
 }

@@ -1,11 +1,17 @@
 //! A list that is read, answered over a book, and written.
 
-ghost use Rattle.std.specs.Prelude.{◌≡◌, ◌≤◌, All, IfOk, IfSome, length, option_map};
+ghost use Rattle.std.specs.Prelude.{◌≡◌, ◌≢◌, ◌<◌, ◌≤◌, ℕ, List as list_of, Option as option_of};
+ghost use Rattle.std.specs.Prelude.{All, AllPairs, IfErr, IfOk, IfSome, length, option_map};
+ghost use Rattle.batch_command.specs.Asked.{HasFlaw, IsAsked};
 ghost use Rattle.batch_command.specs.GivenBatches.{batch_of};
-ghost use Rattle.batch_command.specs.Lists.{LinesSay, ListSays, WritesTexts};
+ghost use Rattle.batch_command.specs.Lists.{AreMembers, LinesSay, ListSays, WritesTexts};
 ghost use Rattle.command_line.specs.Workers.{AreWorkers, worker_names as names_of_workers};
 ghost use Rattle.command_line.specs.declared.batch_words.clients.TheConstants.{
   MAX_BATCH_NAME_BYTES,
+};
+ghost use Rattle.command_line.specs.declared.batch_words.clients.TheConstants.{MAX_WORKERS};
+ghost use Rattle.served_clients.specs.admission.declared.client_rules.clients.ClientRules.{
+  ClientRules as rules_type,
 };
 ghost use Rattle.served_clients.specs.lines.Within.{AreSound};
 ghost use Rattle.served_clients.specs.RunGhosts.{run_ghosts};
@@ -18,7 +24,7 @@ ghost use Rattle.rail_types.specs.Limits.{IsClientName};
 ghost use Rattle.batch_command.specs.Owners.{owners_of};
 
 use crate::batch_reports::{ends_of, list_stops};
-use crate::batch_server::{Answered, answer_list};
+use crate::batch_server::{Answered, Member, answer_list};
 use crate::flaws::numbers_asked;
 use crate::list_lines::read_list;
 use crate::list_replies::write_texts;
@@ -67,15 +73,13 @@ pub(crate) fn serve_list<R: AllocGlobal + Threads + Wait + Sync, O: Outside, L: 
         source.old source.new sink.old sink.new result.1 }
     ensures still { IsUnchanged (scene O.Outside outside.old) (scene O.Outside outside.new) }
 {
-    let client = answering.client;
-    let lines = match read_list(rt.alloc(), source) {
-        Ok(lines) => lines,
-        Err(fault) => return (
+    match read_list(rt.alloc(), source) {
+        Ok(lines) => answer_lines(rt, book, known, answering, rules, &lines, sink, outside),
+        Err(fault) => (
             book.close(),
-            Err(list_stops(rt.alloc(), &client.client, fault)),
+            Err(list_stops(rt.alloc(), &answering.client.client, fault)),
         ),
-    };
-    answer_lines(rt, book, known, answering, rules, &lines, sink, outside)
+    }
 }
 
 // Answers the lines of a list that was read.
@@ -107,18 +111,51 @@ fn answer_lines<R: AllocGlobal + Threads + Wait + Sync, O: Outside, L: Rule + Se
     let client = answering.client;
     let batch = &client.client;
     let workers = answering.workers;
-    let asked = numbers_asked(rt.alloc(), &known, batch, workers, book.history(), lines);
-    let numbers = match asked {
-        Ok(numbers) => numbers,
-        Err(refusal) => return (book.close(), Err(refusal)),
-    };
-    let Ok(owners) = owners_by(rt.alloc(), book.history(), batch, workers, &numbers) else {
-        return (book.close(), Err(Refusal::Memory));
-    };
-    let Ok(members) = members_of(rt.alloc(), batch, workers, rules, outside) else {
-        return (book.close(), Err(Refusal::Memory));
-    };
-    match answer_list(rt, rt.alloc(), book, known, members, lines, &owners) {
+    match owners_asked(rt.alloc(), &known, batch, workers, book.history(), lines) {
+        Ok(owners) => match members_of(rt.alloc(), batch, workers, rules, outside) {
+            Ok(members) => {
+                answer_owned::<R, O, L>(rt, book, known, answering, members, lines, &owners, sink)
+            }
+            Err(NoMemory) => (book.close(), Err(Refusal::Memory)),
+        },
+        Err(refusal) => (book.close(), Err(refusal)),
+    }
+}
+
+// Answers the lines of a list without a flaw by members whose they are already, or by others.
+fn answer_owned<R: AllocGlobal + Threads + Wait + Sync, O: Outside, L: Rule + Send>(
+    rt: &R,
+    book: Book<O::Dsk>,
+    known: Known,
+    answering: &ListWorkers<'_>,
+    members: Vec<Member<O::Btw, L>>,
+    lines: &[Name],
+    owners: &[Option<u32>],
+    sink: &mut O::Snk,
+) -> (O::Dsk, Result<Ends, Refusal>)
+    requires some { 1 ≤ length members.items }
+    requires few { length members.items ≤ MAX_WORKERS }
+    requires named { All (λ member. IsClientName member.name) members.items }
+    requires names { AllPairs (λ a b. a.name ≢ b.name) members.items }
+    requires settled { settled_of book ≡ length book.entries }
+    requires sound { AreSound known }
+    requires network { known.railway.network ≡ book.timetable.net }
+    requires count { length lines.now ≤ MAX_LINES }
+    requires texts { All (λ line. length line ≤ MAX_LINE_BYTES) lines.now }
+    requires owners { length owners.now ≡ length lines.now }
+    requires theirs { All (λ owner. IfSome owner (λ worker. worker < length members.items))
+        owners.now }
+    ensures says { (rules : list_of (rules_type L)) (numbers : list_of (option_of ℕ))
+        → AreMembers answering.now.client.now.client answering.now.workers rules members.items
+        → IsAsked known answering.now.client.now.client answering.now.workers book.entries
+        lines.now numbers
+        → owners.now ≡ owners_of book.entries
+        (names_of_workers answering.now.client.now.client answering.now.workers) numbers
+        → LinesSay (run_ghosts O.Src.Source O.Snk.Sink O.Dsk.Disk L.Rule) known
+        (batch_of answering.now.client.now answering.now.workers rules) lines.now book
+        result.0 sink.old sink.new result.1 }
+{
+    match answer_list(rt, rt.alloc(), book, known, members, lines, owners) {
         Ok(answered) => {
             let Answered {
                 book,
@@ -126,10 +163,39 @@ fn answer_lines<R: AllocGlobal + Threads + Wait + Sync, O: Outside, L: Rule + Se
                 texts,
             } = answered;
             let written = write_if_told(texts, sink);
-            let ends = ends_of(rt.alloc(), batch, &written, &workers);
+            let ends = ends_of(rt.alloc(), &answering.client.client, &written, &workers);
             (close_book(book), Ok(ends))
         }
         Err((book, NoMemory)) => (book.close(), Err(Refusal::Memory)),
+    }
+}
+
+// For each line of a list without a flaw the worker whose it is already, by its number.
+fn owners_asked(
+    alloc: Global,
+    known: &Known,
+    batch: &Name,
+    workers: u32,
+    history: &History,
+    lines: &[Name],
+) -> Result<Vec<Option<u32>>, Refusal>
+    requires name { length batch.now ≤ MAX_BATCH_NAME_BYTES }
+    requires workers { AreWorkers workers }
+    requires count { length lines.now ≤ MAX_LINES }
+    requires texts { All (λ line. length line ≤ MAX_LINE_BYTES) lines.now }
+    ensures asked { IfOk result (λ owners. (numbers : list_of (option_of ℕ))
+        × IsAsked known.now batch.now workers history.now.entries lines.now numbers
+        × (owners.items ≡ owners_of history.now.entries (names_of_workers batch.now workers)
+        numbers)) }
+    ensures flaw { IfErr result (HasFlaw known.now batch.now workers
+        history.now.entries lines.now) }
+{
+    match numbers_asked(alloc, known, batch, workers, history, lines) {
+        Ok(numbers) => match owners_by(alloc, history, batch, workers, &numbers) {
+            Ok(owners) => Ok(owners),
+            Err(NoMemory) => Err(Refusal::Memory),
+        },
+        Err(refusal) => Err(refusal),
     }
 }
 

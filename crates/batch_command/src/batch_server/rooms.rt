@@ -1,6 +1,6 @@
 //! Room for what comes of a list, made before its first line is answered.
 
-ghost use Rattle.std.specs.Prelude.{◌≡◌, ◌≤◌, IfOk, length};
+ghost use Rattle.std.specs.Prelude.{◌≡◌, ◌≤◌, [], IfOk, length, replicate, vec_capacity};
 ghost use Rattle.batch_command.specs.Clerks.{free_places};
 ghost use Rattle.batch_command.specs.Rooms.{IsRoomFor};
 ghost use Rattle.served_clients.specs.sessions.declared.sessions.TheConstants.{MAX_LINES};
@@ -38,12 +38,11 @@ pub(crate) fn room_for<'a, D: Disk + Send, B: Between + Send + Drop, L: Rule + S
     requires { length owners.now ≤ MAX_LINES }
     ensures { IfOk result (IsRoomFor workers owners.now) }
 {
-    let todo = free_places(alloc, owners)?;
-    let kept = Vec::with_capacity(alloc, owners.len())?;
-    let worked = Vec::with_capacity(alloc, workers)?;
-    let parts = Vec::with_capacity(alloc, workers)?;
-    let texts = empty_texts(alloc, owners.len())?;
-    let pool = pool_for(alloc, workers, todo.len())?;
+    let of_lines = line_room(alloc, owners)?;
+    let of_workers = worker_room(alloc, workers)?;
+    let pool = pool_for(alloc, workers, of_lines.todo.len())?;
+    let LineRoom { todo, kept, texts } = of_lines;
+    let WorkerRoom { worked, parts } = of_workers;
     Ok(Room {
         todo,
         kept,
@@ -52,6 +51,48 @@ pub(crate) fn room_for<'a, D: Disk + Send, B: Between + Send + Drop, L: Rule + S
         texts,
         pool,
     })
+}
+
+// The places of the lines that are no worker's, and room: for the answers to the others, and for
+// the texts of all replies.
+#[derive(Drop)]
+struct LineRoom {
+    todo: Vec<u32>,
+    kept: Vec<(u32, Reply)>,
+    texts: Vec<List<u8>>,
+}
+
+// Room for the lines of these owners.
+fn line_room(alloc: Global, owners: &[Option<u32>]) -> Result<LineRoom, NoMemory>
+    requires { length owners.now ≤ MAX_LINES }
+    ensures todo { IfOk result (λ room. room.todo.items ≡ free_places owners.now) }
+    ensures kept { IfOk result (λ room. room.kept.items ≡ []) }
+    ensures space { IfOk result (λ room. length owners.now ≤ vec_capacity room.kept) }
+    ensures texts { IfOk result (λ room. room.texts.items ≡ replicate (length owners.now) []) }
+{
+    let todo = free_places(alloc, owners)?;
+    let kept = Vec::with_capacity(alloc, owners.len())?;
+    let texts = empty_texts(alloc, owners.len())?;
+    Ok(LineRoom { todo, kept, texts })
+}
+
+// Room for workers as they are left, and for what each answered of the lines that are no worker's.
+#[derive(Drop)]
+struct WorkerRoom<L: Rule> {
+    worked: Vec<Worked<L>>,
+    parts: Vec<List<(u32, Reply)>>,
+}
+
+// Room for so many workers.
+fn worker_room<L: Rule>(alloc: Global, workers: usize) -> Result<WorkerRoom<L>, NoMemory>
+    ensures worked { IfOk result (λ room. room.worked.items ≡ []) }
+    ensures each { IfOk result (λ room. workers ≤ vec_capacity room.worked) }
+    ensures parts { IfOk result (λ room. room.parts.items ≡ []) }
+    ensures space { IfOk result (λ room. workers ≤ vec_capacity room.parts) }
+{
+    let worked = Vec::with_capacity(alloc, workers)?;
+    let parts = Vec::with_capacity(alloc, workers)?;
+    Ok(WorkerRoom { worked, parts })
 }
 
 // The places of the lines that are no worker's.

@@ -36,20 +36,38 @@ pub fn read_list<S: Source>(alloc: Global, source: &mut S) -> Result<Vec<Name>, 
         return Err(ListFault::Memory);
     };
     let mut lines = Vec::new(alloc);
+    match read_lines(alloc, &mut reader, source, &mut lines) {
+        Ok(()) => Ok(lines),
+        Err(fault) => Err(fault),
+    }
+}
+
+// Reads all lines of a source by a reader that holds nothing, behind no others.
+fn read_lines<S: Source>(
+    alloc: Global,
+    reader: &mut LineReader,
+    source: &mut S,
+    lines: &mut Vec<Name>,
+) -> Result<(), ListFault>
+    requires nothing { reader.old.pending ≡ [] }
+    requires none { lines.old.items ≡ [] }
+    ensures read { OnOk result (IsWhole S.Source source.old source.new lines.new.items) }
+    ensures refused { IfErr result (Refuses S.Source source.old source.new) }
+{
     for _before in 0..MAX_LINES {
         match reader.next_line(source) {
             Step::Line => {
-                let Ok(()) = keep(alloc, reader.line(), &mut lines) else {
+                let Ok(()) = keep(alloc, reader.line(), lines) else {
                     return Err(ListFault::Memory);
                 };
             }
             Step::Last => {
-                let Ok(()) = keep(alloc, reader.line(), &mut lines) else {
+                let Ok(()) = keep(alloc, reader.line(), lines) else {
                     return Err(ListFault::Memory);
                 };
-                return Ok(lines);
+                return Ok(());
             }
-            Step::End => return Ok(lines),
+            Step::End => return Ok(()),
             Step::LongLine => return Err(ListFault::LongLine),
             Step::ReadFault => return Err(ListFault::ReadFault),
             Step::Memory => return Err(ListFault::Memory),
@@ -57,7 +75,7 @@ pub fn read_list<S: Source>(alloc: Global, source: &mut S) -> Result<Vec<Name>, 
     }
     match reader.has_more(source) {
         More::Bytes => Err(ListFault::LineCount),
-        More::Nothing => Ok(lines),
+        More::Nothing => Ok(()),
         More::Failed => Err(ListFault::ReadFault),
     }
 }

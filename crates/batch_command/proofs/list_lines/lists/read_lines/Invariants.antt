@@ -1,5 +1,5 @@
 use Rattle.batch_command.proofs.Gathered.{IsGathered}
-use Rattle.batch_command.proofs.list_lines.lists.read_list.Given as goal
+use Rattle.batch_command.proofs.list_lines.lists.read_lines.Given as goal
 
 abbrev pub invariant-loop-before : goal.invariant-loop-before
 invariant-loop-before g l =
