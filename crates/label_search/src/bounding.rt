@@ -127,7 +127,7 @@ fn distances(alloc: Global, plan: &LentPlan) -> Result<Vec<Ahead>, NoMemory> {
     entries.distances(alloc, entries.moves_into(end))
 }
 
-// Puts the moves of a plan in, once they are counted; the end stands as one place behind the others.
+// Puts the moves of a plan in, once they are counted; the end is one place behind the others.
 fn put_all(entries: &mut Entries, plan: &LentPlan) -> Result<(), NoMemory> {
     let end = plan.count();
     for from in 0..end {

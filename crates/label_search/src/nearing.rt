@@ -170,7 +170,7 @@ fn calls_no_nearer(blocks: &[u32], way: &ChartWay, here: &Ahead) -> bool
     !is_call(blocks, way) || here.ticks <= way.run
 }
 
-// What is ahead at the place of a number over a chart, nothing where it has no such place: the dwell
+// What is ahead at the place of a number over a chart, nothing where there is none: the dwell
 // where the train stands, the way to its next call, and what is left behind that.
 pub(crate) fn sum_of_place(
     chart: &Chart,
