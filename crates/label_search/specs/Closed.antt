@@ -65,6 +65,7 @@ abbrev pub IsLedOver : Plan → List ℕ → ℕ → Type 0
 IsLedOver plan [] place = IsNextTo plan 0 place
 IsLedOver plan (from ∷ before) place = IsLedOver plan before from × IsNextTo plan from place
 
+-- moves of the plan lead to the place from place 0
 abbrev pub IsLedTo : Plan → ℕ → Type 0
 IsLedTo plan place = (over : List ℕ) × IsLedOver plan over place
 

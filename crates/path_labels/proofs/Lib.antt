@@ -21,5 +21,6 @@ pub mod Calling
 pub mod Product
 pub mod Alongside
 pub mod Walking
+pub mod Reached
 pub mod Reaching
 pub use Rattle.running_time.proofs as running_lemmas

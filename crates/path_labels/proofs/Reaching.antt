@@ -19,7 +19,7 @@ use Rattle.tail_states.specs.declared.moves.Next.{Next}
 use Rattle.tail_states.specs.declared.moves.Next.TheVariants.{End, At}
 use Rattle.tail_states.specs.Listed.{AreMovesFrom, AreTheMoves, AreThePlaces, HasMoreThan, HasNoneTwice, IsListedMove, LeadsTo, Listed}
 use Rattle.tail_states.proofs.Numbers.{all_fail, contains_at, get_before, passes_at}
-use Rattle.path_labels.specs.Reached.{all_reached, grown_from, moves_at, next_among, next_over, number_among, reached_of, renumbered, with_led, with_next, with_place}
+use Rattle.path_labels.proofs.Reached.{all_reached, grown_from, moves_at, next_among, next_over, number_among, reached_of, renumbered, with_led, with_next, with_place}
 use Rattle.path_labels.proofs.Narrow.{no_longer}
 use Rattle.path_labels.proofs.Walking.{contains_map}
 

@@ -30,9 +30,9 @@ use Rattle.label_search.specs.Nearing.{AreRests}
 use Rattle.label_search.specs.Plans.{IsPlan}
 use Rattle.path_labels.specs.declared.chart_courses.ChartCourse.{ChartCourse}
 use Rattle.path_labels.specs.declared.train_charts.TrainChart.{TrainChart}
+use Rattle.path_labels.specs.AllPlaces.{HasAllPlaces}
 use Rattle.path_labels.specs.KeptNears.{AreNearAt, near_kept}
 use Rattle.path_labels.specs.Plans.{dwell_at}
-use Rattle.path_labels.specs.Reached.{HasAllPlaces, reached_of}
 use Rattle.path_labels.specs.Searched.{AreCut, IsPlannedOver}
 use Rattle.path_labels.specs.TrainCharts.{IsChartOf, way_in}
 
@@ -157,12 +157,12 @@ ChartsArePlanned =
     → IsOverChart net settings request chart starts calls
     → IsPlannedAlong net settings request chart starts calls
 
--- of these places those that moves lead to are exactly those of the request
+-- the places of a request with a course over the chart of its train can be listed
 abbrev pub ChartCoursesHaveThePlaces : Type 0
 ChartCoursesHaveThePlaces =
     (net : Network) (settings : Settings) (request : Request) (course : ChartCourse)
     → IsRequestWithinLimits request → IsChartCourse net settings request course
-    → HasAllPlaces net settings request (reached_of (listed_along course))
+    → (places : Listed) × HasAllPlaces net settings request places
 
 -- ---- inside: how the ways of the start and the calls are made
 

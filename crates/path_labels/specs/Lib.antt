@@ -1,3 +1,4 @@
+pub mod AllPlaces
 pub mod Answers
 pub mod ChartCourses
 pub mod Courses
@@ -5,7 +6,6 @@ pub mod Guides
 pub mod Joining
 pub mod KeptNears
 pub mod Plans
-pub mod Reached
 pub mod Searched
 pub mod TrainCharts
 pub use Rattle.running_time.specs as running

@@ -32,7 +32,7 @@ pub fn guides_are_narrow()
     chart_courses_are_narrow();
 }
 
-/// The places of a guide are exactly those of its request.
+/// The places of a request with a guide can be listed, no more than are searched.
 pub fn guides_have_the_places()
     ensures { GuidesHaveThePlaces }
 {

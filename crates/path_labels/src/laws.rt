@@ -73,8 +73,8 @@ pub fn chart_courses_are_narrow()
     spots_bound_places();
 }
 
-/// Of the places that such a course stands for, those that moves lead to from the start are the
-/// places of the request.
+/// The places of a request that has such a course can be listed, no more than are searched: they
+/// are those that moves lead to from the start.
 pub fn chart_courses_have_the_places()
     ensures { ChartCoursesHaveThePlaces }
 {

@@ -4,7 +4,7 @@ ghost use Rattle.std.specs.Prelude.{◌≡◌, ◌≤◌, pos, ◌-ℤ◌, ◌�
 ghost use Rattle.rail_types.specs.Limits.{IsRequestWithinLimits};
 ghost use Rattle.refusal_proof.specs.Proofs.{claims_held};
 ghost use Rattle.path_labels.specs.Answers.{before, last_leave};
-ghost use Rattle.path_labels.specs.Guides.{IsGuide, places_of};
+ghost use Rattle.path_labels.specs.Guides.{IsGuide};
 ghost use Rattle.ask_turns.specs.Certified.{IsCertified};
 
 use crate::certificates::laws::certificates_pass;
@@ -69,8 +69,8 @@ pub fn seek_certified(
     requires zones { length book.now ≡ net.now.zones }
     requires request { IsRequestWithinLimits request.now }
     requires guide { IsGuide net.now settings.now request.now guide.now }
-    ensures { IfOk result (IsCertified net.now settings.now (claims_held book.now) request.now
-        (places_of guide.now)) }
+    ensures { IfOk result
+        (IsCertified net.now settings.now (claims_held book.now) request.now) }
 {
     certificates_pass();
     a_path_is_a_list_of_moves();

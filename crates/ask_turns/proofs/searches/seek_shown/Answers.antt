@@ -3,7 +3,7 @@ use Rattle.ask_turns.specs.Certified.{IsCertified}
 use Rattle.rail_types.specs.declared.named_network.Named.{Named}
 use Rattle.path_commit.specs.claims.Zones.{Zone}
 use Rattle.path_labels.specs.Answers.{claims_held}
-use Rattle.path_labels.specs.Guides.{IsGuide, places_of}
+use Rattle.path_labels.specs.Guides.{IsGuide}
 use Rattle.proof_texts.specs.declared.refusals.Proof.{Proof}
 use Rattle.proof_texts.specs.Texts.{proof_text}
 use Rattle.ask_turns.specs.Shown.{IsShown}
@@ -21,9 +21,9 @@ returns-clause-shown c =
     let copy : List Zone = c.args.client.now.copy in let found = c.in_ok-found.found in
     let front : ℕ = c.front-at.result in let text : List ℕ = c.append_proof.new.proof.held in
     let written : Proof = record { at = front; number = ask.number; request = found.excluded; closed = found.closed } in
-    let certified = subst (λ (railway : Named). IsCertified railway.network settings (claims_held copy) ask.request (places_of ask.guide) found)
+    let certified = subst (λ (railway : Named). IsCertified railway.network settings (claims_held copy) ask.request found)
     c.railway-railway.ensures
-    (subst (λ (book : List Zone). IsCertified c.railway-railway.result.now.network settings (claims_held book) ask.request (places_of ask.guide) found)
+    (subst (λ (book : List Zone). IsCertified c.railway-railway.result.now.network settings (claims_held book) ask.request found)
     c.copy.ensures c.in_ok-found.ensures) in
     subst (λ n. IsShown known known.railway.network settings (claims_held copy) n ask found.path text) c.front-at.ensures
     (is_shown c.certificates_can_be_told.ensures known settings (claims_held copy) ask c.requires.may found certified front
