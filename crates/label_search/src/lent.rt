@@ -32,6 +32,7 @@ ghost use Rattle.label_search.specs.Paths.{move_at as move_of, place_at as place
 use crate::chart_loans::{Charted, ChartedWays};
 use crate::charts::{Chart, ChartCall, ChartSpot, ChartWay};
 use crate::plans::{Move, Place, Plan, Target};
+use crate::stays::stay_of;
 use rail_types::{Claim, List, Tick};
 use std::marker::Model;
 
@@ -335,8 +336,8 @@ fn charted_place<'a>(charted: &Charted<'a>, number: usize) -> LentPlace<'a>
     if number == 0 {
         return charted_start(charted);
     }
-    let levels = charted.calls.len();
-    charted_stay(charted, (number - 1) / levels, (number - 1) % levels)
+    let stay = stay_of(number - 1, charted.calls.len());
+    charted_stay(charted, stay.spot, stay.made)
 }
 
 // The place of the start over a chart.

@@ -20,6 +20,7 @@ mod roads;
 mod searches;
 mod seeks;
 mod seen;
+mod stays;
 mod stretches;
 mod sum_loans;
 

@@ -28,6 +28,7 @@ use crate::bounding::are_ahead;
 use crate::charts::{Chart, ChartCall, ChartSpot, ChartWay};
 use crate::limits::{Ahead, ahead_at};
 use crate::roads::Roads;
+use crate::stays::stay_of;
 use no_memory::NoMemory;
 use rail_types::{FAR_TICK, List};
 use std::alloc::Global;
@@ -193,11 +194,11 @@ pub(crate) fn sum_of_place(
     if levels == 0 {
         return Ahead { ticks: 0 };
     }
-    let spot = (place - 1) / levels;
-    if spot >= chart.spots.len() {
+    let stay = stay_of(place - 1, levels);
+    if stay.spot >= chart.spots.len() {
         return Ahead { ticks: 0 };
     }
-    sum_of_stay(chart, calls, nears, rests, spot, (place - 1) % levels)
+    sum_of_stay(chart, calls, nears, rests, stay.spot, stay.made)
 }
 
 // What is ahead at a spot where so many calls are made.
@@ -217,10 +218,14 @@ fn sum_of_stay(
     ensures sum { result.ticks ≡ stay_ahead chart.now.spots calls.now
         (map (λ near. near.now) nears.now) rests.now spot made }
 {
-    let standing = stands_at(chart, spot);
     let call = call_of(calls, made);
     let near = near_of(nears, made);
-    sum_of(standing, call, near, &ahead_at(rests, made), spot)
+    let rest = ahead_at(rests, made);
+    // Where nothing is waited, whether the train stands is not looked at.
+    if call.dwell == 0 {
+        return sum_of(false, call, near, &rest, spot);
+    }
+    sum_of(stands_at(chart, spot), call, near, &rest, spot)
 }
 
 /// What is left behind each call, by how near the train is to each of them.
