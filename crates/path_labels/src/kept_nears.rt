@@ -20,7 +20,7 @@ use std::alloc::Global;
 use std::marker::Model;
 
 /// Greatest number of calls of which it is kept how near a train is to them.
-pub const MAX_NEARS: usize = 64;
+pub const MAX_NEARS: usize = 128;
 
 /// How near a train is to a call at the ends of these blocks.
 #[derive(Drop)]
@@ -30,8 +30,7 @@ pub struct KeptNear {
 }
 
 /// How near a train is to its calls, the one that was worked out last behind the others: at most
-/// `MAX_NEARS`, each with a number of ticks for each spot of the chart. Contracts see the list of
-/// them.
+/// `MAX_NEARS`, each with 4 bytes for each spot of the chart. Contracts see the list of them.
 #[derive(Drop)]
 pub struct Nears {
     kept: Vec<KeptNear>,

@@ -60,7 +60,7 @@ pub fn courses_have_the_places()
 pub fn limits_are_these()
     ensures charts { MAX_CHARTS ≡ 8 }
     ensures spots { MAX_SPOTS ≡ 16384 }
-    ensures nears { MAX_NEARS ≡ 64 }
+    ensures nears { MAX_NEARS ≡ 128 }
     ensures courses { MAX_COURSES ≡ 16 }
     ensures kept_places { MAX_KEPT_PLACES ≡ 32768 }
 {}
