@@ -37,4 +37,4 @@ pub use limits::{Ahead, Limits};
 pub use nearing::{Near, near_to, rests_of};
 pub use plans::{LATEST, Member, Move, Place, Plan, Step, Target, Trip};
 pub use roads::Roads;
-pub use seeks::{Sought, search, seek};
+pub use seeks::{Sought, search, seek, seek_lent};

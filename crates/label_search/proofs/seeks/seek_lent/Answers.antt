@@ -1,5 +1,5 @@
 use Rattle.label_search.proofs.Seeking.{sought_of_searched, unlimited_far}
-use Rattle.label_search.proofs.seeks.seek.Goals as goal
+use Rattle.label_search.proofs.seeks.seek_lent.Goals as goal
 
 pub returns : goal.returns
 returns c =
