@@ -32,6 +32,7 @@ use Rattle.path_labels.specs.declared.chart_courses.ChartCourse.{ChartCourse}
 use Rattle.path_labels.specs.declared.train_charts.TrainChart.{TrainChart}
 use Rattle.path_labels.specs.KeptNears.{AreNearAt, near_kept}
 use Rattle.path_labels.specs.Plans.{dwell_at}
+use Rattle.path_labels.specs.Reached.{HasAllPlaces, reached_of}
 use Rattle.path_labels.specs.Searched.{AreCut, IsPlannedOver}
 use Rattle.path_labels.specs.TrainCharts.{IsChartOf, way_in}
 
@@ -155,6 +156,13 @@ ChartsArePlanned =
     (starts : List ChartWay) (calls : List ChartCall) → IsRequestWithinLimits request
     → IsOverChart net settings request chart starts calls
     → IsPlannedAlong net settings request chart starts calls
+
+-- of these places those that moves lead to are exactly those of the request
+abbrev pub ChartCoursesHaveThePlaces : Type 0
+ChartCoursesHaveThePlaces =
+    (net : Network) (settings : Settings) (request : Request) (course : ChartCourse)
+    → IsRequestWithinLimits request → IsChartCourse net settings request course
+    → HasAllPlaces net settings request (reached_of (listed_along course))
 
 -- ---- inside: how the ways of the start and the calls are made
 

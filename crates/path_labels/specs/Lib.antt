@@ -5,6 +5,7 @@ pub mod Guides
 pub mod Joining
 pub mod KeptNears
 pub mod Plans
+pub mod Reached
 pub mod Searched
 pub mod TrainCharts
 pub use Rattle.running_time.specs as running

@@ -98,8 +98,8 @@ impl ChartCourse {
         self.chart
     }
 
-    // The plan of the course.
-    fn plan<'a>(&'a self, settings: &Settings) -> LentPlan<'a>
+    /// The plan of the course.
+    pub(crate) fn plan<'a>(&'a self, settings: &Settings) -> LentPlan<'a>
         requires leads { LeadOnChart self.now.chart.chart.spots self.now.starts }
         requires numbers { HasNumbers self.now.chart.chart.spots self.now.calls }
         ensures { result ≡ plan_along settings.now self.now }
@@ -381,8 +381,8 @@ fn run_of_way(way: &ChartWay, step: &PlannedStep) -> Run
     }
 }
 
-// The path that the steps of a planned path make.
-fn told_over(
+/// The path that the steps of a planned path make.
+pub(crate) fn told_over(
     alloc: Global,
     settings: &Settings,
     request: &Request,

@@ -2,7 +2,11 @@
 //! that calls other laws alone.
 
 ghost use Rattle.std.specs.Prelude.{◌≡◌};
-ghost use Rattle.path_labels.specs.ChartCourses.{ChartCoursesAreNarrow, ChartsArePlanned};
+ghost use Rattle.path_labels.specs.ChartCourses.{
+  ChartCoursesAreNarrow,
+  ChartCoursesHaveThePlaces,
+  ChartsArePlanned,
+};
 ghost use Rattle.path_labels.specs.Courses.{CoursesHaveThePlaces};
 ghost use Rattle.path_labels.specs.Joining.{
   ClosedPlansAreClosed,
@@ -67,6 +71,15 @@ pub fn chart_courses_are_narrow()
 {
     sound_networks_are_asked();
     spots_bound_places();
+}
+
+/// Of the places that such a course stands for, those that moves lead to from the start are the
+/// places of the request.
+pub fn chart_courses_have_the_places()
+    ensures { ChartCoursesHaveThePlaces }
+{
+    charts_are_planned();
+    chart_courses_are_narrow();
 }
 
 /// What a request asks of the chart of its train is planned: from each of the places exactly the
