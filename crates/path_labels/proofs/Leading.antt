@@ -15,7 +15,7 @@ use Rattle.label_search.specs.declared.plans.Plan.{Plan}
 use Rattle.label_search.specs.declared.plans.Target.TheVariants.{Place as To, End}
 use Rattle.label_search.specs.Closed.{IsLedOver, IsLedTo}
 use Rattle.label_search.specs.Paths.{move_at, place_at}
-use Rattle.path_labels.specs.Joining.{IsBehindTheStart, IsPlannedFrom, move_of, moves_of}
+use Rattle.path_labels.specs.Joining.{IsPlannedFrom, move_of, moves_of}
 use Rattle.path_labels.proofs.Standing.{IsAt, at_start, count_is, leads_on, listed_at}
 
 module _ (net : Network) (settings : Settings) (request : Request) (listed : Listed) (plan : Plan) (all : IsPlannedFrom net settings request listed plan) where
