@@ -106,6 +106,7 @@ pub fn seek_lent(
     requires plan { IsPlan plan.now book.now }
     ensures { IfOk result (IsSought plan.now trip.now book.now) }
 {
-    let sought = search_lent(alloc, plan, book, trip, no_limits(alloc))?;
+    let limits = no_limits(alloc);
+    let sought = search_lent(alloc, plan, book, trip, LentLimits::listed(&limits))?;
     Ok(sought)
 }
