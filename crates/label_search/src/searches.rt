@@ -222,7 +222,9 @@ fn explore_move(
     let step = move_at(plan, front.place, number);
     let mut rest = enters(front, plan, &search.limits, &step);
     while let Some(free) = next_start(step.pieces(), book, &rest) {
-        reach(plan, book, trip, search, front, number, &free)?;
+        reach(
+            plan, book, trip, search, front, number, &step, &free,
+        )?;
         rest = behind(&rest, &free);
     }
     Ok(())
@@ -236,11 +238,13 @@ pub(crate) fn reach(
     search: &mut Search,
     front: &Front,
     number: usize,
+    step: &LentMove,
     free: &Window,
 ) -> Result<(), NoMemory>
     requires plan { IsPlan plan.now book.now }
     requires front { IsFrontOf plan.now search.old front.now }
     requires number { number < length (place_of plan.now front.now.place).moves }
+    requires step { step.now ≡ move_of plan.now front.now.place number }
     requires goes { IsTrue (place_of plan.now front.now.place).standing → front.now.ready ≡ true }
     requires some { free.now.from ≤ℤ free.now.to }
     requires held { (enter : ℤ) → Holds free.now enter → Holds front.now.ticks enter }
@@ -256,8 +260,7 @@ pub(crate) fn reach(
         → IsAdmitted trip.now search.new (move_of plan.now front.now.place number).target
         (leave_of plan.now front.now.place (step_at number enter))) }
 {
-    let step = move_at(plan, front.place, number);
-    let leaves = later(free, &step);
+    let leaves = later(free, step);
     match step.target() {
         Target::Place(place) => {
             let origin = Origin::Move {
