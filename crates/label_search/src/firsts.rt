@@ -8,7 +8,7 @@ ghost use Rattle.std.specs.Int.{int_max};
 ghost use Rattle.free_windows.specs.Free.{Holds};
 ghost use Rattle.rail_types.specs.Limits.{IsNear};
 ghost use Rattle.label_search.specs.Plans.{IsPlan, IsShort};
-ghost use Rattle.label_search.specs.Paths.{place_at as place_of};
+ghost use Rattle.label_search.specs.Paths.{move_at as move_of, place_at as place_of};
 ghost use Rattle.label_search.specs.Limits.{IsAhead, IsConsistent, IsLimits};
 ghost use Rattle.label_search.specs.Labels.{as_front, label_at};
 ghost use Rattle.label_search.specs.Search.{IsFrontOf, IsSearch, IsStarted};
@@ -20,14 +20,13 @@ ghost use Rattle.label_search.specs.Pending.{waited as waited_there};
 ghost use Rattle.label_search.specs.declared.queues.Due.{Due as due_type};
 
 use crate::labels::Front;
-use crate::lent::{LentMove, LentPlace, LentPlan};
+use crate::lent::{FirstMove, LentMove, LentPlace, LentPlan};
 use crate::lent_limits::LentLimits;
 use crate::limits::Ahead;
 use crate::plans::Trip;
 use crate::queues::{Due, Queue, Task, Work};
 use crate::searches::{
-    Search, enters, go_on_at_once, move_at, place_at, reach, ready_ticks, start, until_the_horizon,
-    wait,
+    Search, enters, go_on_at_once, place_at, reach, ready_ticks, start, until_the_horizon, wait,
 };
 use free_windows::next_start;
 use no_memory::NoMemory;
@@ -206,9 +205,10 @@ fn leave(
     if place.standing && !front.ready {
         return leave_waits(alloc, plan, book, trip, search, queue, front, label);
     }
-    leave_moves(alloc, plan, book, trip, search, queue, front, label)
+    leave_moves(alloc, plan, book, trip, search, queue, front, &place, label)
 }
 
+// All moves of a label, in one pass over those of its place.
 fn leave_moves(
     alloc: Global,
     plan: &LentPlan,
@@ -217,10 +217,12 @@ fn leave_moves(
     search: &mut Search,
     queue: &mut Queue,
     front: &Front,
+    place: &LentPlace,
     label: usize,
 ) -> Result<(), NoMemory>
     requires plan { IsPlan plan.now book.now }
     requires front { IsFrontOf plan.now search.old front.now }
+    requires place { place.now ≡ place_of plan.now front.now.place }
     requires goes { IsTrue (place_of plan.now front.now.place).standing → front.now.ready ≡ true }
     requires search { IsSearch plan.now trip.now book.now search.old }
     ensures search { IsSearch plan.now trip.now book.now search.new }
@@ -230,10 +232,15 @@ fn leave_moves(
         → IsMoveInHand plan.now trip.now book.now search.new queue.new label front.now.place tick
         number) }
 {
-    let place = place_at(plan, front.place);
-    for number in 0..place.count() {
+    let mut left = place.moves.again();
+    for number in 0..place.moves.most() {
+        let Some(parts) = left.split_first() else {
+            return Ok(());
+        };
+        let FirstMove { step, behind } = parts;
         let onward = Onward { label, number };
-        go_on(alloc, plan, book, trip, search, queue, front, onward)?;
+        go_on(alloc, plan, book, trip, search, queue, front, &step, onward)?;
+        left = behind;
     }
     Ok(())
 }
@@ -294,7 +301,8 @@ fn move_on(
     if place.standing && !part.ready {
         return Ok(());
     }
-    go_on(alloc, plan, book, trip, search, queue, part, onward)
+    let step = place.moves.get(onward.number);
+    go_on(alloc, plan, book, trip, search, queue, part, &step, onward)
 }
 
 // The waits from ticks of a label, where the train stands there and has not waited.
@@ -333,11 +341,13 @@ fn go_on(
     search: &mut Search,
     queue: &mut Queue,
     part: &Front,
+    step: &LentMove,
     onward: Onward,
 ) -> Result<(), NoMemory>
     requires plan { IsPlan plan.now book.now }
     requires part { IsFrontOf plan.now search.old part.now }
     requires number { onward.number < length (place_of plan.now part.now.place).moves }
+    requires step { step.now ≡ move_of plan.now part.now.place onward.number }
     requires goes { IsTrue (place_of plan.now part.now.place).standing → part.now.ready ≡ true }
     requires search { IsSearch plan.now trip.now book.now search.old }
     ensures search { IsSearch plan.now trip.now book.now search.new }
@@ -346,28 +356,18 @@ fn go_on(
         → IsMoveInHand plan.now trip.now book.now search.new queue.new onward.label
         part.now.place tick onward.number) }
 {
-    let step = move_at(plan, part.place, onward.number);
-    let rest = enters(part, plan, &search.limits, &step);
+    let rest = enters(part, plan, &search.limits, step);
     let Some(free) = next_start(step.pieces(), book, &rest) else {
         return Ok(());
     };
     let known = search.labels.len();
-    reach(
-        plan,
-        book,
-        trip,
-        search,
-        part,
-        onward.number,
-        &step,
-        &free,
-    )?;
+    reach(plan, book, trip, search, part, onward.number, step, &free)?;
     leave_later(alloc, plan, book, trip, search, queue, known)?;
     if free.to >= rest.to {
         return Ok(());
     }
-    let ahead = search.limits.ahead_to(&step);
-    queue.push(alloc, &move_behind(&free, &step, &ahead, onward))
+    let ahead = search.limits.ahead_to(step);
+    queue.push(alloc, &move_behind(&free, step, &ahead, onward))
 }
 
 // A move behind its first free ticks.
