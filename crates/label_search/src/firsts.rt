@@ -498,9 +498,8 @@ fn leave_one(
     ensures left { OnOk result (IsToBeLeft plan.now search.now queue.new label) }
 {
     let front = search.labels.front(label);
-    let place = place_at(plan, front.place);
     let ahead = search.limits.ahead_at(front.place as usize);
-    let due = leaving(&front, &waited(front.ready, &place), &ahead, label);
+    let due = leaving(&front, &waited_at(plan, book, &front), &ahead, label);
     let below = search.limits.below();
     if due.tick >= below.ticks {
         return Ok(());
@@ -523,6 +522,21 @@ fn leaving(front: &Front, waited: &Ahead, ahead: &Ahead, label: usize) -> Due
             label,
             work: Work::Leave,
         },
+    }
+}
+
+// The ticks that a train has waited: the place of one that is not ready is not looked at.
+fn waited_at(plan: &LentPlan, book: &Occupations, front: &Front) -> Ahead
+    requires plan { IsPlan plan.now book.now }
+    requires place { front.now.place < length plan.now.places }
+    ensures value { result.ticks ≡ waited_there (place_of plan.now front.now.place)
+        front.now.ready }
+    ensures short { IsShort result.ticks }
+{
+    if front.ready {
+        waited(true, &place_at(plan, front.place))
+    } else {
+        Ahead { ticks: 0 }
     }
 }
 
