@@ -5,6 +5,7 @@ use Rattle.std.proofs.lemmas.List.{get_or_default, length-map}
 use Rattle.std.proofs.lemmas.List.Elements.{All-map}
 use Rattle.blocking_time.specs.Possible.{CanBeGranted, IsPossible}
 use Rattle.blocking_time.specs.Stairway.{claims_of_path}
+use Rattle.path_commit.specs.history.Following.{AreLive}
 use Rattle.path_commit.specs.history.Live.{live_claims}
 use Rattle.path_commit.specs.claims.Held.{held}
 use Rattle.path_commit.specs.claims.Zones.{Zone}
@@ -18,9 +19,10 @@ use Rattle.rail_types.specs.FirstClash.{AreApart, HoldAlike}
 use Rattle.rail_types.specs.Occupation.{Clash, Fits, HasTicks, HeldClaim}
 use Rattle.rail_types.specs.Timetables.{Timetable}
 use Rattle.ask_turns.specs.declared.client_turns.clients.Client.{Client}
-use Rattle.ask_turns.specs.Clients.{IsCopyOf}
+use Rattle.ask_turns.specs.Clients.{IsCopyOf, IsUp}
 use Rattle.ask_turns.specs.Laws.{HaveTicks}
 use Rattle.ask_turns.specs.Searched.{FitsAt, IsEarliestAt, IsPossibleAt}
+use Rattle.ask_turns.proofs.Known.{live_now}
 
 abbrev pub claims_in : List HeldClaim → List Claim
 claims_in list = map (λ one. one.0) list
@@ -56,9 +58,12 @@ held_ticks copy lent same apart =
     (All-map (λ (claim : Claim). HasTicks claim.span) (λ (one : HeldClaim). one.0) (held lent) apart.ticks)
 
 module _ (timetable : Timetable) (client : Client) (entries : List Entry)
-    (copy : IsCopyOf timetable client entries) where
+    (copy : IsCopyOf timetable client entries) (up : IsUp client) where
+  live : AreLive timetable (held client.copy) entries
+  live = live_now timetable client entries copy up
+
   pub ticks_at : All (λ claim. HasTicks claim.span) (claims_held client.copy) → HaveTicks timetable entries
-  ticks_at = all_alike (λ claim. HasTicks claim.span) (held client.copy) (live_claims timetable entries) copy.live
+  ticks_at = all_alike (λ claim. HasTicks claim.span) (held client.copy) (live_claims timetable entries) live
 
   pub fits_at : (request : Request) (path : Path)
       → CanBeGranted timetable.net timetable.settings (claims_held client.copy) request path
@@ -68,7 +73,7 @@ module _ (timetable : Timetable) (client : Client) (entries : List Entry)
     blocks = can.blocks;
     keeps = can.keeps;
     fits = fits_alike (claims_of_path timetable.net timetable.settings path) (held client.copy)
-        (live_claims timetable entries) copy.live can.fits;
+        (live_claims timetable entries) live can.fits;
   }
 
   fits_beside : (request : Request) (path : Path) → FitsAt timetable request entries path
@@ -79,7 +84,7 @@ module _ (timetable : Timetable) (client : Client) (entries : List Entry)
     keeps = can.keeps;
     fits = fits_alike (claims_of_path timetable.net timetable.settings path)
         (live_claims timetable entries) (held client.copy)
-        (other_way (held client.copy) (live_claims timetable entries) copy.live) can.fits;
+        (other_way (held client.copy) (live_claims timetable entries) live) can.fits;
   }
 
   pub earliest_at : (request : Request) (path : Path)

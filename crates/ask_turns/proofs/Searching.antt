@@ -17,7 +17,7 @@ use Rattle.ask_turns.specs.declared.client_turns.told.Entered.{Entered as Became
 use Rattle.ask_turns.specs.declared.client_turns.told.Entered.TheVariants as became
 use Rattle.ask_turns.specs.declared.client_turns.told.Tried.{Tried}
 use Rattle.ask_turns.specs.declared.client_turns.told.Tried.TheVariants as tried
-use Rattle.ask_turns.specs.Clients.{IsCopyOf}
+use Rattle.ask_turns.specs.Clients.{IsCopyOf, IsUp}
 use Rattle.ask_turns.specs.Turns.{HasEntered, HasTried, Sight}
 use Rattle.ask_turns.specs.declared.asks.Ask.{Ask}
 use Rattle.ask_turns.specs.declared.asks.Found.{Found}
@@ -34,17 +34,18 @@ module _ (timetable : Timetable) (net : Network) (settings : Settings) (net_is :
   pub moved : (P : Network → Settings → Type 0) → P net settings → P timetable.net timetable.settings
   moved P told = subst (P timetable.net) settings_is (subst (λ n. P n settings) net_is told)
 
-  module _ (client : Client) (entries : List Entry) (copy : IsCopyOf timetable client entries) (ask : Ask) where
+  module _ (client : Client) (entries : List Entry) (copy : IsCopyOf timetable client entries) (up : IsUp client)
+      (ask : Ask) where
     pub found_earliest : (path : Path) → IsEarliest net settings (claims_held client.copy) ask.request path
         → IsEarliestAt timetable ask.request entries path
     found_earliest path is =
-        earliest_at timetable client entries copy ask.request path
+        earliest_at timetable client entries copy up ask.request path
         (moved (λ n s. IsEarliest n s (claims_held client.copy) ask.request path) is)
 
     pub none_fits : (¬ IsPossible net settings (claims_held client.copy) ask.request)
         → ¬ IsPossibleAt timetable ask.request entries
     none_fits none =
-        none_at timetable client entries copy ask.request
+        none_at timetable client entries copy up ask.request
         (moved (λ n s. ¬ IsPossible n s (claims_held client.copy) ask.request) none)
 
   -- nothing was found

@@ -20,12 +20,13 @@ use Rattle.rail_types.specs.declared.trains.Request.{Request}
 use Rattle.rail_types.specs.Limits.{IsRequestWithinLimits}
 use Rattle.rail_types.specs.Timetables.{Timetable}
 use Rattle.ask_turns.specs.declared.client_turns.clients.Client.{Client}
-use Rattle.ask_turns.specs.Clients.{IsCopyOf}
+use Rattle.ask_turns.specs.Clients.{IsCopyOf, IsUp}
 use Rattle.ask_turns.specs.declared.asks.Ask.{Ask}
 use Rattle.ask_turns.specs.declared.asks.Found.{Found}
 use Rattle.ask_turns.specs.Finds.{MayBeSearched}
 use Rattle.ask_turns.specs.Shown.{IsShown, IsShownAt, ShowsBeside}
 use Rattle.ask_turns.proofs.Alike.{passes_alike}
+use Rattle.ask_turns.proofs.Known.{live_now}
 use Rattle.ask_turns.proofs.Searching.{moved}
 
 -- ---- what is excluded beside an answer
@@ -83,17 +84,17 @@ shown_none known settings client ask text (Some found) absent told = absurd (abs
 
 pub shown_at : (known : Names) (timetable : Timetable) (settings : Settings)
     → known.railway.network ≡ timetable.net → settings ≡ timetable.settings → (client : Client)
-    (entries : List Entry) → IsCopyOf timetable client entries → (ask : Ask) (path : Option Path)
+    (entries : List Entry) → IsCopyOf timetable client entries → IsUp client → (ask : Ask) (path : Option Path)
     (text : List ℕ)
     → IsShown known known.railway.network settings (claims_held client.copy) client.front ask path text
     → IsShownAt known timetable ask path text entries
-shown_at known timetable settings net_is settings_is client entries copy ask path text is = record {
+shown_at known timetable settings net_is settings_is client entries copy up ask path text is = record {
   proof = is.proof;
   at = is.at ∙ copy.front;
   number = is.number;
   request = is.request;
   passes = passes_alike timetable.net timetable.settings is.proof.request (held client.copy)
-      (live_claims timetable entries) copy.live (places_of ask.guide) is.proof.closed
+      (live_claims timetable entries) (live_now timetable client entries copy up) (places_of ask.guide) is.proof.closed
       (moved timetable known.railway.network settings net_is settings_is
       (λ n s. Passes n s (claims_held client.copy) is.proof.request (places_of ask.guide) is.proof.closed) is.passes);
   text_is = is.text_is;

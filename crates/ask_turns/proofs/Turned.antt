@@ -57,6 +57,42 @@ module _ {D : Type 0} (faults : D → ℕ) (gate : Gate (Ledger D) Entry Footing
       let is = ap (λ (b : Ledger D). faults b.disk) lent in
       let count = open_now.counts in omega arith
 
+  same_list : book.entries ≡ (view new).found.list
+  same_list = ap (λ (b : Ledger D). b.entries) lent ∙ open_now.list
+
+  same_time : book.timetable ≡ timetable_at gate
+  same_time = same_timetable book (opened gate) (ap footing_of lent ∙ open_now.footing)
+
+  -- the client has seen the entries of the book
+  pub seen_in : IsCopyOf book.timetable client book.entries
+  seen_in =
+      subst (λ (t : Timetable). IsCopyOf t client book.entries) (sym same_time)
+      (subst (IsCopyOf (timetable_at gate) client) (sym same_list) open_now.copy)
+
+  -- a client that has seen them has seen what the turn found, and the turn is open for it
+  pub seen_of : (known : Client) → IsCopyOf book.timetable known book.entries
+      → IsCopyOf (timetable_at gate) known (view new).found.list
+  seen_of known copy =
+      subst (IsCopyOf (timetable_at gate) known) same_list
+      (subst (λ (t : Timetable). IsCopyOf t known book.entries) same_time copy)
+
+  pub opens_for : (known : Client) → IsCopyOf book.timetable known book.entries
+      → IsOpen faults gate old new known after book
+  opens_for known copy =
+      subst (IsOpen faults gate old new known after) (sym lent) record {
+        own = open_now.own;
+        turn = open_now.turn;
+        opens = open_now.opens;
+        goes_on = open_now.goes_on;
+        within = open_now.within;
+        list = open_now.list;
+        counts = open_now.counts;
+        settled = open_now.settled;
+        footing = open_now.footing;
+        copy = seen_of known copy;
+        reached = open_now.reached;
+      }
+
   -- what a client knew before is no more than what the book has
   pub front_within : (known : Client) → Knows (timetable_at gate) known (view old).seen
       → known.front ≤ length book.entries

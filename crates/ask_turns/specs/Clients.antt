@@ -1,5 +1,5 @@
 -- What a client knows of the history.
-use Rattle.std.specs.Prelude.{◌≡◌, List, length}
+use Rattle.std.specs.Prelude.{◌≡◌, ◌≤◌, List, length, take}
 use Rattle.book_gate.specs.Views.{StartsWith}
 use Rattle.path_commit.specs.claims.Held.{held}
 use Rattle.path_commit.specs.history.Following.{AreLive}
@@ -15,16 +15,22 @@ use Rattle.rail_types.specs.declared.trains.Train.{Train}
 use Rattle.rail_types.specs.Timetables.{Timetable}
 use Rattle.ask_turns.specs.declared.client_turns.clients.Client.{Client}
 
--- the copy holds the claims that are live in these entries, and what is kept for the next requests
--- are courses and charts by this timetable
+-- The client has seen these entries, and its copy holds the claims that are live in the first of
+-- them, so many as it says; what is kept for the next requests are courses and charts by this
+-- timetable.
 pub record IsCopyOf (timetable : Timetable) (client : Client) (entries : List Entry) : Type 0 where
   pub front : client.front ≡ length entries
   pub zones : length client.copy ≡ timetable.net.zones
-  pub live : AreLive timetable (held client.copy) entries
+  pub within : client.copied ≤ length entries
+  pub live : AreLive timetable (held client.copy) (take client.copied entries)
   pub courses : AreCourses timetable.net timetable.settings client.courses
   pub charts : AreCharts timetable.net timetable.settings client.charts
 
--- the copy is that of a beginning of what was seen
+-- the copy is of all entries that the client has seen: a search beside it is one at their front
+abbrev pub IsUp : Client → Type 0
+IsUp client = client.copied ≡ client.front
+
+-- the client has seen a beginning of what was seen
 abbrev pub Knows : Timetable → Client → List Entry → Type 0
 Knows timetable client seen =
     (part : List Entry) × StartsWith seen part × IsCopyOf timetable client part

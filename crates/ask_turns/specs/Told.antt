@@ -3,6 +3,8 @@ use Rattle.std.specs.Prelude.{◌≡◌, ◌≢◌, ℕ, ◌+◌, ◌<◌, ◌�
 use Rattle.std.specs.Prelude.{slice_get}
 use Rattle.outside_io.specs.Faults.{Rose}
 use Rattle.rail_types.specs.declared.entries.Deed.{Deed}
+use Rattle.rail_types.specs.declared.entries.Deed.TheVariants.{Grant}
+use Rattle.rail_types.specs.declared.entries.Wanted.TheVariants.{Asked}
 use Rattle.rail_types.specs.declared.entries.Entry.{Entry}
 use Rattle.rail_types.specs.Timetables.{Timetable}
 use Rattle.path_commit.specs.history.declared.verdicts.Verdict.{Verdict}
@@ -54,6 +56,11 @@ IsFoundAgain entries owner number deed (Some told) =
 pub record MayEnter (timetable : Timetable) (entry : Entry) (entries : List Entry) : Type 0 where
   pub joins : Joins timetable entries entry
   pub room : bytes_with entries entry ≤ timetable.settings.journal_bytes
+
+-- a deed for which a path is searched: the grant of one that is asked for
+abbrev pub IsOfSearch : Deed → Type 0
+IsOfSearch (Grant (Asked request) path) = Unit {0}
+IsOfSearch other = ⊥
 
 -- where a claim of the entry is taken, no entry from this position on has one that clashes
 abbrev pub IsTakenBefore : Timetable → List Entry → Entry → ℕ → Type 0

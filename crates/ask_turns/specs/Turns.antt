@@ -138,7 +138,7 @@ IsStopped timetable entry DiskFault after v w =
     CannotSettle v w ⊎ (CannotBegin timetable entry v w × IsReached after w.found.list)
 IsStopped timetable entry halt after v w = IsHalted halt after v w
 
--- *inside*: the turn is open, with nothing pending in the book, and the client's copy is up
+-- *inside*: the turn is open, with nothing pending in the book, and the client has seen its entries
 pub record IsOpen {D : Type 0} (faults : D → ℕ) (gate : Gate (Ledger D) Entry Footing)
     (old new : Pass (Ledger D) Entry Footing) (client : Client) (after : Option ℕ)
     (book : Ledger D) : Type 0 where

@@ -2,7 +2,7 @@
 ghost use Rattle.std.specs.Prelude.{All, List};
 ghost use Rattle.rail_types.specs.declared.entries.Entry.{Entry as entry_type};
 ghost use Rattle.rail_types.specs.Timetables.{Timetable};
-ghost use Rattle.ask_turns.specs.Clients.{IsCopyOf};
+ghost use Rattle.ask_turns.specs.Clients.{IsCopyOf, IsUp};
 ghost use Rattle.ask_turns.specs.Laws.{AreJudged, AreShort, HaveTicks};
 
 use crate::client_turns::Client;
@@ -33,10 +33,11 @@ pub(crate) fn found_paths_are_judged()
     joined_claims_fit_alike();
 }
 
-// The live claims that a copy is of have ticks.
+// The live claims of the entries that a copy is up to have ticks.
 pub(crate) fn copies_have_ticks(client: &Client)
     ensures { (timetable : Timetable) (entries : List entry_type)
-        → IsCopyOf timetable client.now entries → HaveTicks timetable entries }
+        → IsCopyOf timetable client.now entries → IsUp client.now
+        → HaveTicks timetable entries }
 {
     client.copy().zones();
 }

@@ -3,7 +3,7 @@
 ghost use Rattle.std.specs.Prelude.{◌≡◌, ◌+◌, ◌≤◌, IfErr, IfOk, IsTrue};
 ghost use Rattle.book_gate.specs.Passes.{turns_left, view};
 ghost use Rattle.rail_types.specs.Limits.{IsClientName};
-ghost use Rattle.ask_turns.specs.Clients.{IsCopyOf, Knows};
+ghost use Rattle.ask_turns.specs.Clients.{IsCopyOf, IsUp, Knows};
 ghost use Rattle.ask_turns.specs.Turns.{IsReady, timetable_at};
 ghost use Rattle.ask_turns.specs.Finds.{HasRoomFor, MayBeSearched};
 ghost use Rattle.ask_turns.specs.Sharing.{IsShared};
@@ -38,6 +38,7 @@ pub fn try_searches<R: Wait, D: Disk, B: Between>(
     requires budget { 3 ≤ turns_left guest.old.pass }
     requires copy { IsCopyOf (timetable_at shared.now.gate) guest.old.client
         (view guest.old.pass).seen }
+    requires up { IsUp guest.old.client }
     requires name { IsClientName guest.old.client.name }
     requires shared { IsShared shared.now }
     requires may { MayBeSearched shared.now.known.railway.network shared.now.settings ask.now }

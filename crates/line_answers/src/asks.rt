@@ -13,7 +13,7 @@ ghost use Rattle.rail_types.specs.declared.paths.Path.{Path as path_type};
 ghost use Rattle.client_lines.specs.Rooms.{IsBehindEntry, room_for};
 ghost use Rattle.client_lines.specs.declared.asks.Line.{Line as line_type};
 ghost use Rattle.ask_turns.specs.history.Verdict.{place_of};
-ghost use Rattle.ask_turns.specs.Clients.{HasCopy, IsCopyOf, Knows, StaysCopyOf};
+ghost use Rattle.ask_turns.specs.Clients.{HasCopy, IsCopyOf, IsUp, Knows, StaysCopyOf};
 ghost use Rattle.ask_turns.specs.Sharing.{IsShared};
 ghost use Rattle.ask_turns.specs.labels.ChartCourses.{IsChartCourse};
 ghost use Rattle.ask_turns.specs.labels.Courses.{IsCourse};
@@ -118,6 +118,7 @@ pub(crate) fn check_request<R: Wait, D: Disk>(
         place_of (view pass.new).found.list client.old.name sent.number ≡ None) }
     ensures copy { IfOk result (λ _.
         IsCopyOf (timetable_at shared.now.gate) client.new (view pass.new).found.list) }
+    ensures up { IfOk result (λ _. IsUp client.new) }
     ensures answers { IfErr result (λ told. (rules : List Ruled)
         → AnswersLine (caller_of shared.now rules client.old.name sent.line)
         (asking sent.after sent.number request.now) told (view pass.old) (view pass.new)) }
@@ -161,6 +162,7 @@ fn seek_path<R: Wait, D: Disk, B: Between>(
     requires budget { 3 ≤ turns_left guest.old.pass }
     requires copy { IsCopyOf (timetable_at shared.now.gate) guest.old.client
         (view guest.old.pass).seen }
+    requires up { IsUp guest.old.client }
     requires name { IsClientName guest.old.client.name }
     requires shared { IsShared shared.now }
     requires within { IsAskWithin (timetable_at shared.now.gate).net
@@ -218,6 +220,7 @@ fn guide_of<D: Disk>(
     ensures copy { StaysCopyOf (timetable_at shared.now.gate) client.old client.new }
     ensures name { client.new.name ≡ client.old.name }
     ensures front { client.new.front ≡ client.old.front }
+    ensures copied { client.new.copied ≡ client.old.copied }
 {
     if let Some(course) = client.take_course(request) {
         return Ok(Guide::Listed(course));
@@ -245,6 +248,7 @@ fn chart_course_of<D: Disk>(
     ensures copy { StaysCopyOf (timetable_at shared.now.gate) client.old client.new }
     ensures name { client.new.name ≡ client.old.name }
     ensures front { client.new.front ≡ client.old.front }
+    ensures copied { client.new.copied ≡ client.old.copied }
 {
     let Some(chart) = chart_of(alloc, shared, client, &request.train) else {
         return None;
@@ -277,6 +281,7 @@ fn chart_of<D: Disk>(
     ensures copy { StaysCopyOf (timetable_at shared.now.gate) client.old client.new }
     ensures name { client.new.name ≡ client.old.name }
     ensures front { client.new.front ≡ client.old.front }
+    ensures copied { client.new.copied ≡ client.old.copied }
 {
     if let Some(chart) = client.take_chart(train) {
         return Some(chart);
@@ -328,6 +333,7 @@ fn search_along<R: Wait, D: Disk, B: Between>(
     requires budget { 3 ≤ turns_left guest.old.pass }
     requires copy { IsCopyOf (timetable_at shared.now.gate) guest.old.client
         (view guest.old.pass).seen }
+    requires up { IsUp guest.old.client }
     requires name { IsClientName guest.old.client.name }
     requires shared { IsShared shared.now }
     requires within { IsAskWithin (timetable_at shared.now.gate).net

@@ -2,8 +2,9 @@
 ghost use Rattle.std.specs.Prelude.{◌≡◌, ◌+◌, ◌⊎◌, ◌≤◌, ℕ, Bool, List, [], None, Some, IfErr};
 ghost use Rattle.std.specs.Prelude.{IfOk};
 ghost use Rattle.admission_rules.specs.Ruled.{Ruled};
-ghost use Rattle.ask_turns.specs.Clients.{IsCopyOf, Knows};
+ghost use Rattle.ask_turns.specs.Clients.{IsCopyOf, IsUp, Knows};
 ghost use Rattle.ask_turns.specs.history.Verdict.{place_of};
+ghost use Rattle.ask_turns.specs.Told.{IsOfSearch};
 ghost use Rattle.ask_turns.specs.Turns.{IsReached, IsReady, Looks, timetable_at};
 ghost use Rattle.book_gate.specs.Passes.{turns_left, view};
 ghost use Rattle.client_lines.specs.Rooms.{IsBehindEntry};
@@ -51,6 +52,7 @@ pub(crate) fn check_number<R: Wait, D: Disk>(
         place_of (view pass.new).found.list client.old.name sent.number ≡ None) }
     ensures copy { IfOk result (λ _.
         IsCopyOf (timetable_at shared.now.gate) client.new (view pass.new).found.list) }
+    ensures up { IfOk result (λ _. IsOfSearch deed.now → IsUp client.new) }
     ensures answers { IfErr result (λ told. (line : line_type) → line.after ≡ sent.after
         → number_of line.ask ≡ Some sent.number → IsDeedOf line.ask deed.now
         → (rules : List Ruled)

@@ -1,11 +1,11 @@
 //! What a client keeps for itself.
-ghost use Rattle.std.specs.Prelude.{◌≡◌, ◌++◌, ◌∷◌, [], All, IfNone, IfOk, IfSome, OnOk};
+ghost use Rattle.std.specs.Prelude.{◌≡◌, ◌++◌, ◌∷◌, [], All, IfNone, IfOk, IfSome, IsTrue, OnOk};
 ghost use Rattle.path_labels.specs.Courses.{IsTakenOut};
 ghost use Rattle.path_labels.specs.Guides.{AreKeptWith};
 ghost use Rattle.path_labels.specs.TrainCharts.{IsChartTakenOut, with_chart_room};
 ghost use Rattle.path_labels.specs.tails.Alike.{AreAlike};
-ghost use Rattle.ask_turns.specs.Clients.{IsChartFor, IsCopyOf, IsCourseOf, Knows, StaysCopy};
-ghost use Rattle.ask_turns.specs.Clients.{StaysCopyWith, StaysCopyWithChart};
+ghost use Rattle.ask_turns.specs.Clients.{IsChartFor, IsCopyOf, IsCourseOf, IsUp, Knows};
+ghost use Rattle.ask_turns.specs.Clients.{StaysCopy, StaysCopyWith, StaysCopyWithChart};
 
 use no_memory::NoMemory;
 use outside_io::Disk;
@@ -15,13 +15,15 @@ use path_labels::{Charts, Course, Courses, Guide, TrainChart};
 use rail_types::{Name, Request, Train};
 use std::alloc::Global;
 
-/// A client's name, its copy of the live claims, of how many entries they are, the courses of
-/// requests that it keeps for the next ones like them, and the charts of trains that it keeps for
-/// their next requests.
+/// A client's name, its copy of the live claims and of how many entries they are, how many entries
+/// it has seen, the courses of requests that it keeps for the next ones like them, and the charts of
+/// trains that it keeps for their next requests. The copy is brought up for searches alone, so it
+/// may stand behind the front.
 #[derive(Drop)]
 pub struct Client {
     pub(crate) name: Name,
     pub(crate) copy: Occupations,
+    pub(crate) copied: u64,
     pub(crate) front: u64,
     pub(crate) courses: Courses,
     pub(crate) charts: Charts,
@@ -34,6 +36,7 @@ impl Client {
         ensures name { IfOk result (λ client. client.name ≡ name) }
         ensures copy { IfOk result (λ client.
             IsCopyOf book.now.timetable client book.now.entries) }
+        ensures up { IfOk result IsUp }
     {
         let copy = book.occupations().copy(alloc)?;
         let front = book.front();
@@ -42,6 +45,7 @@ impl Client {
         Ok(Client {
             name,
             copy,
+            copied: front,
             front,
             courses,
             charts,
@@ -55,14 +59,14 @@ impl Client {
         &self.name
     }
 
-    /// Of how many entries its copy is.
+    /// How many entries it has seen.
     pub fn front(&self) -> u64
         ensures { result ≡ self.now.front }
     {
         self.front
     }
 
-    /// Its copy of the live claims.
+    /// Its copy of the live claims, which a search brings up to its front.
     pub fn copy(&self) -> &Occupations
         ensures { result.now ≡ self.now.copy }
     {
@@ -80,6 +84,7 @@ impl Client {
         ensures copy { StaysCopy self.old self.new }
         ensures name { self.new.name ≡ self.old.name }
         ensures front { self.new.front ≡ self.old.front }
+        ensures copied { self.new.copied ≡ self.old.copied }
     {
         self.courses.take(request)
     }
@@ -95,6 +100,7 @@ impl Client {
         ensures copy { StaysCopy self.old self.new }
         ensures name { self.new.name ≡ self.old.name }
         ensures front { self.new.front ≡ self.old.front }
+        ensures copied { self.new.copied ≡ self.old.copied }
     {
         self.charts.take(train)
     }
@@ -119,6 +125,7 @@ impl Client {
         ensures copy { StaysCopyWithChart chart self.old self.new }
         ensures name { self.new.name ≡ self.old.name }
         ensures front { self.new.front ≡ self.old.front }
+        ensures copied { self.new.copied ≡ self.old.copied }
     {
         self.charts.keep(chart);
     }
@@ -132,6 +139,7 @@ impl Client {
         ensures copy { StaysCopyWith request guide self.old self.new }
         ensures name { self.new.name ≡ self.old.name }
         ensures front { self.new.front ≡ self.old.front }
+        ensures copied { self.new.copied ≡ self.old.copied }
     {
         match guide {
             Guide::Listed(course) => self.courses.keep(request, course),
@@ -139,15 +147,32 @@ impl Client {
         }
     }
 
-    // Brings the copy up to the entries of now.
-    pub(crate) fn catch_up<D: Disk>(&mut self, book: &Book<D>) -> Result<(), NoMemory>
+    // Sees the entries of now. The copy stays.
+    pub(crate) fn see<D: Disk>(&mut self, book: &Book<D>)
         requires knows { Knows book.now.timetable self.old book.now.entries }
         ensures name { self.new.name ≡ self.old.name }
-        ensures knows { Knows book.now.timetable self.new book.now.entries }
-        ensures copy { OnOk result (IsCopyOf book.now.timetable self.new book.now.entries) }
+        ensures copy { IsCopyOf book.now.timetable self.new book.now.entries }
     {
-        book.since(self.front, &mut self.copy)?;
         self.front = book.front();
+    }
+
+    // Brings the copy up to the entries of now, which it has seen, where a search is to stand
+    // beside it.
+    pub(crate) fn catch_up<D: Disk>(
+        &mut self,
+        book: &Book<D>,
+        searches: bool,
+    ) -> Result<(), NoMemory>
+        requires copy { IsCopyOf book.now.timetable self.old book.now.entries }
+        ensures name { self.new.name ≡ self.old.name }
+        ensures copy { IsCopyOf book.now.timetable self.new book.now.entries }
+        ensures up { OnOk result (IsTrue searches → IsUp self.new) }
+    {
+        if !searches {
+            return Ok(());
+        }
+        book.since(self.copied, &mut self.copy)?;
+        self.copied = self.front;
         Ok(())
     }
 }

@@ -1,12 +1,12 @@
 //! What a turn tells of entries.
-ghost use Rattle.std.specs.Prelude.{◌≡◌, ◌≤◌, IfErr, IfOk, length};
+ghost use Rattle.std.specs.Prelude.{◌≡◌, ◌≤◌, IfErr, IfOk, IsTrue, length};
 ghost use Rattle.rail_types.specs.declared.limits.TheConstants.{MAX_OWNER_BYTES};
 ghost use Rattle.book_gate.specs.Views.{StartsWith};
 ghost use Rattle.path_commit.specs.history.Legal.{IsInRange};
 ghost use Rattle.path_commit.specs.Footings.{footing_of};
 ghost use Rattle.path_commit.specs.Ledgers.{settled_of};
-ghost use Rattle.ask_turns.specs.Told.{EntersIn, IsFoundAgain, IsRefusal, IsStanding, Stands};
-ghost use Rattle.ask_turns.specs.Told.{StopsIn, TriesIn};
+ghost use Rattle.ask_turns.specs.Told.{EntersIn, IsFoundAgain, IsOfSearch, IsRefusal, IsStanding};
+ghost use Rattle.ask_turns.specs.Told.{Stands, StopsIn, TriesIn};
 
 use crate::client_turns::halts::Halt;
 use crate::client_turns::laws::{kept_entries_stand, none_clashes_behind};
@@ -14,7 +14,7 @@ use no_memory::NoMemory;
 use outside_io::Disk;
 use path_commit::history::{History, Verdict};
 use path_commit::{Book, Committed};
-use rail_types::{Deed, Entry, Name};
+use rail_types::{Deed, Entry, Name, Wanted};
 use std::alloc::Global;
 
 /// What is told of an entry that the history does not take.
@@ -112,6 +112,13 @@ pub(crate) fn told_again(
     };
     let told = told_by(alloc, history, verdict)?;
     Ok(Some(told))
+}
+
+// Whether a path is searched for before such a deed can be entered.
+pub(crate) fn is_of_search(deed: &Deed) -> bool
+    ensures { IsOfSearch deed.now → IsTrue result }
+{
+    matches!(deed, Deed::Grant(Wanted::Asked(..), ..))
 }
 
 // Judges an entry, and takes it into a book with nothing pending.

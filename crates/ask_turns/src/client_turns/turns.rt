@@ -1,18 +1,18 @@
 //! The turns that a client takes, each whole.
-ghost use Rattle.std.specs.Prelude.{◌≡◌, ℕ, ◌+◌, ◌<◌, ◌≤◌, IfErr, IfOk, IfSome, IsNone, None, Some};
-ghost use Rattle.std.specs.Prelude.{length};
+ghost use Rattle.std.specs.Prelude.{◌≡◌, ℕ, ◌+◌, ◌<◌, ◌≤◌, IfErr, IfOk, IfSome, IsNone, IsTrue};
+ghost use Rattle.std.specs.Prelude.{None, Some, length};
 ghost use Rattle.rail_types.specs.declared.limits.TheConstants.{MAX_OWNER_BYTES};
 ghost use Rattle.book_gate.specs.Passes.{turns_left, view};
 ghost use Rattle.path_commit.specs.history.Legal.{IsInRange};
-ghost use Rattle.ask_turns.specs.Clients.{IsCopyOf, Knows};
-ghost use Rattle.ask_turns.specs.Told.{IsFoundAgain, IsStanding};
+ghost use Rattle.ask_turns.specs.Clients.{IsCopyOf, IsUp, Knows};
+ghost use Rattle.ask_turns.specs.Told.{IsFoundAgain, IsOfSearch, IsStanding};
 ghost use Rattle.ask_turns.specs.Turns.{HasEntered, HasTried, IsHalted, IsOpen, IsReached};
 ghost use Rattle.ask_turns.specs.Turns.{IsReady, IsStopped, Looks, timetable_at};
 
 use crate::client_turns::clients::Client;
 use crate::client_turns::halts::Halt;
 use crate::client_turns::told::{
-    Entered, Refusal, Standing, Tried, enter_in, standing_at, told_again, try_in,
+    Entered, Refusal, Standing, Tried, enter_in, is_of_search, standing_at, told_again, try_in,
 };
 use book_gate::{Gate, Held, Pass};
 use outside_io::Disk;
@@ -22,8 +22,8 @@ use rail_types::{Deed, Entry};
 use std::alloc::Global;
 use std::sync::Wait;
 
-// Opens a turn: what is not settled is settled first, the client's copy is brought up, and the
-// front that is named, if one is, must not be beyond the front of now.
+// Opens a turn: what is not settled is settled first, the client sees the entries of now, and the
+// front that is named, if one is, must not be beyond their front.
 fn open_turn<R: Wait, D: Disk>(
     rt: &R,
     gate: &Gate<Book<D>>,
@@ -47,14 +47,41 @@ fn open_turn<R: Wait, D: Disk>(
         gate.leave(pass, held);
         return Err(Halt::DiskFault);
     }
-    if client.catch_up(held.book()).is_err() {
-        gate.leave(pass, held);
-        return Err(Halt::NoMemory);
-    }
+    client.see(held.book());
     let front = client.front;
     if let Some(after) = beyond(after, front) {
         gate.leave(pass, held);
         return Err(Halt::Ahead { after, front });
+    }
+    Ok(held)
+}
+
+// Opens a turn in the same way, and brings the client's copy up to what it found, where a search is
+// to stand beside it.
+fn open_up<R: Wait, D: Disk>(
+    rt: &R,
+    gate: &Gate<Book<D>>,
+    pass: &mut Pass<Book<D>>,
+    client: &mut Client,
+    after: Option<u64>,
+    searches: bool,
+) -> Result<Held<Book<D>>, Halt>
+    requires ready { IsReady gate.now pass.old }
+    requires budget { 1 ≤ turns_left pass.old }
+    requires knows { Knows (timetable_at gate.now) client.old (view pass.old).seen }
+    ensures name { client.new.name ≡ client.old.name }
+    ensures knows { Knows (timetable_at gate.now) client.new (view pass.new).found.list }
+    ensures budget { turns_left pass.new + 1 ≡ turns_left pass.old }
+    ensures open { IfOk result (IsOpen D.faults gate.now pass.old pass.new client.new after) }
+    ensures up { IfOk result (λ _. IsTrue searches → IsUp client.new) }
+    ensures ready { IfErr result (λ _. IsReady gate.now pass.new) }
+    ensures halted { IfErr result (λ halt.
+        IsHalted halt after (view pass.old) (view pass.new)) }
+{
+    let mut held = open_turn(rt, gate, pass, client, after)?;
+    if client.catch_up(held.book(), searches).is_err() {
+        gate.leave(pass, held);
+        return Err(Halt::NoMemory);
     }
     Ok(held)
 }
@@ -129,7 +156,7 @@ pub fn show<R: Wait, D: Disk>(
 
 /// A turn that tells of the client's number, where it stands already, by the deed that is
 /// sent with it; None where it is new. Of a path that is asked for the request alone
-/// counts, so the path may be any.
+/// counts, so the path may be any; for its search the client's copy is brought up.
 pub fn find_again<R: Wait, D: Disk>(
     rt: &R,
     alloc: Global,
@@ -153,11 +180,13 @@ pub fn find_again<R: Wait, D: Disk>(
         (IsFoundAgain (view pass.new).found.list client.old.name number deed.now) }
     ensures copy { IfOk result (λ _.
         IsCopyOf (timetable_at gate.now) client.new (view pass.new).found.list) }
+    ensures up { IfOk result (λ _. IsOfSearch deed.now → IsUp client.new) }
     ensures reached { IfOk result (λ _. IsReached after (view pass.new).found.list) }
     ensures halted { IfErr result (λ halt.
         IsHalted halt after (view pass.old) (view pass.new)) }
 {
-    let mut held = open_turn(rt, gate, pass, client, after)?;
+    let searches = is_of_search(deed);
+    let mut held = open_up(rt, gate, pass, client, after, searches)?;
     let again = told_again(alloc, held.book().history(), &client.name, number, deed);
     gate.leave(pass, held);
     let again = again?;
@@ -199,8 +228,8 @@ pub fn enter_entry<R: Wait, D: Disk>(
 }
 
 /// A turn that judges an entry whose path was searched for beside the client's copy, and
-/// takes it in where it is fresh and its record has room. What came since the copy's front is
-/// told apart where it clashes.
+/// takes it in where it is fresh and its record has room. What came since the client's front is
+/// told apart where it clashes; the copy is brought up for the search that follows then.
 pub fn try_entry<R: Wait, D: Disk>(
     rt: &R,
     alloc: Global,
@@ -221,11 +250,12 @@ pub fn try_entry<R: Wait, D: Disk>(
         tried (view pass.old) (view pass.new)) }
     ensures copy { IfOk result (λ _.
         IsCopyOf (timetable_at gate.now) client.new (view pass.new).found.list) }
+    ensures up { IfOk result (λ _. IsUp client.new) }
     ensures stopped { IfErr result (λ halt.
         IsStopped (timetable_at gate.now) entry halt None (view pass.old) (view pass.new)) }
 {
     let searched = client.front;
-    let mut held = open_turn(rt, gate, pass, client, None)?;
+    let mut held = open_up(rt, gate, pass, client, None, true)?;
     let tried = try_in(alloc, held.book(), entry, searched);
     gate.leave(pass, held);
     let tried = tried?;

@@ -36,7 +36,7 @@ returns-in_default-clause-searched g c =
         front = c.loop-search.front;
         missed = now.missed;
       },
-      none_fits timetable net settings c.requires.shared.network c.requires.shared.settings client u.seen now.copy ask
+      none_fits timetable net settings c.requires.shared.network c.requires.shared.settings client u.seen now.copy now.up ask
           (beside_none timetable net settings c.requires.shared.network c.requires.shared.settings client ask
           c.in_ok-found.found c.in_default.not-Some c.in_ok-found.ensures.found),
     )
@@ -69,10 +69,10 @@ returns-in-Entered-clause-searched g c =
         missed = now.missed;
       },
       judged c.found_paths_are_judged.ensures timetable c.args.guest.now.client.name ask client u w found.0 now.name now.copy
-          (c.copies_have_ticks.ensures timetable u.seen now.copy)
-          (found_earliest timetable net settings c.requires.shared.network c.requires.shared.settings client u.seen now.copy ask found.0 found.1.earliest)
+          (c.copies_have_ticks.ensures timetable u.seen now.copy now.up)
+          (found_earliest timetable net settings c.requires.shared.network c.requires.shared.settings client u.seen now.copy now.up ask found.0 found.1.earliest)
           it.entry found.1.entry_is
-          (c.copies_have_ticks-in-loop-search.ensures timetable w.found.list c.in_ok-tried.ensures.copy)
+          (c.copies_have_ticks-in-loop-search.ensures timetable w.found.list c.in_ok-tried.ensures.copy c.in_ok-tried.ensures.up)
           it.runs found.1.runs_are c.in-Entered.entered told,
     )
 
@@ -87,8 +87,8 @@ loop-search-preserved g c =
     let found = subst (IsFoundBeside net settings client ask) c.in-Some.is c.in_ok-found.ensures.found in
     let told = subst (λ (t : Tried). HasTried timetable it.entry client.front t u w) c.in-Missed.is c.in_ok-tried.ensures.tried in
     let missed = misses c.found_paths_are_judged.ensures timetable owner ask client u w found.0 now.name now.copy
-    (c.copies_have_ticks.ensures timetable u.seen now.copy)
-    (found_earliest timetable net settings c.requires.shared.network c.requires.shared.settings client u.seen now.copy ask found.0 found.1.earliest)
+    (c.copies_have_ticks.ensures timetable u.seen now.copy now.up)
+    (found_earliest timetable net settings c.requires.shared.network c.requires.shared.settings client u.seen now.copy now.up ask found.0 found.1.earliest)
     it.entry found.1.entry_is at told in
     let next : suc c.loop-search.search ≡ c.loop-search.search + 1 = omega arith in record {
       ready = c.in_ok-tried.ensures.ready;
@@ -96,6 +96,7 @@ loop-search-preserved g c =
       name = c.in_ok-tried.ensures.name ∙ now.name;
       proves = now.proves;
       copy = subst (IsCopyOf timetable c.try_entry.new.client) (sym missed.looks.same) c.in_ok-tried.ensures.copy;
+      up = c.in_ok-tried.ensures.up;
       missed = subst (λ n. HaveMissed timetable owner ask n at searched v w) next
           (u, c.loop-search.missed, c.loop-search.front, now.missed, c.front-searched.ensures ∙ now.copy.front, missed);
       held = c.in_ok-found.ensures.held ∙ now.held;
@@ -117,7 +118,7 @@ returns-in_default-clause-shown g c proved =
     let known = c.args.shared.now.known in let settings = c.args.shared.now.settings in let ask : Ask = c.args.ask.now in
     let client : Client = c.loop-search.guest.client in let u : Sight = view c.loop-search.guest.pass in
     let text : List ℕ = c.find_entry.new.proof.held in
-    shown_at known timetable settings c.requires.shared.network c.requires.shared.settings client u.seen now.copy ask None text
+    shown_at known timetable settings c.requires.shared.network c.requires.shared.settings client u.seen now.copy now.up ask None text
     (shown_none known settings client ask text c.in_ok-found.found c.in_default.not-Some (c.in_ok-found.ensures.shown (now.proves ∙ proved)))
 
 pub returns-in-Entered-clause-shown : goal.returns-in-Entered-clause-shown
@@ -143,8 +144,8 @@ returns-in-Entered-clause-shown g c proved =
       subst (λ (e : Entry). HasEntered timetable e entered u w)
           (shown.1.entry_is ∙ ap (λ o. entry_for o ask shown.0) now.name)
           (entered_of timetable it.entry client.front u w entered told),
-      (found_earliest timetable net settings c.requires.shared.network c.requires.shared.settings client u.seen now.copy ask shown.0 shown.1.earliest).granted,
-      shown_at known timetable settings c.requires.shared.network c.requires.shared.settings client u.seen now.copy ask (Some shown.0) text shown.2,
+      (found_earliest timetable net settings c.requires.shared.network c.requires.shared.settings client u.seen now.copy now.up ask shown.0 shown.1.earliest).granted,
+      shown_at known timetable settings c.requires.shared.network c.requires.shared.settings client u.seen now.copy now.up ask (Some shown.0) text shown.2,
     )
 
 pub find_entry-requires-clause-sound : goal.find_entry-requires-clause-sound

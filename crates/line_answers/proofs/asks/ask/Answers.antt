@@ -78,6 +78,9 @@ check_request-requires-clause-name g c = c.requires.name
 pub seek_path-requires-clause-ready : goal.seek_path-requires-clause-ready
 seek_path-requires-clause-ready g c = c.in-Ok.ensures.ready
 
+pub seek_path-requires-clause-up : goal.seek_path-requires-clause-up
+seek_path-requires-clause-up g c = c.in-Ok.ensures.up
+
 pub seek_path-requires-clause-name : goal.seek_path-requires-clause-name
 seek_path-requires-clause-name g c = subst IsClientName (sym c.in-Ok.ensures.name) c.requires.name
 

@@ -36,6 +36,9 @@ returns-in-Err-TooMany-clause-name g c = ap (λ (client : Client). client.name) 
 pub returns-in-Err-TooMany-clause-front : goal.returns-in-Err-TooMany-clause-front
 returns-in-Err-TooMany-clause-front g c = ap (λ (client : Client). client.front) c.note_wide.ensures ∙ c.take_chart.ensures.front
 
+pub returns-in-Err-TooMany-clause-copied : goal.returns-in-Err-TooMany-clause-copied
+returns-in-Err-TooMany-clause-copied g c = ap (λ (client : Client). client.copied) c.note_wide.ensures ∙ c.take_chart.ensures.copied
+
 pub returns-in-Err-Memory-clause-copy : goal.returns-in-Err-Memory-clause-copy
 returns-in-Err-Memory-clause-copy g c = c.take_chart.ensures.copy (timetable_at c.args.shared.now.gate)
 

@@ -1,9 +1,11 @@
-use Rattle.std.proofs.Common.{List, refl}
-use Rattle.std.proofs.lemmas.Result.{IfErr-weaker}
+use Rattle.std.proofs.Common.{List, refl, subst, sym}
+use Rattle.std.proofs.lemmas.Result.{IfErr-weaker, IfOk-weaker}
 use Rattle.book_gate.specs.Passes.{view}
 use Rattle.admission_rules.specs.Ruled.{Ruled}
 use Rattle.client_lines.specs.declared.asks.Line.{Line}
 use Rattle.client_lines.specs.declared.reply_texts.replies.Reply.{Reply}
+use Rattle.ask_turns.specs.Clients.{IsUp}
+use Rattle.ask_turns.specs.Told.{IsOfSearch}
 use Rattle.ask_turns.specs.Turns.{Sight}
 use Rattle.line_answers.specs.Asked.{asking}
 use Rattle.line_answers.specs.Callers.{AnswersLine, caller_of}
@@ -86,3 +88,9 @@ check_number-requires-clause-knows g c = c.requires.knows
 
 pub check_number-requires-clause-name : goal.check_number-requires-clause-name
 check_number-requires-clause-name g c = c.requires.name
+
+pub returns-in-Ok-clause-up : goal.returns-in-Ok-clause-up
+returns-in-Ok-clause-up g c =
+    let of : IsOfSearch c.in-Ok.deed = subst IsOfSearch (sym c.in-Ok.ensures.1) tt in
+    IfOk-weaker c.check_number.result _ (λ (told : Unit {0}). IsUp c.check_number.new.client)
+    (λ told up. up of) c.check_number.ensures.up

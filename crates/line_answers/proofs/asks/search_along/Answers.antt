@@ -132,6 +132,9 @@ try_searches-requires-clause-budget g c = c.requires.budget
 pub try_searches-requires-clause-copy : goal.try_searches-requires-clause-copy
 try_searches-requires-clause-copy g c = c.requires.copy
 
+pub try_searches-requires-clause-up : goal.try_searches-requires-clause-up
+try_searches-requires-clause-up g c = c.requires.up
+
 pub try_searches-requires-clause-name : goal.try_searches-requires-clause-name
 try_searches-requires-clause-name g c = c.requires.name
 

@@ -23,6 +23,9 @@ guide_of-requires-clause-copy g c = ((view c.args.guest.now.pass).seen, c.requir
 pub search_along-reply-requires-clause-copy : goal.search_along-reply-requires-clause-copy
 search_along-reply-requires-clause-copy g c = c.guide_of.ensures.copy (view c.args.guest.now.pass).seen c.requires.copy
 
+pub search_along-reply-requires-clause-up : goal.search_along-reply-requires-clause-up
+search_along-reply-requires-clause-up g c = c.guide_of.ensures.copied ∙ c.requires.up ∙ sym c.guide_of.ensures.front
+
 pub search_along-reply-requires-clause-name : goal.search_along-reply-requires-clause-name
 search_along-reply-requires-clause-name g c = subst IsClientName (sym c.guide_of.ensures.name) c.requires.name
 

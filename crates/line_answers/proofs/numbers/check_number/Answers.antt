@@ -121,3 +121,6 @@ returns-in-Ok-Some-clause-budget g c = one_taken (turns_left c.args.pass.now) (t
 
 pub returns-in-Err-clause-budget : goal.returns-in-Err-clause-budget
 returns-in-Err-clause-budget g c = one_taken (turns_left c.args.pass.now) (turns_left c.find_again.new.pass) c.in-Err.ensures.budget
+
+pub returns-in-Ok-None-clause-up : goal.returns-in-Ok-None-clause-up
+returns-in-Ok-None-clause-up g c = c.in-Ok-None.ensures.up

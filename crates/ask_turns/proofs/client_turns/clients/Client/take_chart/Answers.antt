@@ -10,6 +10,7 @@ pub returns-clause-copy : goal.returns-clause-copy
 returns-clause-copy c timetable entries copy = record {
   front = copy.front;
   zones = copy.zones;
+  within = copy.within;
   live = copy.live;
   courses = copy.courses;
   charts = c.take.ensures.kept timetable.net timetable.settings copy.charts;
