@@ -1,4 +1,3 @@
-use Rattle.std.proofs.Common.{refl}
 use Rattle.ask_turns.proofs.Known.{brought_up, same_claims}
 use Rattle.ask_turns.proofs.client_turns.clients.Client.catch_up.Goals as goal
 
