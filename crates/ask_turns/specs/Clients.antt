@@ -30,7 +30,7 @@ pub record IsCopyOf (timetable : Timetable) (client : Client) (entries : List En
 abbrev pub IsUp : Client → Type 0
 IsUp client = client.copied ≡ client.front
 
--- the client has seen a beginning of what was seen
+-- what the client has seen is a beginning of these entries
 abbrev pub Knows : Timetable → Client → List Entry → Type 0
 Knows timetable client seen =
     (part : List Entry) × StartsWith seen part × IsCopyOf timetable client part

@@ -66,7 +66,8 @@ impl Client {
         self.front
     }
 
-    /// Its copy of the live claims, which a search brings up to its front.
+    /// Its copy of the claims that are live in the first entries that it has seen: in all of them
+    /// behind the turns of an ask.
     pub fn copy(&self) -> &Occupations
         ensures { result.now ≡ self.now.copy }
     {

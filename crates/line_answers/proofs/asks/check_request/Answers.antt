@@ -91,6 +91,5 @@ check_number-requires-clause-name g c = c.requires.name
 
 pub returns-in-Ok-clause-up : goal.returns-in-Ok-clause-up
 returns-in-Ok-clause-up g c =
-    let of : IsOfSearch c.in-Ok.deed = subst IsOfSearch (sym c.in-Ok.ensures.1) tt in
-    IfOk-weaker c.check_number.result _ (λ (told : Unit {0}). IsUp c.check_number.new.client)
-    (λ told up. up of) c.check_number.ensures.up
+    IfOk-weaker c.check_number.result _ (λ told. IsUp c.check_number.new.client)
+    (λ told up. up (subst IsOfSearch (sym c.in-Ok.ensures.1) tt)) c.check_number.ensures.up
