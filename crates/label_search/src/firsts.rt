@@ -41,6 +41,13 @@ struct Onward {
     number: usize,
 }
 
+// The same with the move that stands there.
+#[derive(Drop)]
+struct OnwardMove<'a> {
+    onward: Onward,
+    step: LentMove<'a>,
+}
+
 // What the search has when no work is due before its best end.
 pub(crate) fn explore_first<'a>(
     alloc: Global,
@@ -201,11 +208,10 @@ fn leave(
     ensures done { OnOk result (IsDone plan.now trip.now book.now search.new queue.new label
         front.now Work.Leave) }
 {
-    let place = place_at(plan, front.place);
-    if place.standing && !front.ready {
+    if !front.ready && place_at(plan, front.place).standing {
         return leave_waits(alloc, plan, book, trip, search, queue, front, label);
     }
-    leave_moves(alloc, plan, book, trip, search, queue, front, &place, label)
+    leave_moves(alloc, plan, book, trip, search, queue, front, label)
 }
 
 // All moves of a label, in one pass over those of its place.
@@ -217,12 +223,10 @@ fn leave_moves(
     search: &mut Search,
     queue: &mut Queue,
     front: &Front,
-    place: &LentPlace,
     label: usize,
 ) -> Result<(), NoMemory>
     requires plan { IsPlan plan.now book.now }
     requires front { IsFrontOf plan.now search.old front.now }
-    requires place { place.now ≡ place_of plan.now front.now.place }
     requires goes { IsTrue (place_of plan.now front.now.place).standing → front.now.ready ≡ true }
     requires search { IsSearch plan.now trip.now book.now search.old }
     ensures search { IsSearch plan.now trip.now book.now search.new }
@@ -232,14 +236,18 @@ fn leave_moves(
         → IsMoveInHand plan.now trip.now book.now search.new queue.new label front.now.place tick
         number) }
 {
+    let place = place_at(plan, front.place);
     let mut left = place.moves.again();
     for number in 0..place.moves.most() {
         let Some(parts) = left.split_first() else {
             return Ok(());
         };
         let FirstMove { step, behind } = parts;
-        let onward = Onward { label, number };
-        go_on(alloc, plan, book, trip, search, queue, front, &step, onward)?;
+        let next = OnwardMove {
+            onward: Onward { label, number },
+            step,
+        };
+        go_on(alloc, plan, book, trip, search, queue, front, &next)?;
         left = behind;
     }
     Ok(())
@@ -301,8 +309,11 @@ fn move_on(
     if place.standing && !part.ready {
         return Ok(());
     }
-    let step = place.moves.get(onward.number);
-    go_on(alloc, plan, book, trip, search, queue, part, &step, onward)
+    let next = OnwardMove {
+        onward,
+        step: place.moves.get(onward.number),
+    };
+    go_on(alloc, plan, book, trip, search, queue, part, &next)
 }
 
 // The waits from ticks of a label, where the train stands there and has not waited.
@@ -341,33 +352,33 @@ fn go_on(
     search: &mut Search,
     queue: &mut Queue,
     part: &Front,
-    step: &LentMove,
-    onward: Onward,
+    next: &OnwardMove,
 ) -> Result<(), NoMemory>
     requires plan { IsPlan plan.now book.now }
     requires part { IsFrontOf plan.now search.old part.now }
-    requires number { onward.number < length (place_of plan.now part.now.place).moves }
-    requires step { step.now ≡ move_of plan.now part.now.place onward.number }
+    requires number { next.now.onward.number < length (place_of plan.now part.now.place).moves }
+    requires step { next.now.step ≡ move_of plan.now part.now.place next.now.onward.number }
     requires goes { IsTrue (place_of plan.now part.now.place).standing → part.now.ready ≡ true }
     requires search { IsSearch plan.now trip.now book.now search.old }
     ensures search { IsSearch plan.now trip.now book.now search.new }
     ensures advanced { OnOk result (IsAdvanced plan.now search.old search.new queue.old queue.new) }
     ensures done { OnOk result ((tick : ℤ) → Holds part.now.ticks tick
-        → IsMoveInHand plan.now trip.now book.now search.new queue.new onward.label
-        part.now.place tick onward.number) }
+        → IsMoveInHand plan.now trip.now book.now search.new queue.new next.now.onward.label
+        part.now.place tick next.now.onward.number) }
 {
+    let step = &next.step;
     let rest = enters(part, plan, &search.limits, step);
     let Some(free) = next_start(step.pieces(), book, &rest) else {
         return Ok(());
     };
     let known = search.labels.len();
-    reach(plan, book, trip, search, part, onward.number, step, &free)?;
+    reach(plan, book, trip, search, part, next.onward.number, step, &free)?;
     leave_later(alloc, plan, book, trip, search, queue, known)?;
     if free.to >= rest.to {
         return Ok(());
     }
     let ahead = search.limits.ahead_to(step);
-    queue.push(alloc, &move_behind(&free, step, &ahead, onward))
+    queue.push(alloc, &move_behind(&free, step, &ahead, next.onward))
 }
 
 // A move behind its first free ticks.

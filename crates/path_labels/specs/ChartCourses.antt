@@ -80,8 +80,8 @@ abbrev pub plan_along : Settings → ChartCourse → Plan
 plan_along settings course =
     plan_over course.chart.chart.spots course.starts course.calls (pos settings.horizon)
 
--- The course of a request over the chart of its train; with the numbers at which the chart keeps how
--- near the train is to each call, and what is left behind each by that.
+-- The course of a request over the chart of its train, with the numbers at which the chart keeps
+-- how near the train is to each call, and what is left behind each by that.
 pub record IsChartCourse (net : Network) (settings : Settings) (request : Request)
     (course : ChartCourse) : Type 0 where
   pub over : IsOverChart net settings request course.chart course.starts course.calls

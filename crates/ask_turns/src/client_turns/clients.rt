@@ -16,9 +16,9 @@ use rail_types::{Name, Request, Train};
 use std::alloc::Global;
 
 /// A client's name, its copy of the live claims and of how many entries they are, how many entries
-/// it has seen, the courses of requests that it keeps for the next ones like them, and the charts of
-/// trains that it keeps for their next requests. The copy is brought up for searches alone, so it
-/// may stand behind the front.
+/// it has seen, the courses of requests that it keeps for the next ones like them, and the charts
+/// of trains that it keeps for their next requests. The copy is brought up for searches alone, so
+/// it may stand behind the front.
 #[derive(Drop)]
 pub struct Client {
     pub(crate) name: Name,
