@@ -5,6 +5,7 @@ mod bounding;
 mod chart_loans;
 mod charts;
 mod distances;
+mod endings;
 mod finds;
 mod firsts;
 mod labels;
@@ -25,6 +26,7 @@ mod sum_loans;
 
 pub use bounding::bounds;
 pub use charts::{Chart, ChartCall, ChartSpot, ChartWay};
+pub use endings::{ends_are_shut, spots_before};
 pub use finds::{Finding, find, find_below, find_lent};
 pub use labels::{Label, Origin};
 pub use laws::{

@@ -76,7 +76,7 @@ fn ticks_along(
 }
 
 // Whether the train halts at the end of a way because it is called there.
-fn is_call(blocks: &[u32], way: &ChartWay) -> bool
+pub(crate) fn is_call(blocks: &[u32], way: &ChartWay) -> bool
     ensures { result ≡ calls_there blocks.now way.now }
 {
     way.halts && blocks.contains(&way.block)
