@@ -12,7 +12,7 @@ loop-number-init c = record {
   search = c.requires.search;
   advanced = advanced_none c.args.plan.now c.args.search.now c.args.queue.now;
   done = λ tick held number early. absurd (omega arith);
-  left = sym (c.again-left.ensures ∙ ap (λ (p : Place). p.moves) c.place_at-place.ensures);
+  left = sym (c.again-left.ensures ∙ ap (λ (p : Place). p.moves) (c.place.view_is ∙ c.place_at-place.ensures));
 }
 
 pub go_on-requires-clause-number : goal.go_on-requires-clause-number
@@ -46,6 +46,6 @@ returns-in_default-clause-done c tick held number inside =
 
 pub returns-clause-done : goal.returns-clause-done
 returns-clause-done c tick held number inside =
-    let within : number < length c.place_at-place.result.moves = subst (λ (p : Place). number < length p.moves) (sym c.place_at-place.ensures) inside in
+    let within : number < length c.place.inside.moves = subst (λ (p : Place). number < length p.moves) (sym (c.place.view_is ∙ c.place_at-place.ensures)) inside in
     let most = c.most-number-end.ensures in
     c.loop-number.invariant.done tick held number (omega arith)

@@ -12,4 +12,4 @@ returns-then-not-part-clause-advanced c = advanced_none c.args.plan.now c.args.s
 
 pub go_on-requires-clause-step : goal.go_on-requires-clause-step
 go_on-requires-clause-step c =
-    c.get-step.ensures ∙ ap (λ (p : Place). move_among p.moves c.args.onward.number) (c.place.view_is ∙ c.place_at-place.ensures)
+    c.get.ensures ∙ ap (λ (p : Place). move_among p.moves c.args.onward.number) (c.place.view_is ∙ c.place_at-place.ensures)
