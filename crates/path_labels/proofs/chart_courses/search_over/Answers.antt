@@ -11,7 +11,7 @@ use Rattle.path_labels.proofs.ChartSteps.{lent_in, planned_along, planned_lent}
 use Rattle.path_labels.proofs.KeepingNears.{near_calls, nears_read, numbers_within}
 use Rattle.path_labels.proofs.Shortness.{dwells_short}
 use Rattle.path_labels.proofs.Telling.{found_told, impossible, path_steps}
-use Rattle.path_labels.proofs.chart_courses.find_over.Goals as goal
+use Rattle.path_labels.proofs.chart_courses.search_over.Goals as goal
 
 pub plan-plan-requires-clause-leads : goal.plan-plan-requires-clause-leads
 plan-plan-requires-clause-leads c = (planned_along c.charts_are_planned.ensures c.args.net.now c.args.settings.now c.args.request.now c.args.course.now c.requires.request c.requires.course).leads
