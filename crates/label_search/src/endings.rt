@@ -32,11 +32,7 @@ use rail_types::{List, Window};
 use std::alloc::Global;
 
 /// The spots of a chart from which a way leads to a call at the end of one of these blocks.
-pub fn spots_before(
-    alloc: Global,
-    chart: &Chart,
-    blocks: &[u32],
-) -> Result<List<usize>, NoMemory>
+pub fn spots_before(alloc: Global, chart: &Chart, blocks: &[u32]) -> Result<List<usize>, NoMemory>
     ensures { IfOk result (λ before. before ≡ spots_there blocks.now chart.now.spots) }
 {
     let mut before = List::new(alloc);
@@ -191,13 +187,7 @@ fn are_shut(
     true
 }
 
-fn is_shut(
-    way: &ChartWay,
-    blocks: &[u32],
-    book: &Occupations,
-    trip: &Trip,
-    horizon: u32,
-) -> bool
+fn is_shut(way: &ChartWay, blocks: &[u32], book: &Occupations, trip: &Trip, horizon: u32) -> bool
     requires way { CanEnd blocks.now book.now way.now }
     requires arrive { IsNear trip.now.arrive.from × IsNear trip.now.arrive.to }
     ensures { IsTrue result → IsShutWay blocks.now book.now trip.now (pos horizon) way.now }

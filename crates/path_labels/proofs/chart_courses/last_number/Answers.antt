@@ -1,4 +1,4 @@
-use Rattle.std.proofs.Common.{◌∙◌, ◌-◌, ap, arith, get_or, length, refl, sym}
+use Rattle.std.proofs.Common.{◌-◌, get_or, length, refl}
 use Rattle.path_labels.proofs.KeepingNears.{last_there}
 use Rattle.path_labels.proofs.chart_courses.last_number.Goals as goal
 
