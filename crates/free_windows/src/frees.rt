@@ -126,9 +126,10 @@ fn taken_from(kept: &ZoneClaims, at: usize, piece: &Claim, within: &Window) -> W
         kept.now.claims at (length kept.now.claims) }
     ensures { IsStretch (IsFreeOf kept.now.claims piece.now) within.now false result }
 {
+    let count = kept.len();
     let first = kept.span_at(at);
     let mut ticks = until_it_ends(&first, piece, within);
-    for number in at + 1..kept.len() {
+    for number in at + 1..count {
         let next = kept.span_at(number);
         if ticks.to >= within.to || is_free_behind(&next, piece, &ticks) {
             return ticks;

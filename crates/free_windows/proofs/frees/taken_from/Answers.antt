@@ -19,7 +19,7 @@ loop-number-init c =
     blocked_at_first c.args.kept.now.claims c.args.piece.now c.args.within.now c.until_it_ends-ticks.result c.requires.zone c.requires.some c.args.at c.args.at (omega arith) c.requires.at c.requires.ends c.span_at-first.result c.span_at-first.ensures until.from until.to begun
 
 pub span_at-next-requires : goal.span_at-next-requires
-span_at-next-requires c = omega (arith, c.len-number-end.ensures, c.loop-number-test.true)
+span_at-next-requires c = omega (arith, c.len-count.ensures, c.loop-number-test.true)
 
 pub is_free_behind-requires : goal.is_free_behind-requires
 is_free_behind-requires c =
@@ -31,7 +31,7 @@ is_free_behind-requires c =
 
 pub until_it_ends-ticks-requires-in-loop-number : goal.until_it_ends-ticks-requires-in-loop-number
 until_it_ends-ticks-requires-in-loop-number c =
-    let within : c.loop-number.number < length c.args.kept.now.claims = omega (arith, c.len-number-end.ensures, c.loop-number-test.true) in
+    let within : c.loop-number.number < length c.args.kept.now.claims = omega (arith, c.len-count.ensures, c.loop-number-test.true) in
     let one = a_claim c.args.piece.now in
     record { near = (c.requires.near.0, subst (λ (span : Span). IsNear span.to) (sym (c.span_at-next.ensures one)) (c.requires.zone.near c.loop-number.number one within).1) }
 
@@ -39,6 +39,6 @@ pub loop-number-preserved : goal.loop-number-preserved
 loop-number-preserved c =
     let until = c.until_it_ends-ticks-in-loop-number.ensures in
     let after = c.loop-number.auto.number in
-    let within : c.loop-number.number < length c.args.kept.now.claims = omega (arith, c.len-number-end.ensures, c.loop-number-test.true) in
+    let within : c.loop-number.number < length c.args.kept.now.claims = omega (arith, c.len-count.ensures, c.loop-number-test.true) in
     blocked_on c.args.kept.now.claims c.args.piece.now c.args.within.now c.until_it_ends-ticks-in-loop-number.result c.requires.zone c.requires.some c.args.at c.loop-number.number (omega arith) within c.requires.ends c.span_at-next.result c.span_at-next.ensures until.from until.to
     c.loop-number.ticks c.loop-number.invariant (c.is_free_behind.ensures c.if-is_free_behind.false)
