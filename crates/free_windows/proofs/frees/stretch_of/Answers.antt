@@ -1,4 +1,4 @@
-use Rattle.std.proofs.Common.{◌<◌, ◌≤◌, length, arith, sym, subst, ap, refl, get_or, ◌<ℤ◌, ◌≤ℤ◌}
+use Rattle.std.proofs.Common.{◌<◌, ◌≤◌, length, arith, sym, subst, refl, get_or, ◌<ℤ◌}
 use Rattle.std.specs.Prelude.{◌+ℤ◌}
 use Rattle.std.proofs.lemmas.Int.{ints}
 use Rattle.rail_types.specs.Limits.{IsNear}

@@ -1,5 +1,5 @@
 use Rattle.std.proofs.Common.{◌<◌, ◌<ℤ◌, length, arith, subst, sym}
-use Rattle.std.specs.Prelude.{◌+ℤ◌, pos}
+use Rattle.std.specs.Prelude.{◌+ℤ◌}
 use Rattle.std.proofs.lemmas.Int.{ints}
 use Rattle.rail_types.specs.Limits.{IsNear}
 use Rattle.rail_types.specs.declared.paths.Span.{Span}

@@ -1,7 +1,6 @@
 use Rattle.std.proofs.Common.{◌≡◌, ◌∷◌, arith, ap, insert, length, subst, sym}
 use Rattle.std.specs.List.Sorted.{IsPermutation}
 use Rattle.std.proofs.lemmas.List.Sorted.{IsPermutation-insert}
-use Rattle.rail_types.specs.Occupation.{HeldClaim}
 use Rattle.occupation_book.specs.Zones.{Zone}
 use Rattle.occupation_book.specs.Columns.{rows_of}
 use Rattle.occupation_book.specs.Held.{AreInOrder}
