@@ -372,7 +372,16 @@ fn go_on(
         return Ok(());
     };
     let known = search.labels.len();
-    reach(plan, book, trip, search, part, next.onward.number, step, &free)?;
+    reach(
+        plan,
+        book,
+        trip,
+        search,
+        part,
+        next.onward.number,
+        step,
+        &free,
+    )?;
     leave_later(alloc, plan, book, trip, search, queue, known)?;
     if free.to >= rest.to {
         return Ok(());

@@ -81,12 +81,7 @@ fn with_stops(alloc: Global, place: &Place, made: u32) -> Result<Place, NoMemory
 }
 
 // The place of a number: each spot with each count of stops made.
-fn numbered_place(
-    alloc: Global,
-    spots: &Spots,
-    levels: u32,
-    number: u32,
-) -> Result<Place, NoMemory>
+fn numbered_place(alloc: Global, spots: &Spots, levels: u32, number: u32) -> Result<Place, NoMemory>
     requires levels { 0 < levels }
     requires number { number < length spots.now.spots * levels }
     ensures { IfOk result (λ place. place ≡ member_along spots.now.spots levels number) }

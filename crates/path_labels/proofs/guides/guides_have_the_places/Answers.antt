@@ -6,14 +6,16 @@ use Rattle.path_labels.proofs.guides.guides_have_the_places.Goals as goal
 
 have_the_places : CoursesHaveThePlaces → ChartCoursesHaveThePlaces → GuidesHaveThePlaces
 have_the_places listed charted net settings request (guide.Listed course) asked is =
-    let has = listed net settings request course is in
-    (course.places, record {
-      flawless = is.planned.flawless;
-      timetable = is.planned.timetable;
-      places = has.places;
-      moves = has.moves;
-      few = is.planned.few;
-    })
+    let has = listed net settings request course is in (
+      course.places,
+      record {
+        flawless = is.planned.flawless;
+        timetable = is.planned.timetable;
+        places = has.places;
+        moves = has.moves;
+        few = is.planned.few;
+      },
+    )
 have_the_places listed charted net settings request (guide.Charted course) asked is = charted net settings request course asked is
 
 pub returns : goal.returns
