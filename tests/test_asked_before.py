@@ -52,11 +52,11 @@ class Talk:
         return 3 if self.sections < 20 else 1
 
 
-#: The last one has 76 stops, more than the 64 that a chart tells of.
+#: The last one has 201 stops, more than the 128 that a chart tells of.
 TALKS = [
     Talk(1, [FIRST, LONG]), Talk(2, [FIRST, LONG], proves=True), Talk(3, [FIRST, LONG]),
     Talk(4, TWELVE, relations=60, asks=320),
-    Talk(5, [FIRST], sections=75, relations=400, asks=500)]
+    Talk(5, [FIRST], sections=200, relations=400, asks=500)]
 
 
 def planned(talk: Talk, railway: Railway, source: random.Random) -> list[dict[str, Any]]:

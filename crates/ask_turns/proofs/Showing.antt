@@ -7,7 +7,6 @@ use Rattle.client_lines.specs.Names.{Names}
 use Rattle.path_commit.specs.history.Live.{live_claims}
 use Rattle.path_commit.specs.claims.Held.{held}
 use Rattle.path_labels.specs.Answers.{claims_held}
-use Rattle.path_labels.specs.Guides.{places_of}
 use Rattle.proof_texts.specs.declared.refusals.Proof.{Proof}
 use Rattle.proof_texts.specs.Texts.{proof_text}
 use Rattle.proof_texts.specs.Told.{IsProofOf, IsRequestOf}
@@ -47,7 +46,7 @@ of_excluded known request (Some path) of within = record {
 
 module _ (law : CertificatesCanBeTold) (known : Names) (settings : Settings) (live : List Claim) (ask : Ask)
     (may : MayBeSearched known.railway.network settings ask) (found : Certified)
-    (is : IsCertified known.railway.network settings live ask.request (places_of ask.guide) found) (front : ℕ)
+    (is : IsCertified known.railway.network settings live ask.request found) (front : ℕ)
     (early : front ≤ MAX_NUMBER) (few : length found.closed.members ≤ MAX_NUMBER) where
   abbrev pub its_proof : Proof
   its_proof = record { at = front; number = ask.number; request = found.excluded; closed = found.closed }
@@ -68,6 +67,7 @@ module _ (law : CertificatesCanBeTold) (known : Names) (settings : Settings) (li
     at = refl;
     number = refl;
     request = is.excludes;
+    places = is.places;
     passes = is.passes;
     text_is = text_is;
     told = told;
@@ -92,10 +92,11 @@ shown_at known timetable settings net_is settings_is client entries copy ask pat
   at = is.at ∙ copy.front;
   number = is.number;
   request = is.request;
+  places = is.places;
   passes = passes_alike timetable.net timetable.settings is.proof.request (held client.copy)
-      (live_claims timetable entries) copy.live (places_of ask.guide) is.proof.closed
+      (live_claims timetable entries) copy.live is.places is.proof.closed
       (moved timetable known.railway.network settings net_is settings_is
-      (λ n s. Passes n s (claims_held client.copy) is.proof.request (places_of ask.guide) is.proof.closed) is.passes);
+      (λ n s. Passes n s (claims_held client.copy) is.proof.request is.places is.proof.closed) is.passes);
   text_is = is.text_is;
   told = is.told;
 }

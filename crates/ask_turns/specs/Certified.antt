@@ -34,8 +34,9 @@ excluded request (Some path) = before request (last_leave path)
 -- The earliest path of a request, or that there is none; and members that pass
 -- the check for what is excluded.
 pub record IsCertified (net : Network) (settings : Settings) (live : List Claim) (request : Request)
-    (places : Listed) (found : Certified) : Type 0 where
+    (found : Certified) : Type 0 where
   pub answer : IsFinding net settings live request found.path
   pub excludes : found.excluded ≡ excluded request found.path
   pub certificate : IsCertificate net settings live found.excluded found.closed
+  pub places : Listed
   pub passes : Passes net settings live found.excluded places found.closed

@@ -2,8 +2,8 @@
 use Rattle.std.specs.Prelude.{◌≡◌, ℕ, List, Option, None, Some, length}
 use Rattle.ask_turns.specs.Certified.{Passes, excluded}
 use Rattle.client_lines.specs.Names.{Names}
-use Rattle.path_labels.specs.Guides.{places_of}
 use Rattle.path_labels.specs.Answers.{claims_held}
+use Rattle.path_labels.specs.tails.Listed.{Listed}
 use Rattle.proof_texts.specs.declared.refusals.Proof.{Proof}
 use Rattle.proof_texts.specs.Texts.{proof_text}
 use Rattle.proof_texts.specs.Told.{IsProofOf, IsRequestOf}
@@ -32,7 +32,8 @@ pub record IsShown (known : Names) (net : Network) (settings : Settings) (live :
   pub at : proof.at ≡ front
   pub number : proof.number ≡ ask.number
   pub request : proof.request ≡ excluded ask.request path
-  pub passes : Passes net settings live proof.request (places_of ask.guide) proof.closed
+  pub places : Listed
+  pub passes : Passes net settings live proof.request places proof.closed
   pub text_is : text ≡ proof_text known.railway.stops proof
   pub told : IsRequestOf known ask.request → IsProofOf known proof
 

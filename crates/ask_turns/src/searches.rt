@@ -4,7 +4,6 @@ ghost use Rattle.std.specs.Prelude.{◌≡◌, ◌++◌, ◌≤◌, false, [], I
 ghost use Rattle.client_lines.specs.Rooms.{PrintsRuns};
 ghost use Rattle.client_lines.specs.Within.{AreSound};
 ghost use Rattle.path_labels.specs.Answers.{IsFinding, claims_held};
-ghost use Rattle.path_labels.specs.Guides.{IsListed};
 ghost use Rattle.proof_texts.specs.Prints.{HasPointsOf};
 ghost use Rattle.proof_texts.specs.Texts.{proof_text};
 ghost use Rattle.rail_types.specs.declared.limits.TheConstants.{MAX_NUMBER};
@@ -20,7 +19,7 @@ use byte_fields::Buffer;
 use client_lines::Known;
 use client_lines::reply_texts::reply_room;
 use no_memory::NoMemory;
-use path_labels::{Guide, find_by};
+use path_labels::find_by;
 use proof_texts::{Proof, proof_text};
 use rail_types::named_network::Named;
 use rail_types::{Deed, Entry, MAX_NUMBER, Path, Settings, Wanted};
@@ -41,7 +40,6 @@ pub(crate) fn find_entry(
 ) -> Result<Option<Found>, NoMemory>
     requires sound { AreSound known.now }
     requires may { MayBeSearched known.now.railway.network settings.now ask.now }
-    requires listed { IsTrue proves → IsListed ask.now.guide }
     requires zones { length client.now.copy ≡ known.now.railway.network.zones }
     ensures found { IfOk result
         (IsFoundBeside known.now.railway.network settings.now client.now ask.now) }
@@ -95,7 +93,6 @@ fn seek_path(
 ) -> Result<Option<Path>, NoMemory>
     requires sound { AreSound known.now }
     requires may { MayBeSearched known.now.railway.network settings.now ask.now }
-    requires listed { IsTrue proves → IsListed ask.now.guide }
     requires zones { length client.now.copy ≡ known.now.railway.network.zones }
     ensures found { IfOk result (IsFinding known.now.railway.network settings.now
         (claims_held client.now.copy) ask.now.request) }
@@ -119,7 +116,7 @@ fn seek_path(
     }
 }
 
-// The same along the course of an ask, with the text of what shows the answer in an empty buffer.
+// The same with the text of what shows the answer in an empty buffer.
 fn seek_shown(
     alloc: Global,
     known: &Known,
@@ -130,7 +127,6 @@ fn seek_shown(
 ) -> Result<Option<Path>, NoMemory>
     requires sound { AreSound known.now }
     requires may { MayBeSearched known.now.railway.network settings.now ask.now }
-    requires listed { IsListed ask.now.guide }
     requires zones { length client.now.copy ≡ known.now.railway.network.zones }
     requires empty { proof.old.held ≡ [] }
     ensures found { IfOk result (IsFinding known.now.railway.network settings.now
@@ -139,12 +135,16 @@ fn seek_shown(
         (claims_held client.now.copy) client.now.front ask.now path proof.new.held) }
 {
     certificates_can_be_told();
-    let Guide::Listed(course) = &ask.guide else {
-        unreachable!()
-    };
     let railway = known.railway();
     let net = &railway.network;
-    let found = seek_certified(alloc, net, settings, client.copy(), &ask.request, course)?;
+    let found = seek_certified(
+        alloc,
+        net,
+        settings,
+        client.copy(),
+        &ask.request,
+        &ask.guide,
+    )?;
     let Certified {
         path,
         excluded,

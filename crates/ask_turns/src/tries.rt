@@ -2,7 +2,6 @@
 
 ghost use Rattle.std.specs.Prelude.{◌≡◌, ◌+◌, ◌≤◌, IfErr, IfOk, IsTrue};
 ghost use Rattle.book_gate.specs.Passes.{turns_left, view};
-ghost use Rattle.path_labels.specs.Guides.{IsListed};
 ghost use Rattle.rail_types.specs.Limits.{IsClientName};
 ghost use Rattle.ask_turns.specs.Clients.{IsCopyOf, Knows};
 ghost use Rattle.ask_turns.specs.Turns.{IsReady, timetable_at};
@@ -42,7 +41,6 @@ pub fn try_searches<R: Wait, D: Disk, B: Between>(
     requires name { IsClientName guest.old.client.name }
     requires shared { IsShared shared.now }
     requires may { MayBeSearched shared.now.known.railway.network shared.now.settings ask.now }
-    requires listed { IsTrue guest.old.proves → IsListed ask.now.guide }
     ensures ready { IsReady shared.now.gate guest.new.pass }
     ensures budget { turns_left guest.old.pass ≤ turns_left guest.new.pass + 3 }
     ensures name { guest.new.client.name ≡ guest.old.client.name }

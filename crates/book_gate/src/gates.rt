@@ -2,7 +2,7 @@
 ghost use Rattle.std.specs.Prelude.{◌≡◌, ℕ, ◌+◌, ◌-◌, ◌^◌, ◌≤◌, ◌<◌, [], ◌∷◌, ◌++◌, All};
 ghost use Rattle.std.specs.Prelude.{IsPermutation, length, IfOk, IfErr, true, false, Some, None};
 
-use crate::held::Held;
+use crate::held::{Held, Home};
 use crate::plays::{Amount, Give, Meet, TakeIn, Turns};
 use crate::stands::Stands;
 use crate::steps::SERVING;
@@ -21,14 +21,20 @@ const LOOKS: u32 = 16;
 /// Keeps one book, which threads take out in turns.
 #[derive(Drop)]
 pub struct Gate<S: Stands> {
-    pub(crate) table: Table<Option<S>, View<S::Entry, S::Footing>, Opening<S>, Turns<S>, Global>,
+    pub(crate) table: Table<
+        Option<Home<S>>,
+        View<S::Entry, S::Footing>,
+        Opening<S>,
+        Turns<S>,
+        Global,
+    >,
     ghost sizes: { (table.shared.table_id.words ≡ 2) × (table.shared.table_id.slots ≡ 1) },
 }
 
 /// What a caller takes turns with. It has no bytes.
 #[derive(Drop)]
 pub struct Pass<S: Stands> {
-    pub(crate) seat: Seat<Option<S>, View<S::Entry, S::Footing>>,
+    pub(crate) seat: Seat<Option<Home<S>>, View<S::Entry, S::Footing>>,
 }
 
 impl<S: Stands> Gate<S> {
@@ -55,17 +61,12 @@ impl<S: Stands> Gate<S> {
             turns,
             book: Snapshot::of(&book),
         };
-        let mut slots = Vec::new(alloc);
-        if let Err(refused) = slots.push(Some(book)) {
-            slots.destroy_empty();
-            let Some(book) = refused.value else {
-                unreachable!()
-            };
-            return Err((book, NoMemory));
-        }
-        match Table::new(alloc, &[0, 0], slots, &opening) {
-            Ok((table, seat)) => Ok((Gate { table }, Pass { seat })),
-            Err(refused) => Err((only(refused), NoMemory)),
+        match slots_of(alloc, book) {
+            Ok(slots) => match Table::new(alloc, &[0, 0], slots, &opening) {
+                Ok((table, seat)) => Ok((Gate { table }, Pass { seat })),
+                Err(refused) => Err((only(refused), NoMemory)),
+            },
+            Err(refused) => Err(refused),
         }
     }
 
@@ -139,8 +140,7 @@ impl<S: Stands> Gate<S> {
             ≡ own (view pass.old).turns ++ positions (length (view pass.old).found.list)
             (length (S.list held) - length (view pass.old).found.list) }
     {
-        let Held { book } = held;
-        self.put_back(pass, book);
+        self.put_back(pass, held);
         let number = self.advance(pass);
         self.wake_behind(number);
     }
@@ -253,21 +253,41 @@ impl<S: Stands> Gate<S> {
         let mut closed = table.close_with(seat);
         let home = closed.take(0);
         closed.free();
-        let Some(book) = home else { unreachable!() };
-        book
+        let Some(kept) = home else { unreachable!() };
+        kept.into_book()
     }
 }
 
+// The one slot of a table, with the book at home there.
+fn slots_of<S>(alloc: Global, book: S) -> Result<Vec<Option<Home<S>>>, (S, NoMemory)>
+    ensures slots { IfOk result (λ slots. slots.items ≡ Some book ∷ []) }
+    ensures refused { IfErr result (λ e. e.0 ≡ book) }
+{
+    let home = match Home::take_in(alloc, book) {
+        Ok(home) => home,
+        Err(refused) => return Err(refused),
+    };
+    let mut slots = Vec::new(alloc);
+    if let Err(refused) = slots.push(Some(home)) {
+        slots.destroy_empty();
+        let Some(kept) = refused.value else {
+            unreachable!()
+        };
+        return Err((kept.into_book(), NoMemory));
+    }
+    Ok(slots)
+}
+
 // The book that a table was refused with.
-fn only<S>(refused: Refused<Option<S>, Global>) -> S
+fn only<S>(refused: Refused<Option<Home<S>>, Global>) -> S
     requires { (b : S) × (refused.slots.items ≡ Some b ∷ []) }
     ensures { refused.slots.items ≡ Some result ∷ [] }
 {
     let Refused { mut slots } = refused;
     let last = slots.pop();
     slots.destroy_empty();
-    let Some(Some(book)) = last else {
+    let Some(Some(kept)) = last else {
         unreachable!()
     };
-    book
+    kept.into_book()
 }

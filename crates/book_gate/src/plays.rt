@@ -4,6 +4,7 @@ ghost use Rattle.book_gate.specs.Steps.{Takes, Looks, Advances, Meets, giving, g
 ghost use Rattle.book_gate.specs.Steps.{spent};
 ghost use Rattle.book_gate.specs.Views.{statement_of, newcomer, origin};
 
+use crate::held::Home;
 use crate::stands::Stands;
 use crate::views::{Opening, View};
 use atomic_table::{Join, Play, Split, TableRule};
@@ -13,7 +14,7 @@ pub(crate) struct Turns<S> {
     book: PhantomData<S>,
 }
 
-impl<S: Stands> TableRule<Option<S>, View<S::Entry, S::Footing>, Opening<S>> for Turns<S> {
+impl<S: Stands> TableRule<Option<Home<S>>, View<S::Entry, S::Footing>, Opening<S>> for Turns<S> {
     ghost holds = { λ o.
         IsKept (statement_of S.list S.settled S.count) S.footing o.turns o.book.value };
 
@@ -31,7 +32,7 @@ pub(crate) struct Look<S> {
     book: PhantomData<S>,
 }
 
-impl<S: Stands> Play<Option<S>, View<S::Entry, S::Footing>> for Look<S> {
+impl<S: Stands> Play<Option<Home<S>>, View<S::Entry, S::Footing>> for Look<S> {
     ghost then = { Looks (statement_of S.list S.settled S.count) S.footing };
 }
 
@@ -39,7 +40,7 @@ pub(crate) struct Advance<S> {
     book: PhantomData<S>,
 }
 
-impl<S: Stands> Play<Option<S>, View<S::Entry, S::Footing>> for Advance<S> {
+impl<S: Stands> Play<Option<Home<S>>, View<S::Entry, S::Footing>> for Advance<S> {
     ghost then = { Advances (statement_of S.list S.settled S.count) };
 }
 

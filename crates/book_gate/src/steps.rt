@@ -50,18 +50,21 @@ impl<S: Stands> Gate<S> {
         ensures empty { pass.new.seat.me.1 ≡ (0, None) ∷ [] }
     {
         let before = self.table.shared.exchange(&mut pass.seat, 0, None);
-        let Some(book) = before else { unreachable!() };
-        Held { book }
+        let Some(home) = before else { unreachable!() };
+        home.take_out()
     }
 
-    pub(crate) fn put_back(&self, pass: &mut Pass<S>, book: S)
+    pub(crate) fn put_back(&self, pass: &mut Pass<S>, held: Held<S>)
         requires own { IsOf S.footing self.now pass.old }
         requires turn { IsInTurn pass.old }
         ensures own { IsOf S.footing self.now pass.new }
         ensures view { view pass.new ≡ view pass.old }
-        ensures book { HasBook book pass.new }
+        ensures book { HasBook held pass.new }
     {
-        let before = self.table.shared.exchange(&mut pass.seat, 0, Some(book));
+        let before = self
+            .table
+            .shared
+            .exchange(&mut pass.seat, 0, Some(held.bring_home()));
         let None = before else { unreachable!() };
     }
 

@@ -46,8 +46,9 @@ fn read_hold(alloc: Global, fields: &mut Fields<'_>, known: &Known) -> Result<As
 {
     let number = read_position(fields)?;
     let claim = Claim::read(alloc, fields, known, &None)?;
-    let mut claims = List::new(alloc);
+    let mut claims = Vec::with_capacity(alloc, 1)?;
     claims.push(claim)?;
+    let claims = List::from_vec(claims);
     Ok(Ask::Hold(number, claims, Name::from_bytes(alloc, b"")?))
 }
 

@@ -38,11 +38,9 @@ pub fn read_network_file<O: Outside>(
     ensures named { IfOk result (λ file. IsNamed file.named) }
 {
     let bytes = bytes_of(alloc, FileKind::Network, name, outside)?;
-    let named = network_of_bytes(alloc, &bytes)?;
-    Ok(NetworkFile {
-        named,
-        digest: Sha256::digest(bytes.as_slice()),
-    })
+    let digest = Sha256::digest(bytes.as_slice());
+    let named = network_of_bytes(alloc, bytes)?;
+    Ok(NetworkFile { named, digest })
 }
 
 /// The same where nothing is asked of the file but its network: no digest is made.
@@ -56,13 +54,13 @@ pub fn read_network<O: Outside>(
     ensures named { IfOk result IsNamed }
 {
     let bytes = bytes_of(alloc, FileKind::Network, name, outside)?;
-    let named = network_of_bytes(alloc, &bytes)?;
+    let named = network_of_bytes(alloc, bytes)?;
     Ok(named)
 }
 
-/// The network that a file's bytes tell.
-pub fn network_of_bytes(alloc: Global, bytes: &[u8]) -> Result<Named, Refusal>
-    ensures says { NamedSays bytes.now result }
+/// The network that a file's bytes tell. They are let go before values are made of them.
+pub fn network_of_bytes(alloc: Global, bytes: Vec<u8>) -> Result<Named, Refusal>
+    ensures says { NamedSays bytes.items result }
     ensures named { IfOk result IsNamed }
 {
     let infra = infra_of(alloc, bytes)?;
@@ -73,10 +71,10 @@ pub fn network_of_bytes(alloc: Global, bytes: &[u8]) -> Result<Named, Refusal>
 }
 
 // The infrastructure that a file's bytes tell.
-fn infra_of(alloc: Global, bytes: &[u8]) -> Result<Infra, Refusal>
-    ensures infra { IfOk result (IsInfraOf bytes.now) }
+fn infra_of(alloc: Global, bytes: Vec<u8>) -> Result<Infra, Refusal>
+    ensures infra { IfOk result (IsInfraOf bytes.items) }
     ensures sound { IfOk result IsInfra }
-    ensures fault { IfErr result (InfraSays bytes.now) }
+    ensures fault { IfErr result (InfraSays bytes.items) }
 {
     match read_infra(alloc, bytes) {
         Ok(infra) => Ok(infra),

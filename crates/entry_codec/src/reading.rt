@@ -136,15 +136,15 @@ fn read_pinned(alloc: Global, fields: &mut Fields) -> Result<Deed, EntryFault>
     Ok(Deed::Grant(Wanted::Pinned, Path { train, runs }))
 }
 
-// A hold without a reason, which has one claim.
+// A hold without a reason, which has one claim, and room for no more.
 fn plain_hold(alloc: Global, claim: &Claim) -> Result<Deed, EntryFault>
     ensures one { IfOk result (λ deed. deed ≡ Hold (claim.now ∷ []) []) }
     ensures memory { IfErr result (λ fault. fault ≡ Memory) }
 {
-    let mut claims = List::new(alloc);
-    claims.push(*claim)?;
+    let mut claims = Vec::with_capacity(alloc, 1)?;
+    claims.push_reserved(*claim);
     let reason = Name::from_bytes(alloc, &[])?;
-    Ok(Deed::Hold(claims, reason))
+    Ok(Deed::Hold(List::from_vec(claims), reason))
 }
 
 #[tactic(auto, unfolding(crate::specs::Reading::deed_field))]

@@ -13,8 +13,8 @@ ghost use Rattle.free_windows.specs.Starts.{IsPiece, IsNearWindow, IsStretch, Is
 ghost use Rattle.free_windows.specs.Starts.{AreWindowsOf};
 
 use no_memory::NoMemory;
-use occupation_book::Occupations;
-use rail_types::{Claim, Owner, Span, Window};
+use occupation_book::{Occupations, ZoneClaims};
+use rail_types::{Claim, Span, Window};
 use std::alloc::Global;
 
 // The first ticks of a window, all of which are free or none.
@@ -82,23 +82,23 @@ fn stretch_of_all(pieces: &[Claim], book: &Occupations, within: &Window) -> Stre
     Stretch { free: true, ticks }
 }
 
-fn stretch_of(kept: &[(Claim, Owner)], piece: &Claim, within: &Window) -> Stretch
-    requires zone { AreInOrder piece.now.zone kept.now }
+fn stretch_of(kept: &ZoneClaims, piece: &Claim, within: &Window) -> Stretch
+    requires zone { AreInOrder piece.now.zone kept.now.claims }
     requires near { IsNearSpan piece.now.span }
     requires ticks { HasTicks piece.now.span }
     requires within { IsNearWindow within.now }
     requires some { within.now.from ≤ℤ within.now.to }
-    ensures { IsStretch (IsFreeOf kept.now piece.now) within.now result.free result.ticks }
+    ensures { IsStretch (IsFreeOf kept.now.claims piece.now) within.now result.free result.ticks }
 {
     let start = at_start(piece, within);
-    let at = first_ending_after(kept, piece.zone, &start);
-    let Some(next) = kept.get(at) else {
+    let at = kept.first_ending_after(piece.zone, &start);
+    if at >= kept.len() {
         return Stretch {
             free: true,
             ticks: *within,
         };
-    };
-    let next = &next.0.span;
+    }
+    let next = kept.span_at(at);
     if next.from < start.to {
         Stretch {
             free: false,
@@ -107,32 +107,34 @@ fn stretch_of(kept: &[(Claim, Owner)], piece: &Claim, within: &Window) -> Stretc
     } else {
         Stretch {
             free: true,
-            ticks: until_it_begins(next, piece, within),
+            ticks: until_it_begins(&next, piece, within),
         }
     }
 }
 
 // The first ticks of a window at which a claim meets those of a zone, from the one of a number on,
 // which it meets at the first tick: they go on as long as the next one begins before it would end.
-fn taken_from(kept: &[(Claim, Owner)], at: usize, piece: &Claim, within: &Window) -> Window
-    requires zone { AreInOrder piece.now.zone kept.now }
+fn taken_from(kept: &ZoneClaims, at: usize, piece: &Claim, within: &Window) -> Window
+    requires zone { AreInOrder piece.now.zone kept.now.claims }
     requires near { IsNearSpan piece.now.span }
     requires within { IsNearWindow within.now }
     requires some { within.now.from ≤ℤ within.now.to }
-    requires at { at < length kept.now }
+    requires at { at < length kept.now.claims }
     requires begun { AllWithin (λ one. one.0.span.from <ℤ (within.now.from +ℤ piece.now.span.to))
-        kept.now at (at + 1) }
+        kept.now.claims at (at + 1) }
     requires ends { AllWithin (λ one. (within.now.from +ℤ piece.now.span.from) <ℤ one.0.span.to)
-        kept.now at (length kept.now) }
-    ensures { IsStretch (IsFreeOf kept.now piece.now) within.now false result }
+        kept.now.claims at (length kept.now.claims) }
+    ensures { IsStretch (IsFreeOf kept.now.claims piece.now) within.now false result }
 {
-    let mut ticks = until_it_ends(&kept[at].0.span, piece, within);
-    for number in at + 1..kept.len() {
-        let next = &kept[number].0.span;
-        if ticks.to >= within.to || is_free_behind(next, piece, &ticks) {
+    let count = kept.len();
+    let first = kept.span_at(at);
+    let mut ticks = until_it_ends(&first, piece, within);
+    for number in at + 1..count {
+        let next = kept.span_at(number);
+        if ticks.to >= within.to || is_free_behind(&next, piece, &ticks) {
             return ticks;
         }
-        ticks = until_it_ends(next, piece, within);
+        ticks = until_it_ends(&next, piece, within);
     }
     ticks
 }
@@ -190,15 +192,4 @@ fn behind(window: &Window, ticks: &Window) -> Window
         from: ticks.to + 1,
         to: window.to,
     }
-}
-
-// How many of a zone's spans end before this one begins.
-fn first_ending_after(kept: &[(Claim, Owner)], zone: u32, span: &Span) -> usize
-    requires { AreInOrder zone kept.now }
-    ensures bound { result ≤ length kept.now }
-    ensures before { AllWithin (λ one. one.0.span.to ≤ℤ span.now.from) kept.now 0 result }
-    ensures after { AllWithin (λ one. span.now.from <ℤ one.0.span.to) kept.now result
-        (length kept.now) }
-{
-    kept.partition_point(|one| one.0.span.to <= span.from)
 }

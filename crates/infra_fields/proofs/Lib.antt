@@ -1,1 +1,4 @@
 pub mod Lists
+pub mod Turns
+pub mod KeptMembers
+pub mod KeptValues

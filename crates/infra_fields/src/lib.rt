@@ -5,6 +5,7 @@
 mod fault_texts;
 mod faults;
 mod fields;
+mod file_values;
 mod words;
 
 pub use fault_texts::fault_text;
@@ -13,6 +14,7 @@ pub use fields::{
     found, id, items_in, known, limit, limited, list, metres, new_id, not_negative, number, object,
     read, rounded, text, text_in,
 };
+pub use file_values::file_value;
 pub use words::{
     Port, applies, direction, end, group_named, kind_named, port_name, port_within, ports_of,
 };

@@ -29,3 +29,4 @@ pub mod Lending
 pub mod Calling
 pub mod Resting
 pub mod Summing
+pub mod Shutting

@@ -1,6 +1,8 @@
 -- What is left behind calls, worked out from the last of them on.
-use Rattle.std.proofs.Common.{◌≡◌, ◌≢◌, ◌∙◌, ℕ, suc, zero, ◌+◌, ◌-◌, ◌<◌, ◌≤◌, List, [], ◌∷◌, length, get_or, set, replicate, All, Bool, false, None, slice_get, sym, ap, subst, refl, arith, inl, inr}
-use Rattle.std.specs.Prelude.{ℤ, pos, ◌≤ℤ◌}
+use Rattle.std.proofs.Common.{◌≡◌, ◌≢◌, ◌∙◌, ℕ, suc, zero, ◌+◌, ◌-◌, ◌<◌, ◌≤◌, List, [], ◌∷◌, length, get_or, set, replicate, All, Bool, true, false, if◌then◌else◌, None, slice_get, sym, ap, subst, refl, arith, inl, inr}
+use Rattle.std.specs.Prelude.{ℤ, pos, ◌+ℤ◌, ◌≤ℤ◌}
+use Rattle.std.specs.Int.{int_min}
+use Rattle.rail_types.specs.declared.limits.TheConstants.{FAR_TICK}
 use Rattle.std.proofs.lemmas.Int.{ints}
 use Rattle.std.proofs.lemmas.Bool.{cases_eq}
 use Rattle.std.proofs.lemmas.Option.{unwrap_or-slice_get}
@@ -45,6 +47,18 @@ spot_past (spot ∷ spots) (suc number) past = spot_past spots number past
 
 pub at_most : (one other third : ℤ) → one ≤ℤ other → other ≤ℤ third → one ≤ℤ third
 at_most one other third first second = omega (arith, ints)
+
+-- where nothing is waited, whether the train stands changes nothing
+no_wait : (one other : Bool) (dwell : ℤ) → dwell ≡ pos 0 → (if one then dwell else pos 0) ≡ (if other then dwell else pos 0)
+no_wait true true dwell none = refl
+no_wait true false dwell none = none
+no_wait false true dwell none = sym none
+no_wait false false dwell none = refl
+
+pub sum_unwaited : (one other : Bool) (call : ChartCall) (near : Near) (rest : Ahead) (spot : ℕ) → call.dwell ≡ pos 0
+    → sum_ahead one call near rest spot ≡ sum_ahead other call near rest spot
+sum_unwaited one other call near rest spot none =
+    ap (λ (wait : ℤ). int_min ((wait +ℤ (ahead_at near.ticks spot).ticks) +ℤ rest.ticks) FAR_TICK) (no_wait one other call.dwell none)
 
 -- the sum by what is told of the spot and the call
 pub sum_there : (spots : List ChartSpot) (calls : List ChartCall) (nears : List Near) (rests : List Ahead) (spot made : ℕ) (standing : Bool) (call : ChartCall) (near : Near) (rest : Ahead)

@@ -53,7 +53,7 @@ wait_is : (standing : Bool) (dwell : ℤ) → pos 0 ≤ℤ dwell → pos 0 ≤�
 wait_is true dwell waits = waits
 wait_is false dwell waits = omega (arith, ints)
 
-least_is : (place : Place) → IsShort place.dwell → pos 0 ≤ℤ least_wait place
+pub least_is : (place : Place) → IsShort place.dwell → pos 0 ≤ℤ least_wait place
 least_is place short = wait_is place.standing place.dwell short.0
 
 wait_twice : (standing : Bool) (dwell : ℤ) → (if standing then (if standing then dwell else pos 0) else pos 0) ≡ (if standing then dwell else pos 0)
@@ -69,7 +69,7 @@ some_level number spots (suc levels) below = omega arith
 crossed : (one other : ℕ) → one < other → other ≤ one → ⊥
 crossed one other less more = omega arith
 
-on_chart : (number spots levels : ℕ) → 0 < levels → number / levels < spots → number < spots * levels
+pub on_chart : (number spots levels : ℕ) → 0 < levels → number / levels < spots → number < spots * levels
 on_chart number spots levels called within = elim (cases_lt number (spots * levels)) [
   | inl below ↦ below
   | inr past ↦ absurd (crossed (number / levels) spots within (le-div spots number levels called past))
@@ -86,7 +86,7 @@ both true called is opens = opens
 both false called is opens = absurd (cc)
 
 -- an open way at the end of which the train halts is a call
-call_of_open : (call : ChartCall) (way : ChartWay) → way.halts ≡ true → is_open call way ≡ true → is_call call.blocks way ≡ true
+pub call_of_open : (call : ChartCall) (way : ChartWay) → way.halts ≡ true → is_open call way ≡ true → is_call call.blocks way ≡ true
 call_of_open call way is opens = both way.halts (is_called call way.block) is opens
 
 module _ (spots : List ChartSpot) (calls : List ChartCall) (nears : List Near) (rests : List Ahead) where

@@ -1,5 +1,5 @@
 -- Sets of places and ticks that no move leads out of.
-use Rattle.std.specs.Prelude.{◌≡◌, ℕ, ◌<◌, ℤ, pos, ◌-ℤ◌, ◌≤ℤ◌, List, length, Any}
+use Rattle.std.specs.Prelude.{◌≡◌, ℕ, ℤ, pos, ◌-ℤ◌, ◌≤ℤ◌, List, [], ◌∷◌, Any}
 use Rattle.label_search.specs.declared.plans.Target.{Target}
 use Rattle.label_search.specs.declared.plans.Target.TheVariants.{Place as To, End}
 use Rattle.label_search.specs.declared.plans.Plan.{Plan}
@@ -55,12 +55,21 @@ before trip tick = record {
   arrive = record { from = trip.arrive.from; to = tick -ℤ pos 1 };
 }
 
--- a move of the plan leads to the place
-abbrev pub IsLedTo : Plan → ℕ → Type 0
-IsLedTo plan place = (from number : ℕ) × (from < length plan.places)
-    × ((move_at plan from number).target ≡ To place)
+-- a move of the plan leads from the one place to the other
+abbrev pub IsNextTo : Plan → ℕ → ℕ → Type 0
+IsNextTo plan from place = (number : ℕ) × ((move_at plan from number).target ≡ To place)
 
--- a place that a move leads to, and one tick at least, all of them ticks of the plan
+-- moves of the plan lead to the place from place 0, over these places, of which the last stands
+-- first
+abbrev pub IsLedOver : Plan → List ℕ → ℕ → Type 0
+IsLedOver plan [] place = IsNextTo plan 0 place
+IsLedOver plan (from ∷ before) place = IsLedOver plan before from × IsNextTo plan from place
+
+-- moves of the plan lead to the place from place 0
+abbrev pub IsLedTo : Plan → ℕ → Type 0
+IsLedTo plan place = (over : List ℕ) × IsLedOver plan over place
+
+-- a place that moves lead to, and one tick at least, all of them ticks of the plan
 pub record IsMemberOf (plan : Plan) (member : Member) : Type 0 where
   pub place : IsLedTo plan member.place
   pub some : member.window.from ≤ℤ member.window.to

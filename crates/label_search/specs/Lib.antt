@@ -17,3 +17,4 @@ pub mod Charts
 pub mod Lent
 pub mod Nearing
 pub mod LentLimits
+pub mod Endings

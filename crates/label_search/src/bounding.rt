@@ -37,8 +37,8 @@ fn lent_bounds(alloc: Global, plan: &LentPlan) -> Result<List<Ahead>, NoMemory>
     Ok(List::new(alloc))
 }
 
-/// Whether each is a number of ticks that is not negative, and not too great to be added.
-pub(crate) fn are_ahead(ahead: &List<Ahead>) -> bool
+// Whether each is a number of ticks that is not negative, and not too great to be added.
+fn are_ahead(ahead: &List<Ahead>) -> bool
     ensures { IsTrue result → All IsAhead ahead.now }
 {
     ahead

@@ -8,7 +8,7 @@ ghost use Rattle.std.specs.Int.{int_max};
 ghost use Rattle.free_windows.specs.Free.{Holds};
 ghost use Rattle.rail_types.specs.Limits.{IsNear};
 ghost use Rattle.label_search.specs.Plans.{IsPlan, IsShort};
-ghost use Rattle.label_search.specs.Paths.{place_at as place_of};
+ghost use Rattle.label_search.specs.Paths.{move_at as move_of, place_at as place_of};
 ghost use Rattle.label_search.specs.Limits.{IsAhead, IsConsistent, IsLimits};
 ghost use Rattle.label_search.specs.Labels.{as_front, label_at};
 ghost use Rattle.label_search.specs.Search.{IsFrontOf, IsSearch, IsStarted};
@@ -20,14 +20,13 @@ ghost use Rattle.label_search.specs.Pending.{waited as waited_there};
 ghost use Rattle.label_search.specs.declared.queues.Due.{Due as due_type};
 
 use crate::labels::Front;
-use crate::lent::{LentMove, LentPlace, LentPlan};
+use crate::lent::{FirstMove, LentMove, LentPlace, LentPlan};
 use crate::lent_limits::LentLimits;
 use crate::limits::Ahead;
 use crate::plans::Trip;
 use crate::queues::{Due, Queue, Task, Work};
 use crate::searches::{
-    Search, enters, go_on_at_once, move_at, place_at, reach, ready_ticks, start, until_the_horizon,
-    wait,
+    Search, enters, go_on_at_once, place_at, reach, ready_ticks, start, until_the_horizon, wait,
 };
 use free_windows::next_start;
 use no_memory::NoMemory;
@@ -40,6 +39,13 @@ use std::alloc::Global;
 struct Onward {
     label: usize,
     number: usize,
+}
+
+// The same with the move that stands there.
+#[derive(Drop)]
+struct OnwardMove<'a> {
+    onward: Onward,
+    step: LentMove<'a>,
 }
 
 // What the search has when no work is due before its best end.
@@ -202,13 +208,13 @@ fn leave(
     ensures done { OnOk result (IsDone plan.now trip.now book.now search.new queue.new label
         front.now Work.Leave) }
 {
-    let place = place_at(plan, front.place);
-    if place.standing && !front.ready {
+    if !front.ready && place_at(plan, front.place).standing {
         return leave_waits(alloc, plan, book, trip, search, queue, front, label);
     }
     leave_moves(alloc, plan, book, trip, search, queue, front, label)
 }
 
+// All moves of a label, in one pass over those of its place.
 fn leave_moves(
     alloc: Global,
     plan: &LentPlan,
@@ -231,9 +237,18 @@ fn leave_moves(
         number) }
 {
     let place = place_at(plan, front.place);
-    for number in 0..place.count() {
-        let onward = Onward { label, number };
-        go_on(alloc, plan, book, trip, search, queue, front, onward)?;
+    let mut left = place.moves.again();
+    for number in 0..place.moves.most() {
+        let Some(parts) = left.split_first() else {
+            return Ok(());
+        };
+        let FirstMove { step, behind } = parts;
+        let next = OnwardMove {
+            onward: Onward { label, number },
+            step,
+        };
+        go_on(alloc, plan, book, trip, search, queue, front, &next)?;
+        left = behind;
     }
     Ok(())
 }
@@ -294,7 +309,11 @@ fn move_on(
     if place.standing && !part.ready {
         return Ok(());
     }
-    go_on(alloc, plan, book, trip, search, queue, part, onward)
+    let next = OnwardMove {
+        onward,
+        step: place.moves.get(onward.number),
+    };
+    go_on(alloc, plan, book, trip, search, queue, part, &next)
 }
 
 // The waits from ticks of a label, where the train stands there and has not waited.
@@ -333,32 +352,42 @@ fn go_on(
     search: &mut Search,
     queue: &mut Queue,
     part: &Front,
-    onward: Onward,
+    next: &OnwardMove,
 ) -> Result<(), NoMemory>
     requires plan { IsPlan plan.now book.now }
     requires part { IsFrontOf plan.now search.old part.now }
-    requires number { onward.number < length (place_of plan.now part.now.place).moves }
+    requires number { next.now.onward.number < length (place_of plan.now part.now.place).moves }
+    requires step { next.now.step ≡ move_of plan.now part.now.place next.now.onward.number }
     requires goes { IsTrue (place_of plan.now part.now.place).standing → part.now.ready ≡ true }
     requires search { IsSearch plan.now trip.now book.now search.old }
     ensures search { IsSearch plan.now trip.now book.now search.new }
     ensures advanced { OnOk result (IsAdvanced plan.now search.old search.new queue.old queue.new) }
     ensures done { OnOk result ((tick : ℤ) → Holds part.now.ticks tick
-        → IsMoveInHand plan.now trip.now book.now search.new queue.new onward.label
-        part.now.place tick onward.number) }
+        → IsMoveInHand plan.now trip.now book.now search.new queue.new next.now.onward.label
+        part.now.place tick next.now.onward.number) }
 {
-    let step = move_at(plan, part.place, onward.number);
-    let rest = enters(part, plan, &search.limits, &step);
+    let step = &next.step;
+    let rest = enters(part, plan, &search.limits, step);
     let Some(free) = next_start(step.pieces(), book, &rest) else {
         return Ok(());
     };
     let known = search.labels.len();
-    reach(plan, book, trip, search, part, onward.number, &free)?;
+    reach(
+        plan,
+        book,
+        trip,
+        search,
+        part,
+        next.onward.number,
+        step,
+        &free,
+    )?;
     leave_later(alloc, plan, book, trip, search, queue, known)?;
     if free.to >= rest.to {
         return Ok(());
     }
-    let ahead = search.limits.ahead_to(&step);
-    queue.push(alloc, &move_behind(&free, &step, &ahead, onward))
+    let ahead = search.limits.ahead_to(step);
+    queue.push(alloc, &move_behind(&free, step, &ahead, next.onward))
 }
 
 // A move behind its first free ticks.
@@ -489,9 +518,8 @@ fn leave_one(
     ensures left { OnOk result (IsToBeLeft plan.now search.now queue.new label) }
 {
     let front = search.labels.front(label);
-    let place = place_at(plan, front.place);
     let ahead = search.limits.ahead_at(front.place as usize);
-    let due = leaving(&front, &waited(front.ready, &place), &ahead, label);
+    let due = leaving(&front, &waited_at(plan, book, &front), &ahead, label);
     let below = search.limits.below();
     if due.tick >= below.ticks {
         return Ok(());
@@ -514,6 +542,21 @@ fn leaving(front: &Front, waited: &Ahead, ahead: &Ahead, label: usize) -> Due
             label,
             work: Work::Leave,
         },
+    }
+}
+
+// The ticks that a train has waited: the place of one that is not ready is not looked at.
+fn waited_at(plan: &LentPlan, book: &Occupations, front: &Front) -> Ahead
+    requires plan { IsPlan plan.now book.now }
+    requires place { front.now.place < length plan.now.places }
+    ensures value { result.ticks ≡ waited_there (place_of plan.now front.now.place)
+        front.now.ready }
+    ensures short { IsShort result.ticks }
+{
+    if front.ready {
+        waited(true, &place_at(plan, front.place))
+    } else {
+        Ahead { ticks: 0 }
     }
 }
 

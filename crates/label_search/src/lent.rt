@@ -1,7 +1,8 @@
 //! A plan as a search looks at it: one whose places are listed, or that of calls over a chart, of
 //! which each place and each move is worked out when it is looked at. Contracts see the whole plan.
 
-ghost use Rattle.std.specs.Prelude.{◌≡◌, ◌<◌, pos, length};
+ghost use Rattle.std.specs.Prelude.{◌≡◌, ◌+◌, ◌<◌, ◌≤◌, ◌^◌, ◌∷◌, [], pos, length, map};
+ghost use Rattle.std.specs.Prelude.{All, IfNone, IfSome};
 ghost use Rattle.label_search.specs.Charts.{
   HasNumbers,
   LeadOnChart,
@@ -14,6 +15,7 @@ ghost use Rattle.label_search.specs.Charts.{
   move_among,
   move_of_way,
   moves_over,
+  number_over,
   open_among,
   open_ways,
   place_among,
@@ -30,6 +32,7 @@ ghost use Rattle.label_search.specs.Paths.{move_at as move_of, place_at as place
 use crate::chart_loans::{Charted, ChartedWays};
 use crate::charts::{Chart, ChartCall, ChartSpot, ChartWay};
 use crate::plans::{Move, Place, Plan, Target};
+use crate::stays::stay_of;
 use rail_types::{Claim, List, Tick};
 use std::marker::Model;
 
@@ -117,6 +120,13 @@ impl<'a> Model for LentMove<'a> {
     ghost view = { λ a. record { target = a.target; run = a.run; pieces = a.pieces.now } };
 }
 
+/// The first of some moves, and those behind it.
+#[derive(Drop)]
+pub(crate) struct FirstMove<'a> {
+    pub(crate) step: LentMove<'a>,
+    pub(crate) behind: LentMoves<'a>,
+}
+
 impl<'a> LentPlan<'a> {
     /// A plan whose places are listed.
     pub fn listed(plan: &'a Plan) -> LentPlan<'a>
@@ -193,6 +203,36 @@ impl<'a> LentMoves<'a> {
         }
     }
 
+    /// A number that is not below how many there are, which takes no look at each of them.
+    pub(crate) fn most(&self) -> usize
+        ensures { length self.now ≤ result }
+    {
+        match &self.lender {
+            MovesLender::Listed(moves) => moves.len(),
+            MovesLender::Charted(charted) => charted.ways.len(),
+        }
+    }
+
+    /// The same, lent once more.
+    pub(crate) fn again(&self) -> LentMoves<'a>
+        ensures { result ≡ self.now }
+    {
+        LentMoves {
+            lender: self.lender,
+        }
+    }
+
+    /// The first of them, and those behind it.
+    pub(crate) fn split_first(&self) -> Option<FirstMove<'a>>
+        ensures some { IfSome result (λ parts. self.now ≡ parts.step ∷ parts.behind) }
+        ensures none { IfNone result (self.now ≡ []) }
+    {
+        match &self.lender {
+            MovesLender::Listed(moves) => first_listed(moves),
+            MovesLender::Charted(charted) => first_charted(charted),
+        }
+    }
+
     /// The move of a number.
     pub(crate) fn get(&self, number: usize) -> LentMove<'a>
         requires { number < length self.now }
@@ -258,12 +298,33 @@ fn move_listed<'a>(moves: &'a [Move], number: usize) -> LentMove<'a>
     requires { number < length moves.now }
     ensures { result ≡ move_among moves.now number }
 {
-    let one = &moves[number];
+    lent_move(&moves[number])
+}
+
+fn lent_move<'a>(one: &'a Move) -> LentMove<'a>
+    ensures { result ≡ one.now }
+{
     LentMove {
         target: one.target,
         run: one.run,
         pieces: one.pieces.as_slice(),
     }
+}
+
+// The first of the moves that are listed, and those behind it.
+fn first_listed<'a>(moves: &'a [Move]) -> Option<FirstMove<'a>>
+    ensures some { IfSome result (λ parts. moves.now ≡ parts.step ∷ parts.behind) }
+    ensures none { IfNone result (moves.now ≡ []) }
+{
+    let Some((one, behind)) = moves.split_first() else {
+        return None;
+    };
+    Some(FirstMove {
+        step: lent_move(one),
+        behind: LentMoves {
+            lender: MovesLender::Listed(behind),
+        },
+    })
 }
 
 // The place of a number over a chart.
@@ -275,8 +336,8 @@ fn charted_place<'a>(charted: &Charted<'a>, number: usize) -> LentPlace<'a>
     if number == 0 {
         return charted_start(charted);
     }
-    let levels = charted.calls.len();
-    charted_stay(charted, (number - 1) / levels, (number - 1) % levels)
+    let stay = stay_of(number - 1, charted.calls.len());
+    charted_stay(charted, stay.spot, stay.made)
 }
 
 // The place of the start over a chart.
@@ -372,7 +433,14 @@ fn charted_move<'a>(charted: &ChartedWays<'a>, number: usize) -> LentMove<'a>
     ensures { result ≡ move_of_way charted.now.levels charted.now.made
         (way_among charted.now.call.now charted.now.ways.now number) }
 {
-    let way = open_way(charted.call, charted.ways, number);
+    move_along(charted, open_way(charted.call, charted.ways, number))
+}
+
+// The move that a way is.
+fn move_along<'a>(charted: &ChartedWays<'a>, way: &'a ChartWay) -> LentMove<'a>
+    requires { number_over charted.now.levels way.now.next (charted.now.made + 1) < 2 ^ 32 }
+    ensures { result ≡ move_of_way charted.now.levels charted.now.made way.now }
+{
     if way.halts && charted.levels <= charted.made + 1 {
         return LentMove {
             target: Target::End,
@@ -389,6 +457,49 @@ fn charted_move<'a>(charted: &ChartedWays<'a>, number: usize) -> LentMove<'a>
         target: Target::Place(way.next * charted.levels + made + 1),
         run: way.run,
         pieces: way.pieces.as_slice(),
+    }
+}
+
+// The first of the moves that open ways are, and those behind it.
+fn first_charted<'a>(charted: &ChartedWays<'a>) -> Option<FirstMove<'a>>
+    ensures some { IfSome result (λ parts. map (move_of_way charted.now.levels charted.now.made)
+        (open_among charted.now.call.now charted.now.ways.now) ≡ parts.step ∷ parts.behind) }
+    ensures none { IfNone result (map (move_of_way charted.now.levels charted.now.made)
+        (open_among charted.now.call.now charted.now.ways.now) ≡ []) }
+{
+    let mut left = charted.ways;
+    while let Some((way, behind)) = left.split_first() {
+        if is_open(charted.call, way) {
+            return Some(first_along(charted, way, behind));
+        }
+        left = behind;
+    }
+    None
+}
+
+// The move that an open way is, and those that the ways behind it are.
+fn first_along<'a>(
+    charted: &ChartedWays<'a>,
+    way: &'a ChartWay,
+    behind: &'a [ChartWay],
+) -> FirstMove<'a>
+    requires way { number_over charted.now.levels way.now.next (charted.now.made + 1) < 2 ^ 32 }
+    requires behind { All (λ way. number_over charted.now.levels way.next (charted.now.made + 1)
+        < 2 ^ 32) behind.now }
+    ensures step { result.step ≡ move_of_way charted.now.levels charted.now.made way.now }
+    ensures behind { result.behind ≡ map (move_of_way charted.now.levels charted.now.made)
+        (open_among charted.now.call.now behind.now) }
+{
+    FirstMove {
+        step: move_along(charted, way),
+        behind: LentMoves {
+            lender: MovesLender::Charted(ChartedWays {
+                call: charted.call,
+                ways: behind,
+                levels: charted.levels,
+                made: charted.made,
+            }),
+        },
     }
 }
 

@@ -5,6 +5,7 @@ mod bounding;
 mod chart_loans;
 mod charts;
 mod distances;
+mod endings;
 mod finds;
 mod firsts;
 mod labels;
@@ -20,11 +21,13 @@ mod roads;
 mod searches;
 mod seeks;
 mod seen;
+mod stays;
 mod stretches;
 mod sum_loans;
 
 pub use bounding::bounds;
 pub use charts::{Chart, ChartCall, ChartSpot, ChartWay};
+pub use endings::{ends_are_shut, spots_before};
 pub use finds::{Finding, find, find_below, find_lent};
 pub use labels::{Label, Origin};
 pub use laws::{
@@ -37,4 +40,4 @@ pub use limits::{Ahead, Limits};
 pub use nearing::{Near, near_to, rests_of};
 pub use plans::{LATEST, Member, Move, Place, Plan, Step, Target, Trip};
 pub use roads::Roads;
-pub use seeks::{Sought, search, seek};
+pub use seeks::{Sought, search, seek, seek_lent};

@@ -24,19 +24,52 @@ ghost use Rattle.label_search.specs.Nearing.{
 };
 ghost use Rattle.label_search.specs.Plans.{IsShort};
 
-use crate::bounding::are_ahead;
 use crate::charts::{Chart, ChartCall, ChartSpot, ChartWay};
 use crate::limits::{Ahead, ahead_at};
 use crate::roads::Roads;
+use crate::stays::stay_of;
 use no_memory::NoMemory;
 use rail_types::{FAR_TICK, List};
 use std::alloc::Global;
+use std::marker::Model;
+
+// Ticks from a spot, in 4 bytes. Contracts see them as what is ahead there.
+#[derive(Debug, Drop)]
+pub(crate) struct ShortTicks {
+    ticks: u32,
+}
+
+impl Model for ShortTicks {
+    ghost use Rattle.std.specs.Prelude.{pos};
+    ghost use Rattle.label_search.specs.declared.limits.Ahead.{Ahead as ahead_type};
+
+    ghost Value = { ahead_type };
+
+    ghost view = { λ a. record { ticks = pos a.ticks } };
+}
+
+impl ShortTicks {
+    fn new(ticks: u32) -> ShortTicks
+        ensures { IsAhead result }
+    {
+        ShortTicks { ticks }
+    }
+
+    // The ticks, to be added to others.
+    fn ahead(&self) -> Ahead
+        ensures { result ≡ self.now }
+    {
+        Ahead {
+            ticks: i64::from(self.ticks),
+        }
+    }
+}
 
 /// How near a train is to its next call: ticks from each spot that no train falls short of, 0 where
 /// the list has none, and the spots behind its calls.
 #[derive(Debug, Drop)]
 pub struct Near {
-    pub(crate) ticks: List<Ahead>,
+    pub(crate) ticks: List<ShortTicks>,
     pub(crate) behind: List<u32>,
 }
 
@@ -62,21 +95,38 @@ fn ticks_along(
     chart: &Chart,
     roads: &Roads,
     blocks: &[u32],
-) -> Result<List<Ahead>, NoMemory>
+) -> Result<List<ShortTicks>, NoMemory>
     requires runs { HaveShortRuns chart.now.spots }
     ensures ahead { IfOk result (All IsAhead) }
     ensures near { IfOk result (λ ticks. (number : ℕ) → number < length chart.now.spots
         → All (IsNearAlong blocks.now ticks number) (spot_at chart.now.spots number).ways) }
 {
-    let ticks = List::from_vec(roads.ticks_to(alloc, blocks)?);
-    if are_ahead(&ticks) && are_near(chart, blocks, &ticks) {
+    let found = roads.ticks_to(alloc, blocks)?;
+    let ticks = shorten(alloc, found.as_slice())?;
+    if are_near(chart, blocks, &ticks) {
         return Ok(ticks);
     }
     Ok(List::new(alloc))
 }
 
+// Ticks in 4 bytes each.
+fn shorten(alloc: Global, ticks: &[Ahead]) -> Result<List<ShortTicks>, NoMemory>
+    ensures { IfOk result (All IsAhead) }
+{
+    let mut short = Vec::with_capacity(alloc, ticks.len())?;
+    for one in ticks {
+        short.push(ShortTicks::new(short_of(one)))?;
+    }
+    Ok(List::from_vec(short))
+}
+
+// The ticks, or the most that fit in 4 bytes: no train falls short of fewer either.
+fn short_of(ahead: &Ahead) -> u32 {
+    u32::try_from(ahead.ticks).unwrap_or(u32::MAX)
+}
+
 // Whether the train halts at the end of a way because it is called there.
-fn is_call(blocks: &[u32], way: &ChartWay) -> bool
+pub(crate) fn is_call(blocks: &[u32], way: &ChartWay) -> bool
     ensures { result ≡ calls_there blocks.now way.now }
 {
     way.halts && blocks.contains(&way.block)
@@ -104,7 +154,7 @@ fn push_behind(blocks: &[u32], ways: &[ChartWay], behind: &mut List<u32>) -> Res
     Ok(())
 }
 
-fn are_near(chart: &Chart, blocks: &[u32], ticks: &List<Ahead>) -> bool
+fn are_near(chart: &Chart, blocks: &[u32], ticks: &List<ShortTicks>) -> bool
     requires runs { HaveShortRuns chart.now.spots }
     requires ticks { All IsAhead ticks.now }
     ensures { IsTrue result → (number : ℕ) → number < length chart.now.spots
@@ -129,7 +179,7 @@ fn spot_of(chart: &Chart, number: usize) -> &ChartSpot
     &spots[number]
 }
 
-fn are_near_from(ways: &[ChartWay], blocks: &[u32], ticks: &List<Ahead>, number: usize) -> bool
+fn are_near_from(ways: &[ChartWay], blocks: &[u32], ticks: &List<ShortTicks>, number: usize) -> bool
     requires runs { All (λ way. IsShort way.run) ways.now }
     requires ticks { All IsAhead ticks.now }
     ensures { IsTrue result → All (IsNearAlong blocks.now ticks.now number) ways.now }
@@ -142,14 +192,26 @@ fn are_near_from(ways: &[ChartWay], blocks: &[u32], ticks: &List<Ahead>, number:
     true
 }
 
-fn is_near_along(way: &ChartWay, blocks: &[u32], ticks: &List<Ahead>, number: usize) -> bool
+fn is_near_along(way: &ChartWay, blocks: &[u32], ticks: &List<ShortTicks>, number: usize) -> bool
     requires run { IsShort way.now.run }
     requires ticks { All IsAhead ticks.now }
     ensures { IsTrue result → IsNearAlong blocks.now ticks.now number way.now }
 {
-    let here = ahead_at(ticks, number);
-    let there = ahead_at(ticks, way.next as usize);
+    let here = ticks_at(ticks, number);
+    let there = ticks_at(ticks, way.next as usize);
     rolls_no_nearer(way, &here, &there) && calls_no_nearer(blocks, way, &here)
+}
+
+// The ticks from the spot of a number, 0 where the list has none.
+fn ticks_at(ticks: &List<ShortTicks>, number: usize) -> Ahead
+    requires { All IsAhead ticks.now }
+    ensures value { result ≡ place_ahead ticks.now number }
+    ensures ahead { IsAhead result }
+{
+    match ticks.get(number) {
+        Some(one) => one.ahead(),
+        None => Ahead { ticks: 0 },
+    }
 }
 
 // Whether a train that rolls on comes no nearer than by the ticks that it takes.
@@ -193,11 +255,11 @@ pub(crate) fn sum_of_place(
     if levels == 0 {
         return Ahead { ticks: 0 };
     }
-    let spot = (place - 1) / levels;
-    if spot >= chart.spots.len() {
+    let stay = stay_of(place - 1, levels);
+    if stay.spot >= chart.spots.len() {
         return Ahead { ticks: 0 };
     }
-    sum_of_stay(chart, calls, nears, rests, spot, (place - 1) % levels)
+    sum_of_stay(chart, calls, nears, rests, stay.spot, stay.made)
 }
 
 // What is ahead at a spot where so many calls are made.
@@ -217,10 +279,14 @@ fn sum_of_stay(
     ensures sum { result.ticks ≡ stay_ahead chart.now.spots calls.now
         (map (λ near. near.now) nears.now) rests.now spot made }
 {
-    let standing = stands_at(chart, spot);
     let call = call_of(calls, made);
     let near = near_of(nears, made);
-    sum_of(standing, call, near, &ahead_at(rests, made), spot)
+    let rest = ahead_at(rests, made);
+    // Where nothing is waited, whether the train stands is not looked at.
+    if call.dwell == 0 {
+        return sum_of(false, call, near, &rest, spot);
+    }
+    sum_of(stands_at(chart, spot), call, near, &rest, spot)
 }
 
 /// What is left behind each call, by how near the train is to each of them.
@@ -322,7 +388,7 @@ fn sum_of(standing: bool, call: &ChartCall, near: &Near, rest: &Ahead, spot: usi
     ensures sum { result.ticks ≡ sum_ahead standing call.now near.now rest.now spot }
 {
     let wait = wait_of(standing, call);
-    let way = ahead_at(&near.ticks, spot);
+    let way = ticks_at(&near.ticks, spot);
     Ahead {
         ticks: (wait.ticks + way.ticks + rest.ticks).min(FAR_TICK),
     }

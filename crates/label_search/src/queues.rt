@@ -160,8 +160,20 @@ impl Queue {
         ensures kept { (one : ℕ) → slice_index_or self.new.buckets one []
             ≡ slice_index_or self.old.buckets one [] }
     {
+        self.make_room(at)?;
         while self.buckets.len() <= at {
             self.buckets.push(Bucket::new(alloc))?;
+        }
+        Ok(())
+    }
+
+    // Makes room for the buckets up to a number at once.
+    fn make_room(&mut self, at: usize) -> Result<(), NoMemory>
+        ensures { self.new ≡ self.old }
+    {
+        let made = self.buckets.len();
+        if made <= at {
+            self.buckets.reserve((at - made).saturating_add(1))?;
         }
         Ok(())
     }

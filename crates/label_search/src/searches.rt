@@ -18,7 +18,7 @@ ghost use Rattle.label_search.specs.Search.{IsExploredTo, IsFrontOf, IsFurther, 
 ghost use Rattle.label_search.specs.Search.{IsOneOf, IsSearch, IsStarted, IsWaited, step_at};
 
 use crate::labels::{Front, Label, Labels, Origin};
-use crate::lent::{LentMove, LentPlace, LentPlan};
+use crate::lent::{FirstMove, LentMove, LentPlace, LentPlan};
 use crate::lent_limits::LentLimits;
 use crate::limits::Ahead;
 use crate::plans::{Target, Trip};
@@ -174,18 +174,21 @@ fn explore(
     if place.standing && !front.ready {
         return explore_waits(plan, book, trip, search, front);
     }
-    explore_moves(plan, book, trip, search, front)
+    explore_moves(plan, book, trip, search, front, &place)
 }
 
+// All moves at ticks of a place, in one pass over them.
 fn explore_moves(
     plan: &LentPlan,
     book: &Occupations,
     trip: &Trip,
     search: &mut Search,
     front: &Front,
+    place: &LentPlace,
 ) -> Result<(), NoMemory>
     requires plan { IsPlan plan.now book.now }
     requires front { IsFrontOf plan.now search.old front.now }
+    requires place { place.now ≡ place_of plan.now front.now.place }
     requires goes { IsTrue (place_of plan.now front.now.place).standing → front.now.ready ≡ true }
     requires search { IsSearch plan.now trip.now book.now search.old }
     ensures search { IsSearch plan.now trip.now book.now search.new }
@@ -194,9 +197,14 @@ fn explore_moves(
         → number < length (place_of plan.now front.now.place).moves
         → IsMoveExplored plan.now trip.now book.now front.now.place tick number search.new) }
 {
-    let place = place_at(plan, front.place);
-    for number in 0..place.count() {
-        explore_move(plan, book, trip, search, front, number)?;
+    let mut left = place.moves.again();
+    for number in 0..place.moves.most() {
+        let Some(parts) = left.split_first() else {
+            return Ok(());
+        };
+        let FirstMove { step, behind } = parts;
+        explore_move(plan, book, trip, search, front, number, &step)?;
+        left = behind;
     }
     Ok(())
 }
@@ -208,10 +216,12 @@ fn explore_move(
     search: &mut Search,
     front: &Front,
     number: usize,
+    step: &LentMove,
 ) -> Result<(), NoMemory>
     requires plan { IsPlan plan.now book.now }
     requires front { IsFrontOf plan.now search.old front.now }
     requires number { number < length (place_of plan.now front.now.place).moves }
+    requires step { step.now ≡ move_of plan.now front.now.place number }
     requires goes { IsTrue (place_of plan.now front.now.place).standing → front.now.ready ≡ true }
     requires search { IsSearch plan.now trip.now book.now search.old }
     ensures search { IsSearch plan.now trip.now book.now search.new }
@@ -219,10 +229,9 @@ fn explore_move(
     ensures explored { OnOk result ((tick : ℤ) → Holds front.now.ticks tick
         → IsMoveExplored plan.now trip.now book.now front.now.place tick number search.new) }
 {
-    let step = move_at(plan, front.place, number);
-    let mut rest = enters(front, plan, &search.limits, &step);
+    let mut rest = enters(front, plan, &search.limits, step);
     while let Some(free) = next_start(step.pieces(), book, &rest) {
-        reach(plan, book, trip, search, front, number, &free)?;
+        reach(plan, book, trip, search, front, number, step, &free)?;
         rest = behind(&rest, &free);
     }
     Ok(())
@@ -236,11 +245,13 @@ pub(crate) fn reach(
     search: &mut Search,
     front: &Front,
     number: usize,
+    step: &LentMove,
     free: &Window,
 ) -> Result<(), NoMemory>
     requires plan { IsPlan plan.now book.now }
     requires front { IsFrontOf plan.now search.old front.now }
     requires number { number < length (place_of plan.now front.now.place).moves }
+    requires step { step.now ≡ move_of plan.now front.now.place number }
     requires goes { IsTrue (place_of plan.now front.now.place).standing → front.now.ready ≡ true }
     requires some { free.now.from ≤ℤ free.now.to }
     requires held { (enter : ℤ) → Holds free.now enter → Holds front.now.ticks enter }
@@ -256,8 +267,7 @@ pub(crate) fn reach(
         → IsAdmitted trip.now search.new (move_of plan.now front.now.place number).target
         (leave_of plan.now front.now.place (step_at number enter))) }
 {
-    let step = move_at(plan, front.place, number);
-    let leaves = later(free, &step);
+    let leaves = later(free, step);
     match step.target() {
         Target::Place(place) => {
             let origin = Origin::Move {

@@ -93,6 +93,20 @@ pub fn seek(alloc: Global, plan: &Plan, book: &Occupations, trip: &Trip) -> Resu
     requires plan { IsPlan plan.now book.now }
     ensures { IfOk result (IsSought plan.now trip.now book.now) }
 {
-    let sought = search(alloc, plan, book, trip, no_limits(alloc))?;
+    seek_lent(alloc, &LentPlan::listed(plan), book, trip)
+}
+
+/// The same over a plan that is lent.
+pub fn seek_lent(
+    alloc: Global,
+    plan: &LentPlan,
+    book: &Occupations,
+    trip: &Trip,
+) -> Result<Sought, NoMemory>
+    requires plan { IsPlan plan.now book.now }
+    ensures { IfOk result (IsSought plan.now trip.now book.now) }
+{
+    let limits = no_limits(alloc);
+    let sought = search_lent(alloc, plan, book, trip, LentLimits::listed(&limits))?;
     Ok(sought)
 }

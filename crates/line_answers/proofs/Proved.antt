@@ -14,7 +14,6 @@ use Rattle.client_lines.specs.declared.faults.LineFault.{LineFault}
 use Rattle.client_lines.specs.declared.faults.LineFault.TheVariants as fault
 use Rattle.admission_rules.specs.Ruled.{Ruled}
 use Rattle.ask_turns.specs.history.declared.verdicts.Verdict.TheVariants as verdict
-use Rattle.ask_turns.specs.labels.Guides.{places_of}
 use Rattle.proof_texts.specs.Read.{AsksCanBeTold}
 use Rattle.rail_types.specs.declared.entries.Entry.{Entry}
 use Rattle.rail_types.specs.declared.paths.Path.{Path}
@@ -315,7 +314,7 @@ module _ (law : AsksCanBeTold) (known : Names) (timetable : Timetable) (owner : 
     shows = record {
       of = is.told (law known (fields_of bytes) line ask.number ask.request spelled sought);
       at = is.at;
-      places = places_of ask.guide;
+      places = is.places;
       passes = is.passes;
     };
     text_is = is.text_is;

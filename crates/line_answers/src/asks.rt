@@ -1,5 +1,5 @@
 //! A path that is sought: what its number stands for, and then its searches.
-ghost use Rattle.std.specs.Prelude.{◌≡◌, ◌+◌, ◌⊎◌, ◌≤◌, false, IfErr, IfOk, IfSome, IsTrue};
+ghost use Rattle.std.specs.Prelude.{◌≡◌, ◌+◌, ◌⊎◌, ◌≤◌, IfErr, IfOk, IfSome};
 ghost use Rattle.std.specs.Prelude.{ℕ, Bool, List, [], None};
 ghost use Rattle.admission_rules.specs.Ruled.{Ruled};
 ghost use Rattle.book_gate.specs.Passes.{turns_left, view};
@@ -17,7 +17,7 @@ ghost use Rattle.ask_turns.specs.Clients.{HasCopy, IsCopyOf, Knows, StaysCopyOf}
 ghost use Rattle.ask_turns.specs.Sharing.{IsShared};
 ghost use Rattle.ask_turns.specs.labels.ChartCourses.{IsChartCourse};
 ghost use Rattle.ask_turns.specs.labels.Courses.{IsCourse};
-ghost use Rattle.ask_turns.specs.labels.Guides.{IsGuide, IsListed};
+ghost use Rattle.ask_turns.specs.labels.Guides.{IsGuide};
 ghost use Rattle.ask_turns.specs.labels.TrainCharts.{IsChartOf};
 ghost use Rattle.ask_turns.specs.tails.Listed.{Refuses};
 ghost use Rattle.ask_turns.specs.Turns.{IsReached, IsReady, Looks, timetable_at};
@@ -179,7 +179,7 @@ fn seek_path<R: Wait, D: Disk, B: Between>(
     ensures held { text.new.held ≡ text.old.held }
     ensures room { HasRoomIn text.new result ⊎ AddsNothing result }
 {
-    let guide = match guide_of(alloc, shared, &mut guest.client, &request, guest.proves) {
+    let guide = match guide_of(alloc, shared, &mut guest.client, &request) {
         Ok(guide) => guide,
         Err(PlacesFault::Wide { count: _count }) => {
             return Reply::Wide {
@@ -208,14 +208,12 @@ fn guide_of<D: Disk>(
     shared: &Shared<D>,
     client: &mut Client,
     request: &Request,
-    proves: bool,
 ) -> Result<Guide, PlacesFault>
     requires shared { IsShared shared.now }
     requires request { IsRequestWithinLimits request.now }
     requires copy { HasCopy (timetable_at shared.now.gate) client.old }
     ensures guide { IfOk result (IsGuide (timetable_at shared.now.gate).net
         (timetable_at shared.now.gate).settings request.now) }
-    ensures listed { IfOk result (λ guide. IsTrue proves → IsListed guide) }
     ensures wide { IfErr result (Refuses (timetable_at shared.now.gate).net request.now) }
     ensures copy { StaysCopyOf (timetable_at shared.now.gate) client.old client.new }
     ensures name { client.new.name ≡ client.old.name }
@@ -224,36 +222,30 @@ fn guide_of<D: Disk>(
     if let Some(course) = client.take_course(request) {
         return Ok(Guide::Listed(course));
     }
-    if let Some(course) = chart_course_of(alloc, shared, client, request, proves) {
+    if let Some(course) = chart_course_of(alloc, shared, client, request) {
         return Ok(Guide::Charted(course));
     }
     let course = worked_out(alloc, shared, request)?;
     Ok(Guide::Listed(course))
 }
 
-// The course of a request over the chart of its train. None where proofs are wanted, since these
-// tell listed places; where there is no chart, or it does not bound the places of the request; and
-// where memory is wanted.
+// The course of a request over the chart of its train. None where there is no chart, or it does not
+// bound the places of the request; and where memory is wanted.
 fn chart_course_of<D: Disk>(
     alloc: Global,
     shared: &Shared<D>,
     client: &mut Client,
     request: &Request,
-    proves: bool,
 ) -> Option<ChartCourse>
     requires shared { IsShared shared.now }
     requires request { IsRequestWithinLimits request.now }
     requires copy { HasCopy (timetable_at shared.now.gate) client.old }
     ensures course { IfSome result (IsChartCourse (timetable_at shared.now.gate).net
         (timetable_at shared.now.gate).settings request.now) }
-    ensures unproved { IfSome result (λ _. proves ≡ false) }
     ensures copy { StaysCopyOf (timetable_at shared.now.gate) client.old client.new }
     ensures name { client.new.name ≡ client.old.name }
     ensures front { client.new.front ≡ client.old.front }
 {
-    if proves {
-        return None;
-    }
     let Some(chart) = chart_of(alloc, shared, client, &request.train) else {
         return None;
     };
@@ -342,7 +334,6 @@ fn search_along<R: Wait, D: Disk, B: Between>(
         (path_of ask.now.number ask.now.request) }
     requires guide { IsGuide (timetable_at shared.now.gate).net
         (timetable_at shared.now.gate).settings ask.now.request ask.now.guide }
-    requires listed { IsTrue guest.old.proves → IsListed ask.now.guide }
     requires spare { room_for 0 ≤ text.old.spare }
     ensures ready { IsReady shared.now.gate guest.new.pass }
     ensures budget { turns_left guest.old.pass ≤ turns_left guest.new.pass + 3 }

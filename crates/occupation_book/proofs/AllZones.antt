@@ -20,9 +20,6 @@ use Rattle.occupation_book.proofs.Pairs.{all_pairs_nil, all_pairs_append, all_pa
 pub at_zone : (book : List Zone) (number : ℕ) (zone : Zone) → number < length book → zone ≡ get_or book number zone → zone ≡ zone_at book number
 at_zone book number zone within read = read ∙ get_or_default book number zone _ within
 
-pub claims_at : (book : List Zone) (number : ℕ) (zone : Zone) (claims : List HeldClaim) → number < length book → zone ≡ get_or book number zone → claims ≡ zone.claims → claims ≡ (zone_at book number).claims
-claims_at book number zone claims within read same = same ∙ ap (λ one. one.claims) (at_zone book number zone within read)
-
 -- what holds of the claims of each zone holds of all
 pub all_held : (P : HeldClaim → Type 0) (book : List Zone) → ((number : ℕ) → number < length book → All P (zone_at book number).claims) → All P (held book)
 all_held P [] each = All-nil P

@@ -2,7 +2,6 @@
 use Rattle.std.proofs.Common.{◌≡◌, ℕ, ◌<◌, ◌≤◌, ◌<ℤ◌, ◌≤ℤ◌, ℤ, int_le, true, false, zero, suc, List, [], ◌∷◌, length, get_or, sym, subst, inl, inr, refl, arith}
 use borrow.Author.Differences.{le-true, le-false}
 use Rattle.std.specs.List.{AllWithin}
-use Rattle.std.specs.List.Sorted.{IsPartitionedBy}
 use Rattle.std.proofs.lemmas.Bool.{cases_order, cases_Bool}
 use Rattle.std.proofs.lemmas.Int.{by_lt_z, ints}
 use Rattle.rail_types.specs.declared.paths.Claim.{Claim}
@@ -17,20 +16,10 @@ ended a b test = let fact = le-true a b test in omega (arith, ints)
 pub not_ended : (a b : ℤ) → int_le a b ≡ false → b <ℤ a
 not_ended a b test = let fact = le-false a b test in omega (arith, ints)
 
-le_true_below : (a b c : ℤ) → a ≤ℤ b → int_le b c ≡ true → int_le a c ≡ true
+pub le_true_below : (a b c : ℤ) → a ≤ℤ b → int_le b c ≡ true → int_le a c ≡ true
 le_true_below a b c le test = elim (cases_Bool (int_le a c)) [
   | inl passes ↦ passes
   | inr fails ↦ let above = not_ended a c fails in let below = ended b c test in absurd (omega (arith, ints))
-]
-
--- claims in order are parted by whether they have ended at a tick
-pub ends_by_tick : (number : ℕ) (claims : List HeldClaim) (tick : ℤ) → AreInOrder number claims → IsPartitionedBy (λ one. int_le one.0.span.to tick) claims
-ends_by_tick number claims tick order i j other le within test = elim (cases_order i j) [
-  | inl same ↦ subst (λ q. int_le (get_or claims q other).0.span.to tick ≡ true) (sym same) test
-  | inr apart ↦ elim apart [
-    | inl before ↦ le_true_below _ _ tick (let ends = order.sorted i j other before within in let lasts = order.ticks j other within in omega (arith, ints)) test
-    | inr behind ↦ absurd (omega arith)
-  ]
 ]
 
 module _ (claims : List HeldClaim) (claim : Claim) (at : ℕ) (order : AreInOrder claim.zone claims) (before : AllWithin (λ one. one.0.span.to ≤ℤ claim.span.from) claims 0 at) (after : AllWithin (λ one. claim.span.from <ℤ one.0.span.to) claims at (length claims)) where

@@ -1,5 +1,6 @@
 mod Pairs
 mod Clashes
+mod Columns
 mod Orders
 mod AllZones
 mod Removals

@@ -12,7 +12,7 @@ ghost use Rattle.occupation_book.specs.Held.{AreInOrder, AreNear, AreOnZonesOf, 
 ghost use Rattle.occupation_book.specs.Held.{claims_of, claims_of_others, HasEndedBefore, held};
 ghost use Rattle.occupation_book.specs.Held.{IsBook, IsFree, IsWithout, zone_at};
 
-use crate::zones::{ZoneClaims, first_clashing_of};
+use crate::zones::ZoneClaims;
 use no_memory::NoMemory;
 use rail_types::{Claim, Owner, first_clashes_are_first};
 use std::alloc::Global;
@@ -88,21 +88,21 @@ impl Occupations {
         // This law shows that the first of the zone is the first of all.
         first_clashes_are_first();
         let claims = &self.zones[claim.zone as usize];
-        first_clashing_of(claims.as_slice(), claim)
+        claims.first_clashing(claim)
     }
 
     /// The claims on a zone with their owners, sorted by begin.
-    pub fn of_zone(&self, zone: u32) -> &[(Claim, Owner)]
+    pub fn of_zone(&self, zone: u32) -> &ZoneClaims
         requires { zone < length self.now }
-        ensures claims { result.now ≡ (zone_at self.now zone).claims }
-        ensures order { AreInOrder zone result.now }
-        ensures among { All (Contains (held self.now)) result.now }
-        ensures all { All (λ one. one.0.zone ≡ zone → Contains result.now one) (held self.now) }
+        ensures claims { result.now.claims ≡ (zone_at self.now zone).claims }
+        ensures order { AreInOrder zone result.now.claims }
+        ensures among { All (Contains (held self.now)) result.now.claims }
+        ensures all { All (λ one. one.0.zone ≡ zone → Contains result.now.claims one)
+            (held self.now) }
         ensures free { (claim : claim_type) → claim.zone ≡ zone
-            → IsFree result.now claim ↔ IsFree (held self.now) claim }
+            → IsFree result.now.claims claim ↔ IsFree (held self.now) claim }
     {
-        let claims = &self.zones[zone as usize];
-        claims.as_slice()
+        &self.zones[zone as usize]
     }
 
     /// Makes room for `n` more claims on a zone. The claims stay; where
@@ -194,7 +194,7 @@ impl Occupations {
     {
         let mut all = Vec::new(alloc);
         for zone in &self.zones {
-            all.extend_from_slice(zone.as_slice())?;
+            zone.append_to(&mut all)?;
         }
         Ok(all)
     }

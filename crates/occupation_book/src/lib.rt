@@ -5,3 +5,4 @@ mod books;
 mod zones;
 
 pub use books::Occupations;
+pub use zones::ZoneClaims;

@@ -19,38 +19,42 @@ use occupation_book::Occupations;
 use rail_types::{Claim, Entry};
 use std::alloc::Global;
 
-// The claims of an entry that is fresh, or what it is told.
+// Whether an entry is fresh that has these claims, or what it is told.
 pub(crate) fn judge(
     alloc: Global,
     history: &History,
     book: &Occupations,
     entry: &Entry,
+    claims: &[Claim],
     searched: u64,
-) -> Result<Vec<Claim>, Committed>
+) -> Result<(), Committed>
     requires range { IsInRange history.now.timetable entry.now }
+    requires claims { breaks history.now.timetable entry.now.deed ≡ None →
+        claims.now ≡ claims_of_deed history.now.timetable entry.now.deed }
     requires zones { length book.now ≡ history.now.timetable.net.zones }
     requires live { AreLive history.now.timetable (held book.now) history.now.entries }
     ensures fresh { OnOk result
         (verdict_on history.now.timetable history.now.entries entry.now ≡ Fresh) }
-    ensures claims { IfOk result (λ claims.
-        claims.items ≡ claims_of_deed history.now.timetable entry.now.deed) }
+    ensures claims { OnOk result
+        (claims.now ≡ claims_of_deed history.now.timetable entry.now.deed) }
     ensures told { IfErr result
         (IsTold history.now.timetable history.now.entries entry.now searched) }
     ensures refusal { IfErr result IsRefusal }
 {
     verdicts_say_what_they_mean();
-    let Ok(claims) = claims_of(alloc, history, entry) else {
-        return Err(Committed::Memory);
-    };
-    match history.judge_by(book, entry, &claims) {
-        Ok(Verdict::Fresh) => Ok(claims),
-        Ok(verdict) => Err(refusal(alloc, history, entry, &claims, verdict, searched)),
+    match history.judge_by(book, entry, claims) {
+        Ok(Verdict::Fresh) => Ok(()),
+        Ok(verdict) => Err(refusal(alloc, history, entry, claims, verdict, searched)),
         Err(NoMemory) => Err(Committed::Memory),
     }
 }
 
 // The claims of an entry's deed, where its path breaks no rule.
-fn claims_of(alloc: Global, history: &History, entry: &Entry) -> Result<Vec<Claim>, NoMemory>
+pub(crate) fn claims_of(
+    alloc: Global,
+    history: &History,
+    entry: &Entry,
+) -> Result<Vec<Claim>, NoMemory>
     requires { IsInRange history.now.timetable entry.now }
     ensures { IfOk result (λ claims. breaks history.now.timetable entry.now.deed ≡ None →
         claims.items ≡ claims_of_deed history.now.timetable entry.now.deed) }

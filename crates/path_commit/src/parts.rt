@@ -1,10 +1,12 @@
 //! The parts of a book, and how an entry comes to them.
 
-ghost use Rattle.std.specs.Prelude.{◌≡◌, ◌+◌, ◌<◌, ◌≤◌, ◌↔◌, ℕ, IfErr, IfOk, IsTrue, length};
+ghost use Rattle.std.specs.Prelude.{◌≡◌, ◌+◌, ◌<◌, ◌≤◌, ◌↔◌, ℕ, IfErr, IfOk, IsTrue, None};
+ghost use Rattle.std.specs.Prelude.{length};
 ghost use Rattle.rail_types.specs.Limits.{IsEntryWithinLimits};
 ghost use Rattle.grant_journal.specs.Causes.{HasSettleCause};
 ghost use Rattle.grant_log.specs.Legal.{IsInRange, Joins};
-ghost use Rattle.grant_log.specs.Live.{claims_of};
+ghost use Rattle.grant_log.specs.Live.{claims_of as claims_of_deed};
+ghost use Rattle.grant_log.specs.Verdict.{breaks};
 ghost use Rattle.grant_journal.specs.Keeping.{Left};
 ghost use Rattle.grant_journal.specs.Timed.{settled_of};
 ghost use Rattle.path_commit.specs.Answers.{bytes_with, Commits, HasCommitCause, IsBeforeOrAfter};
@@ -14,7 +16,7 @@ ghost use Rattle.path_commit.specs.Inside.{AreOne, IsBegun, IsReady, IsToldBy, l
 ghost use Rattle.path_commit.specs.Ledgers.{IsPrefixOf, settled_of as settled_in};
 
 use crate::answers::Committed;
-use crate::judging::judge;
+use crate::judging::{claims_of, judge};
 use entry_codec::body_len;
 use grant_journal::journal_moments::TimedJournal;
 use grant_journal::journal_text::{bytes_are_counted, record};
@@ -24,7 +26,7 @@ use grant_log::{History, live_claims_follow};
 use no_memory::NoMemory;
 use occupation_book::Occupations;
 use outside_io::Disk;
-use rail_types::{Claim, Entry, List};
+use rail_types::{Claim, Deed, Entry, List};
 use std::alloc::Global;
 
 /// The digests of the network's file and of the base timetable's, the history, the claims that are
@@ -66,11 +68,44 @@ impl<D: Disk> Parts<D> {
             (IsTold self.old.history.timetable self.old.history.entries entry.now searched) }
         ensures refusal { IfErr result IsRefusal }
     {
-        let claims = judge(alloc, &self.history, &self.claims, entry, searched)?;
+        // The claims of a hold stand in its deed, so that none are worked out.
+        if let Deed::Hold(claims, _) = &entry.deed {
+            return self.prepare_with(alloc, entry, claims.as_slice(), searched);
+        }
+        let Ok(claims) = claims_of(alloc, &self.history, entry) else {
+            return Err(Committed::Memory);
+        };
+        self.prepare_with(alloc, entry, &claims, searched)
+    }
+
+    // The same for an entry with these claims, which matter only where its path breaks no rule.
+    fn prepare_with(
+        &mut self,
+        alloc: Global,
+        entry: &Entry,
+        claims: &[Claim],
+        searched: u64,
+    ) -> Result<Ready, Committed>
+        requires one { AreOne D.Disk self.old.network self.old.base self.old.history
+            self.old.claims self.old.journal }
+        requires range { IsInRange self.old.history.timetable entry.now }
+        requires claims { breaks self.old.history.timetable entry.now.deed ≡ None →
+            claims.now ≡ claims_of_deed self.old.history.timetable entry.now.deed }
+        ensures one { AreOne D.Disk self.new.network self.new.base self.new.history
+            self.new.claims self.new.journal }
+        ensures same { ledger_of self.new.network self.new.base self.new.history self.new.journal
+            ≡ ledger_of self.old.network self.old.base self.old.history self.old.journal }
+        ensures ready { IfOk result
+            (IsReady self.new.history self.new.claims self.new.journal entry.now) }
+        ensures told { IfErr result
+            (IsTold self.old.history.timetable self.old.history.entries entry.now searched) }
+        ensures refusal { IfErr result IsRefusal }
+    {
+        judge(alloc, &self.history, &self.claims, entry, claims, searched)?;
         if !self.has_room(entry) {
             return Err(Committed::Full);
         }
-        match self.make_room(alloc, entry, &claims) {
+        match self.make_room(alloc, entry, claims) {
             Ok(ready) => Ok(ready),
             Err(NoMemory) => Err(Committed::Memory),
         }
@@ -99,7 +134,8 @@ impl<D: Disk> Parts<D> {
         requires one { AreOne D.Disk self.old.network self.old.base self.old.history
             self.old.claims self.old.journal }
         requires joins { Joins self.old.history.timetable self.old.history.entries entry.now }
-        requires claims { claims.now ≡ claims_of self.old.history.timetable entry.now.deed }
+        requires claims { claims.now ≡
+            claims_of_deed self.old.history.timetable entry.now.deed }
         requires room { bytes_with self.old.history.entries entry.now
             ≤ self.old.history.timetable.settings.journal_bytes }
         ensures one { AreOne D.Disk self.new.network self.new.base self.new.history

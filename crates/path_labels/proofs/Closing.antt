@@ -4,7 +4,7 @@ use Rattle.std.specs.Prelude.{IsTrue, slice_get}
 use Rattle.std.proofs.lemmas.Int.{ints}
 use Rattle.std.proofs.lemmas.List.{get_or-map, get_or_default, length-map}
 use Rattle.std.proofs.lemmas.List.Elements.{All-nil, All-append}
-use Rattle.std.proofs.lemmas.Option.{slice_get_within, slice_get-get_or, get_or_from_slice_get}
+use Rattle.std.proofs.lemmas.Option.{slice_get-get_or, get_or_from_slice_get}
 use Rattle.rail_types.specs.declared.tracks.Network.{Network}
 use Rattle.rail_types.specs.declared.trains.Request.{Request}
 use Rattle.rail_types.specs.declared.entries.Settings.{Settings}
@@ -19,7 +19,7 @@ use Rattle.stair_pieces.specs.Moves.{IsEnd, IsPlace}
 use Rattle.tail_states.specs.declared.moves.Next.TheVariants.{End as Ends}
 use Rattle.tail_states.specs.Alike.{WindowsChangeNoPlaces}
 use Rattle.tail_states.specs.Closing.{GoesOn, IsAdmitted, IsClosed, IsFreeMove, IsHeld, leaves_at}
-use Rattle.tail_states.specs.Listed.{AreThePlaces, Listed}
+use Rattle.tail_states.specs.Listed.{Listed}
 use Rattle.label_search.specs.declared.plans.Target.TheVariants.{End}
 use Rattle.label_search.specs.declared.plans.Plan.{Plan}
 use Rattle.label_search.specs.declared.plans.Move.{Move as PlannedMove}
@@ -33,9 +33,10 @@ use Rattle.label_search.specs.Paths.{Enters, MoveFits, WaitFits, leave_of, move_
 use Rattle.label_search.specs.Closed.{Admits, before as trip_before, IsClosed as IsClosedPlan, IsFreeMove as IsFreePlannedMove, IsHeld as IsHeldThere}
 use Rattle.path_labels.specs.Plans.{dwell_at, dwell_of, kept_behind, target_of as target_in, ticks_of_step}
 use Rattle.path_labels.specs.Answers.{before, claims_held}
-use Rattle.path_labels.specs.Joining.{AreClosedAlike, IsPlannedFrom, IsBehindTheStart, member_in, members_in, move_of, moves_of, trip_of}
+use Rattle.path_labels.specs.Joining.{AreClosedAlike, AreLedTo, IsPlannedFrom, member_in, members_in, move_of, moves_of, trip_of}
 use Rattle.path_labels.proofs.Alike.{planned_alike}
 use Rattle.path_labels.proofs.Fitting.{AreFreeOver, later_fits, moved_of_over, over_at, over_of_kept}
+use Rattle.path_labels.proofs.Leading.{reached_at}
 use Rattle.path_labels.proofs.Standing.{IsAt, IsMoveAs, at_listed, at_start, ends_by, goes_to, leaves_alike, move_is, numbered, stands_at_a_stop}
 
 module _ (net : Network) (settings : Settings) (request : Request) (listed : Listed) (plan : Plan) (all : IsPlannedFrom net settings request listed plan) (book : Book) where
@@ -102,21 +103,24 @@ module _ (net : Network) (settings : Settings) (request : Request) (listed : Lis
 
   pub record IsHeldAt (members : List PlannedMember) (place : Place) (tick : ℤ) (n : ℕ) : Type 0 where
     pub at : slice_get listed.members n ≡ Some place
+    pub among : IsPlace net request place
     pub there : IsHeldThere members (n + 1) tick
 
-  pub held_from : (members : List PlannedMember) → All (IsBehindTheStart listed.members) members → (place : Place) (tick : ℤ) → IsHeld (members_in listed.members members) place tick → (n : ℕ) × IsHeldAt members place tick n
-  held_from members behind place tick held =
+  pub held_from : (members : List PlannedMember) → AreLedTo plan members → (place : Place) (tick : ℤ) → IsHeld (members_in listed.members members) place tick → (n : ℕ) × IsHeldAt members place tick n
+  held_from members led place tick held =
       let i = held.0 in let told = held.1 in let same = held.3 in let is = held.4 in
       let within : i < length members = subst (λ m. i < m) (length-map members (member_in listed.members)) held.2 in
       let d : PlannedMember = record { place = 0; window = told.window } in
       let one = get_or members i d in
       let told_is : member_in listed.members one ≡ told = sym (get_or-map (member_in listed.members) members i d told within) ∙ same in
-      let low = (behind i d within).0 in let high = (behind i d within).1 in
+      let reached = reached_at net settings request listed plan all one.place (led i d within) in
+      let low = reached.behind.0 in let high = reached.behind.1 in
       let inside : one.place - 1 < length listed.members = omega (arith, low, high) in
       let there : get_or listed.members (one.place - 1) start_place ≡ place = ap (λ m. m.place) told_is ∙ is.0 in (
         one.place - 1,
         record {
           at = slice_get-get_or listed.members (one.place - 1) start_place inside ∙ ap Some there;
+          among = subst (IsPlace net request) (sym reached.member ∙ there) reached.among;
           there = (i, one, within, default_of i d within, (omega (arith, low), subst (λ (w : Window). Holds w tick) (sym (ap (λ m. m.window) told_is)) is.1));
         },
       )
@@ -171,29 +175,24 @@ module _ (net : Network) (settings : Settings) (request : Request) (listed : Lis
         admitted_as free allows its.0 its.1
 
   -- members that are closed for the plan, in the windows of the request
-  module _ (places : AreThePlaces net request listed.members) (trip : Trip) (depart : trip.depart ≡ request.depart) (arrive : trip.arrive ≡ request.arrive) (members : List PlannedMember) (behind : All (IsBehindTheStart listed.members) members) (closed : IsClosedPlan plan trip book members) where
+  module _ (trip : Trip) (depart : trip.depart ≡ request.depart) (arrive : trip.arrive ≡ request.arrive) (members : List PlannedMember) (led : AreLedTo plan members) (closed : IsClosedPlan plan trip book members) where
     pub closed_there : IsClosed net settings request (claims_held book) (members_in listed.members members)
     closed_there = record {
       start = λ step enter inside free below. admitted trip arrive members 0 start_place (at_start net settings request listed plan all) step enter free
           (λ k one. closed.start (record { number = k; enter = enter }) (subst (λ (w : Window). Holds w enter) (sym depart) inside) one);
-      moves = λ place step tick enter is_held on free below. (let at = held_from members behind place tick is_held in
+      moves = λ place step tick enter is_held on free below. (let at = held_from members led place tick is_held in
           let is = at_listed net settings request listed plan all at.0 place at.1.at in
-          let among : IsPlace net request place = subst (IsPlace net request) (get_or_from_slice_get listed.members at.0 place place at.1.at) (places.sound at.0 place (slice_get_within listed.members at.0 place at.1.at)) in
           admitted trip arrive members (at.0 + 1) place is step enter free
-          (λ k one. closed.moves (at.0 + 1) tick (record { number = k; enter = enter }) at.1.there (enters_there (at.0 + 1) place is among tick enter on) (wait_fits (at.0 + 1) place is tick enter on) one));
+          (λ k one. closed.moves (at.0 + 1) tick (record { number = k; enter = enter }) at.1.there (enters_there (at.0 + 1) place is at.1.among tick enter on) (wait_fits (at.0 + 1) place is tick enter on) one));
     }
 
--- a request with another window of arrival has the same places, and is planned alike
-pub places_before : WindowsChangeNoPlaces → (net : Network) (request : Request) (listed : Listed) (tick : ℤ) → AreThePlaces net request listed.members → AreThePlaces net (before request tick) listed.members
-places_before windows net request listed tick places =
-    (windows net request (before request tick) (record { train = refl; origin = refl; destination = refl; stops = refl })).places listed.members places
-
+-- a request with another window of arrival is planned alike
 pub planned_before : WindowsChangeNoPlaces → (net : Network) (settings : Settings) (request : Request) (listed : Listed) (plan : Plan) (tick : ℤ) → IsPlannedFrom net settings request listed plan → IsPlannedFrom net settings (before request tick) listed plan
 planned_before windows net settings request listed plan tick all =
     planned_alike windows net settings request (before request tick) listed plan (record { train = refl; origin = refl; destination = refl; stops = refl }) all
 
-pub closed_alike : WindowsChangeNoPlaces → (net : Network) (settings : Settings) (request : Request) (listed : Listed) (plan : Plan) (book : Book) (members : List PlannedMember) → AreThePlaces net request listed.members → IsPlannedFrom net settings request listed plan → All (IsBehindTheStart listed.members) members → AreClosedAlike net settings request listed plan book members
-closed_alike alike net settings request listed plan book members places all behind = record {
-  all = λ closed. closed_there net settings request listed plan all book places (trip_of request) refl refl members behind closed;
-  earlier = λ tick closed. closed_there net settings (before request tick) listed plan (planned_before alike net settings request listed plan tick all) book (places_before alike net request listed tick places) (trip_before (trip_of request) tick) refl refl members behind closed;
+pub closed_alike : WindowsChangeNoPlaces → (net : Network) (settings : Settings) (request : Request) (listed : Listed) (plan : Plan) (book : Book) (members : List PlannedMember) → IsPlannedFrom net settings request listed plan → AreLedTo plan members → AreClosedAlike net settings request listed plan book members
+closed_alike alike net settings request listed plan book members all led = record {
+  all = λ closed. closed_there net settings request listed plan all book (trip_of request) refl refl members led closed;
+  earlier = λ tick closed. closed_there net settings (before request tick) listed plan (planned_before alike net settings request listed plan tick all) book (trip_before (trip_of request) tick) refl refl members led closed;
 }

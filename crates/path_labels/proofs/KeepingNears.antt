@@ -2,14 +2,23 @@
 use Rattle.std.proofs.Common.{◌≡◌, ◌∙◌, Bor, refl, inl, inr, sym, ap, subst, arith, ℕ, ◌+◌, ◌-◌, ◌<◌, ◌≤◌, List, [], ◌∷◌, ◌++◌, length, map, get_or, drop, All, append-nil, append_assoc, length-append}
 use Rattle.std.proofs.lemmas.Bool.{cases_lt}
 use Rattle.std.proofs.lemmas.List.{get_or_append_left, get_or_default, get_or_push, length-map, get_or-map}
+use Rattle.std.proofs.lemmas.List.Elements.{All-get_or}
 use Rattle.label_search.specs.declared.charts.ChartCall.{ChartCall}
 use Rattle.label_search.specs.declared.charts.ChartSpot.{ChartSpot}
 use Rattle.label_search.specs.declared.nearing.Near.{Near}
 use Rattle.label_search.specs.Charts.{call_at}
+use Rattle.label_search.specs.Endings.{last_call, spots_before}
 use Rattle.label_search.specs.Nearing.{AreNears, IsNearTo, near_at}
 use Rattle.path_labels.specs.declared.kept_nears.KeptNear.{KeptNear}
 use Rattle.path_labels.specs.declared.kept_nears.TheConstants.{MAX_NEARS}
 use Rattle.path_labels.specs.KeptNears.{AreNearAt, GoOn, IsLonger, IsNearAt, IsNearKept, PutsNear, kept_at, near_kept}
+
+abbrev none_kept : KeptNear
+none_kept = record { blocks = []; near = record { ticks = []; behind = [] }; lasts = [] }
+
+-- what is kept at the number of a call
+kept_there : (spots : List ChartSpot) (kept : List KeptNear) (blocks : List ℕ) (number : ℕ) → All (IsNearKept spots) kept → IsNearAt kept blocks number → IsNearKept spots (kept_at kept number)
+kept_there spots kept blocks number all at = All-get_or (IsNearKept spots) kept number none_kept at.within all
 
 -- ---- one is put behind the others
 
@@ -113,8 +122,22 @@ near_calls spots kept calls numbers nears same all at = subst (AreNears spots ca
     each made within =
         let there = at.each made within in
         let number = get_or numbers made 0 in
-        let is : IsNearTo spots (kept_at kept number).blocks (near_kept kept number) = all number _ there.within in
+        let is : IsNearTo spots (kept_at kept number).blocks (near_kept kept number) = (kept_there spots kept (call_at calls made).blocks number all there).near_is in
         let inside : made < length numbers = let count = at.count in omega (arith, count, within) in
         let here : near_at (map (near_kept kept) numbers) made ≡ near_kept kept number = get_or-map (near_kept kept) numbers made _ _ inside in
         subst (IsNearTo spots (call_at calls made).blocks) (sym here)
         (subst (λ (blocks : List ℕ). IsNearTo spots blocks (near_kept kept number)) there.blocks_are is)
+
+-- the spots from which a way leads to a call that stands there
+pub lasts_there : (spots : List ChartSpot) (kept : List KeptNear) (blocks : List ℕ) (number : ℕ) → All (IsNearKept spots) kept → IsNearAt kept blocks number
+    → (kept_at kept number).lasts ≡ spots_before blocks spots
+lasts_there spots kept blocks number all at =
+    (kept_there spots kept blocks number all at).lasts_are ∙ ap (λ (ends : List ℕ). spots_before ends spots) at.blocks_are
+
+-- the last call stands at the last number
+pub last_there : (kept : List KeptNear) (calls : List ChartCall) (numbers read : List ℕ) (number : ℕ) → AreNearAt kept calls numbers → 0 < length calls → read ≡ numbers
+    → number ≡ get_or read (length read - 1) 0 → IsNearAt kept (last_call calls).blocks number
+last_there kept calls numbers read number are called same is =
+    let long : length calls - 1 ≡ length read - 1 = ap (λ (n : ℕ). n - 1) (sym (ap length same ∙ are.count)) in
+    let there : get_or numbers (length calls - 1) 0 ≡ number = ap (λ (n : ℕ). get_or numbers n 0) long ∙ (ap (λ (all : List ℕ). get_or all (length read - 1) 0) (sym same) ∙ sym is) in
+    subst (IsNearAt kept (last_call calls).blocks) there (are.each (length calls - 1) (omega (arith, called)))

@@ -1,5 +1,6 @@
 pub mod Fitting
 pub mod Standing
+pub mod Leading
 pub mod Alike
 pub mod Closing
 pub mod Granting
@@ -20,4 +21,6 @@ pub mod Calling
 pub mod Product
 pub mod Alongside
 pub mod Walking
+pub mod Reached
+pub mod Reaching
 pub use Rattle.running_time.proofs as running_lemmas

@@ -1,9 +1,7 @@
 -- What is told of a plan that was searched.
-use Rattle.std.proofs.Common.{◌≡◌, ◌∙◌, inl, inr, sym, ap, subst, ℕ, zero, suc, ◌+◌, ◌-◌, ◌<◌, ℤ, ◌≤ℤ◌, List, [], ◌∷◌, length, get_or, All, Some, arith}
-use Rattle.std.proofs.lemmas.Bool.{cases_lt}
-use Rattle.std.proofs.Math.ListN.{get_or-eq_default}
+use Rattle.std.proofs.Common.{◌≡◌, ◌∙◌, sym, ap, subst, ℕ, zero, suc, ◌+◌, ◌<◌, ℤ, ◌≤ℤ◌, List, [], ◌∷◌, length, get_or, All, Some, arith}
 use Rattle.std.proofs.lemmas.List.Elements.{All-nil, All-append, All-map}
-use Rattle.std.proofs.lemmas.Option.{slice_get_within, slice_get-get_or}
+use Rattle.std.proofs.lemmas.Option.{slice_get-get_or}
 use Rattle.rail_types.specs.declared.tracks.Network.{Network}
 use Rattle.rail_types.specs.declared.trains.Request.{Request}
 use Rattle.rail_types.specs.declared.entries.Settings.{Settings}
@@ -14,11 +12,12 @@ use Rattle.occupation_book.specs.Zones.{Zone}
 use Rattle.occupation_book.specs.Held.{IsBook, held, zone_at}
 use Rattle.blocking_time.specs.Possible.{IsPossible}
 use Rattle.stair_pieces.specs.declared.places.Place.{Place}
+use Rattle.stair_pieces.specs.Moves.{IsPlace}
 use Rattle.stair_pieces.specs.Places.{start_place}
 use Rattle.tail_states.specs.declared.certificates.Closed.{Closed}
 use Rattle.tail_states.specs.Alike.{WindowsChangeNoPlaces}
 use Rattle.tail_states.specs.Closing.{IsClosed}
-use Rattle.tail_states.specs.Listed.{AreThePlaces, Listed}
+use Rattle.tail_states.specs.Listed.{Listed}
 use Rattle.label_search.specs.declared.plans.Target.{Target}
 use Rattle.label_search.specs.declared.plans.Target.TheVariants.{Place as To, End}
 use Rattle.label_search.specs.declared.plans.Plan.{Plan}
@@ -26,16 +25,17 @@ use Rattle.label_search.specs.declared.plans.Trip.{Trip}
 use Rattle.label_search.specs.declared.plans.Step.{Step as PlannedStep}
 use Rattle.label_search.specs.declared.plans.Member.{Member as PlannedMember}
 use Rattle.label_search.specs.Free.{Book}
-use Rattle.label_search.specs.Closed.{IsLedTo, IsMemberOf as IsPlannedMember}
+use Rattle.label_search.specs.Closed.{IsMemberOf as IsPlannedMember}
 use Rattle.label_search.specs.Found.{IsLeast}
 use Rattle.label_search.specs.Paths.{IsPath, IsRest, Possible, arrival, leave_of, place_at, target_of}
 use Rattle.label_search.specs.Sought.{IsFound, IsNone}
 use Rattle.path_labels.specs.Searched.{IsPlannedOver}
 use Rattle.path_labels.specs.Answers.{IsAnswer, IsEarliest, IsFinding, IsMemberOf, before, claims_held, last_leave}
 use Rattle.path_labels.specs.declared.answers.Sought.TheVariants.{Found, NoPath}
-use Rattle.path_labels.specs.Joining.{ArePlannedMoves, AreSteps, ClosedPlansAreClosed, GrantedPathsArePlanned, HoldsTicks, IsBehindTheStart, IsPlannedFrom, PlannedPathsAreGranted, member_in, members_in, moves_of, path_in, trip_of}
-use Rattle.path_labels.proofs.Closing.{places_before, planned_before}
-use Rattle.path_labels.proofs.Standing.{IsAt, at_listed, at_start, count_is, leads_on}
+use Rattle.path_labels.specs.Joining.{AreLedTo, ArePlannedMoves, AreSteps, ClosedPlansAreClosed, GrantedPathsArePlanned, HoldsTicks, IsBehindTheStart, IsPlannedFrom, PlannedPathsAreGranted, member_in, members_in, moves_of, path_in, trip_of}
+use Rattle.path_labels.proofs.Closing.{planned_before}
+use Rattle.path_labels.proofs.Leading.{reached_at}
+use Rattle.path_labels.proofs.Standing.{IsAt, at_listed, at_start, count_is}
 
 -- the claims of a book have ticks
 held_all : (P : HeldClaim → Type 0) (book : List Zone) → ((number : ℕ) → number < length book → All P (zone_at book number).claims) → All P (held book)
@@ -73,33 +73,24 @@ module _ (net : Network) (settings : Settings) (request : Request) (listed : Lis
     moves = λ number less. (let at = at_number number less in sym (count_is net settings request listed plan all number at.0 at.1));
   }
 
-  -- a place that a move of the plan leads to is a listed one
-  led_to_listed : (place : ℕ) → IsLedTo plan place → (n : ℕ) × ((place ≡ n + 1) × (n < length listed.members))
-  led_to_listed place (from, number, less, target) =
-      let at = at_number from less in
-      elim (cases_lt number (length (moves_of listed from))) [
-        | inl within ↦ (let leads = leads_on net settings request listed plan all from at.0 at.1 number within place target in (leads.listed_number.0, (leads.listed_number.1, slice_get_within listed.members leads.listed_number.0 _ leads.listed_number.2)))
-        | inr past ↦ absurd (let none : End ≡ To place = sym (ap (λ (m : _). m.target) (get_or-eq_default (place_at plan from).moves _ (omega (arith, past, count_is net settings request listed plan all from at.0 at.1)))) ∙ target in cc)
-      ]
-
+  -- the members of a search are at listed places, which are places of the request
   pub members_behind : (members : List PlannedMember) → All (IsPlannedMember plan) members → All (IsBehindTheStart listed.members) members
-  members_behind members within k d inside =
-      let to = led_to_listed (get_or members k d).place (within k d inside).place in
-      let same = to.1.0 in let less = to.1.1 in
-      (omega (arith, same), omega (arith, same, less))
+  members_behind members within k d inside = (reached_at net settings request listed plan all (get_or members k d).place (within k d inside).place).behind
 
-  told_member : AreThePlaces net request listed.members → (member : PlannedMember) → IsPlannedMember plan member → IsMemberOf net settings request (member_in listed.members member)
-  told_member places member is =
-      let to = led_to_listed member.place is.place in
-      let same = to.1.0 in let less = to.1.1 in
+  told_member : (member : PlannedMember) → IsPlannedMember plan member → IsMemberOf net settings request (member_in listed.members member)
+  told_member member is =
+      let reached = reached_at net settings request listed plan all member.place is.place in
       record {
-        place = places.sound (member.place - 1) start_place (omega (arith, same, less));
+        place = subst (IsPlace net request) (sym reached.member) reached.among;
         some = is.some;
         ticks = (is.ticks.0, subst (λ most. member.window.to ≤ℤ most) all.planned.horizon is.ticks.1);
       }
 
-  pub told_members : AreThePlaces net request listed.members → (members : List PlannedMember) → All (IsPlannedMember plan) members → All (IsMemberOf net settings request) (members_in listed.members members)
-  told_members places members within = All-map (IsMemberOf net settings request) (member_in listed.members) members (λ k d inside. told_member places (get_or members k d) (within k d inside))
+  pub told_members : (members : List PlannedMember) → All (IsPlannedMember plan) members → All (IsMemberOf net settings request) (members_in listed.members members)
+  told_members members within = All-map (IsMemberOf net settings request) (member_in listed.members) members (λ k d inside. told_member (get_or members k d) (within k d inside))
+
+members_led : (plan : Plan) (members : List PlannedMember) → All (IsPlannedMember plan) members → AreLedTo plan members
+members_led plan members within k d inside = (within k d inside).place
 
 module _ (granted : PlannedPathsAreGranted) (planned : GrantedPathsArePlanned) (net : Network) (settings : Settings) (request : Request) (listed : Listed) (plan : Plan) (all : IsPlannedOver net settings request listed plan) (book : Book) (ticks : HoldsTicks book) where
   planned_from : IsPlannedFrom net settings request listed plan
@@ -121,29 +112,29 @@ module _ (granted : PlannedPathsAreGranted) (planned : GrantedPathsArePlanned) (
   pub found_told : (steps : List PlannedStep) (path : Path) → path ≡ path_in request listed plan steps → IsLeast plan (trip_of request) book steps → IsFinding net settings (claims_held book) request (Some path)
   found_told steps path same least = subst (IsEarliest net settings (claims_held book) request) (sym same) (earliest steps least)
 
-  module _ (places : AreThePlaces net request listed.members) (closed : ClosedPlansAreClosed) (windows : WindowsChangeNoPlaces) (members : List PlannedMember) (proof : Closed) (told : proof.members ≡ members_in listed.members members) where
+  module _ (closed : ClosedPlansAreClosed) (windows : WindowsChangeNoPlaces) (members : List PlannedMember) (proof : Closed) (told : proof.members ≡ members_in listed.members members) where
     pub found_answer : (steps : List PlannedStep) (path : Path) → path ≡ path_in request listed plan steps → IsFound plan (trip_of request) book steps members → IsAnswer net settings (claims_held book) request (Found path proof)
     found_answer steps path same found =
         let least : IsLeast plan (trip_of request) book steps = record { path = found.path; fits = found.fits; least = found.least } in
         let made = granted net settings request listed plan book steps all ticks found.path found.fits in
         let leave : arrival plan steps ≡ last_leave path = sym made.leaves ∙ ap last_leave (sym same) in
-        let behind = members_behind net settings request listed plan planned_from members found.within in
+        let led = members_led plan members found.within in
         let other = planned_before windows net settings request listed plan (last_leave path) planned_from in (
           found_told steps path same least,
           record {
-            members = subst (All (IsMemberOf net settings (before request (last_leave path)))) (sym told) (told_members net settings (before request (last_leave path)) listed plan other (places_before windows net request listed (last_leave path) places) members found.within);
+            members = subst (All (IsMemberOf net settings (before request (last_leave path)))) (sym told) (told_members net settings (before request (last_leave path)) listed plan other members found.within);
             closed = subst (IsClosed net settings (before request (last_leave path)) (claims_held book)) (sym told)
                 (subst (λ tick. IsClosed net settings (before request tick) (claims_held book) (members_in listed.members members)) leave
-                ((closed net settings request listed plan book members places planned_from behind).earlier (arrival plan steps) found.closed));
+                ((closed net settings request listed plan book members planned_from led).earlier (arrival plan steps) found.closed));
           },
         )
 
     pub none_answer : IsNone plan (trip_of request) book members → IsAnswer net settings (claims_held book) request (NoPath proof)
     none_answer none =
-        let behind = members_behind net settings request listed plan planned_from members none.within in (
+        let led = members_led plan members none.within in (
           impossible none.none,
           record {
-            members = subst (All (IsMemberOf net settings request)) (sym told) (told_members net settings request listed plan planned_from places members none.within);
-            closed = subst (IsClosed net settings request (claims_held book)) (sym told) ((closed net settings request listed plan book members places planned_from behind).all none.closed);
+            members = subst (All (IsMemberOf net settings request)) (sym told) (told_members net settings request listed plan planned_from members none.within);
+            closed = subst (IsClosed net settings request (claims_held book)) (sym told) ((closed net settings request listed plan book members planned_from led).all none.closed);
           },
         )

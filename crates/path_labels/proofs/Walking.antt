@@ -36,7 +36,7 @@ use Rattle.path_labels.proofs.Product.{member_at, members_count, numbered_count,
 
 -- ---- what lists hold that are made of others
 
-contains_map : {X Y : Type 0} (f : X → Y) (xs : List X) (x : X) → Contains xs x → Contains (map f xs) (f x)
+pub contains_map : {X Y : Type 0} (f : X → Y) (xs : List X) (x : X) → Contains xs x → Contains (map f xs) (f x)
 contains_map f xs x (k, within, is) = (k, (let long = length-map xs f in omega arith), get_or-map f xs k x (f x) within ∙ ap f is)
 
 module _ {X : Type 0} (test : X → Bool) where

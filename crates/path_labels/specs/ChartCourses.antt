@@ -30,6 +30,7 @@ use Rattle.label_search.specs.Nearing.{AreRests}
 use Rattle.label_search.specs.Plans.{IsPlan}
 use Rattle.path_labels.specs.declared.chart_courses.ChartCourse.{ChartCourse}
 use Rattle.path_labels.specs.declared.train_charts.TrainChart.{TrainChart}
+use Rattle.path_labels.specs.AllPlaces.{HasAllPlaces}
 use Rattle.path_labels.specs.KeptNears.{AreNearAt, near_kept}
 use Rattle.path_labels.specs.Plans.{dwell_at}
 use Rattle.path_labels.specs.Searched.{AreCut, IsPlannedOver}
@@ -79,8 +80,8 @@ abbrev pub plan_along : Settings → ChartCourse → Plan
 plan_along settings course =
     plan_over course.chart.chart.spots course.starts course.calls (pos settings.horizon)
 
--- The course of a request over the chart of its train; with the numbers at which the chart keeps how
--- near the train is to each call, and what is left behind each by that.
+-- The course of a request over the chart of its train, with the numbers at which the chart keeps
+-- how near the train is to each call, and what is left behind each by that.
 pub record IsChartCourse (net : Network) (settings : Settings) (request : Request)
     (course : ChartCourse) : Type 0 where
   pub over : IsOverChart net settings request course.chart course.starts course.calls
@@ -155,6 +156,13 @@ ChartsArePlanned =
     (starts : List ChartWay) (calls : List ChartCall) → IsRequestWithinLimits request
     → IsOverChart net settings request chart starts calls
     → IsPlannedAlong net settings request chart starts calls
+
+-- the places of a request with a course over the chart of its train can be listed
+abbrev pub ChartCoursesHaveThePlaces : Type 0
+ChartCoursesHaveThePlaces =
+    (net : Network) (settings : Settings) (request : Request) (course : ChartCourse)
+    → IsRequestWithinLimits request → IsChartCourse net settings request course
+    → (places : Listed) × HasAllPlaces net settings request places
 
 -- ---- inside: how the ways of the start and the calls are made
 

@@ -10,6 +10,7 @@ use Rattle.path_labels.specs.declared.guides.Guide.{Guide}
 use Rattle.path_labels.specs.declared.guides.Guide.TheVariants as guide
 use Rattle.path_labels.specs.declared.kept_courses.KeptCourse.{KeptCourse}
 use Rattle.path_labels.specs.declared.train_charts.TrainChart.{TrainChart}
+use Rattle.path_labels.specs.AllPlaces.{HasAllPlaces}
 use Rattle.path_labels.specs.ChartCourses.{IsChartCourse}
 use Rattle.path_labels.specs.Courses.{IsCourse, IsSmall, kept_for, with_room}
 use Rattle.path_labels.specs.TrainCharts.{with_chart_room}
@@ -19,15 +20,12 @@ abbrev pub IsGuide : Network → Settings → Request → Guide → Type 0
 IsGuide net settings request (guide.Listed course) = IsCourse net settings request course
 IsGuide net settings request (guide.Charted course) = IsChartCourse net settings request course
 
--- the places are listed, as those need who show what was found
-abbrev pub IsListed : Guide → Type 0
-IsListed (guide.Listed course) = Unit {0}
-IsListed (guide.Charted course) = ⊥
-
--- the listed places, none where there is a chart
-abbrev pub places_of : Guide → Listed
-places_of (guide.Listed course) = course.places
-places_of (guide.Charted course) = record { members = []; starts = []; moves = [] }
+-- the places of a request with a guide can be listed
+abbrev pub GuidesHaveThePlaces : Type 0
+GuidesHaveThePlaces =
+    (net : Network) (settings : Settings) (request : Request) (one : Guide)
+    → IsRequestWithinLimits request → IsGuide net settings request one
+    → (places : Listed) × HasAllPlaces net settings request places
 
 -- a request with a guide has no more places than are searched
 abbrev pub GuidesAreNarrow : Type 0

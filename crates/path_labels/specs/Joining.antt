@@ -16,7 +16,7 @@ use Rattle.tail_states.specs.declared.certificates.Member.{Member}
 use Rattle.tail_states.specs.declared.moves.Move.{Move}
 use Rattle.tail_states.specs.declared.moves.Next.TheVariants.{End as Ends}
 use Rattle.tail_states.specs.Closing.{IsClosed}
-use Rattle.tail_states.specs.Listed.{AreTheMoves, AreThePlaces, Listed}
+use Rattle.tail_states.specs.Listed.{AreTheMoves, Listed}
 use Rattle.label_search.specs.declared.plans.Target.{Target}
 use Rattle.label_search.specs.declared.plans.Target.TheVariants.{Place as To, End}
 use Rattle.label_search.specs.declared.plans.Plan.{Plan}
@@ -26,7 +26,7 @@ use Rattle.label_search.specs.declared.plans.Member.{Member as PlannedMember}
 use Rattle.label_search.specs.Free.{Book}
 use Rattle.label_search.specs.Paths.{IsMove as IsPlannedMove, IsPath, PathFits, arrival, leave_of}
 use Rattle.label_search.specs.Paths.{place_at, target_of}
-use Rattle.label_search.specs.Closed.{IsClosed as IsClosedPlan, before as trip_before}
+use Rattle.label_search.specs.Closed.{IsClosed as IsClosedPlan, IsLedTo, before as trip_before}
 use Rattle.path_labels.specs.Plans.{IsPlanOf}
 use Rattle.path_labels.specs.Searched.{IsPlannedOver}
 use Rattle.path_labels.specs.Answers.{before, claims_held, last_leave}
@@ -136,6 +136,10 @@ GrantedPathsArePlanned =
     → CanBeGranted net settings (claims_held book) request path
     → (steps : List Step) × IsPlannedAs plan request book path steps
 
+-- moves of the plan lead to the place of each planned member
+abbrev pub AreLedTo : Plan → List PlannedMember → Type 0
+AreLedTo plan members = All (λ member. IsLedTo plan member.place) members
+
 -- planned members that are closed are closed when they are told by their places
 pub record AreClosedAlike (net : Network) (settings : Settings) (request : Request)
     (listed : Listed) (plan : Plan) (book : Book) (members : List PlannedMember) : Type 0 where
@@ -149,7 +153,5 @@ abbrev pub ClosedPlansAreClosed : Type 0
 ClosedPlansAreClosed =
     (net : Network) (settings : Settings) (request : Request) (listed : Listed) (plan : Plan)
     (book : Book) (members : List PlannedMember)
-    → AreThePlaces net request listed.members
-    → IsPlannedFrom net settings request listed plan
-    → All (IsBehindTheStart listed.members) members
+    → IsPlannedFrom net settings request listed plan → AreLedTo plan members
     → AreClosedAlike net settings request listed plan book members

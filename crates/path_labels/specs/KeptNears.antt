@@ -5,18 +5,24 @@ use Rattle.label_search.specs.declared.charts.ChartCall.{ChartCall}
 use Rattle.label_search.specs.declared.charts.ChartSpot.{ChartSpot}
 use Rattle.label_search.specs.declared.nearing.Near.{Near}
 use Rattle.label_search.specs.Charts.{call_at}
+use Rattle.label_search.specs.Endings.{spots_before}
 use Rattle.label_search.specs.Nearing.{IsNearTo}
 use Rattle.path_labels.specs.declared.kept_nears.KeptNear.{KeptNear}
 use Rattle.path_labels.specs.declared.kept_nears.TheConstants.{MAX_NEARS}
 
--- it is how near a train is over these spots to the call that it is kept for
-abbrev pub IsNearKept : List ChartSpot → KeptNear → Type 0
-IsNearKept spots kept = IsNearTo spots kept.blocks kept.near
+-- it is how near a train is over these spots to the call that it is kept for, and from which of
+-- them a way leads to this call
+pub record IsNearKept (spots : List ChartSpot) (kept : KeptNear) : Type 0 where
+  pub near_is : IsNearTo spots kept.blocks kept.near
+  pub lasts_are : kept.lasts ≡ spots_before kept.blocks spots
 
 -- what is kept at a number
 abbrev pub kept_at : List KeptNear → ℕ → KeptNear
-kept_at kept number =
-    slice_index_or kept number (record { blocks = []; near = record { ticks = []; behind = [] } })
+kept_at kept number = slice_index_or kept number (record {
+  blocks = [];
+  near = record { ticks = []; behind = [] };
+  lasts = [];
+})
 
 abbrev pub near_kept : List KeptNear → ℕ → Near
 near_kept kept number = (kept_at kept number).near

@@ -1,3 +1,4 @@
+pub mod AllPlaces
 pub mod Answers
 pub mod ChartCourses
 pub mod Courses

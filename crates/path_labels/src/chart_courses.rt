@@ -1,8 +1,10 @@
 //! The course of a request over the chart of its train, and the search that has it.
 
-ghost use Rattle.std.specs.Prelude.{◌≡◌, ◌≤◌, ◌+ℤ◌, ◌≤ℤ◌, All, IfOk, OnOk, length, map, pos};
+ghost use Rattle.std.specs.Prelude.{◌≡◌, ◌<◌, ◌≤◌, ◌+ℤ◌, ◌≤ℤ◌, All, IfOk, IsTrue, OnOk};
+ghost use Rattle.std.specs.Prelude.{length, map, pos};
 ghost use Rattle.rail_types.specs.declared.limits.TheConstants.{MAX_STOPS};
 ghost use Rattle.rail_types.specs.Limits.{IsRequestWithinLimits};
+ghost use Rattle.blocking_time.specs.Possible.{IsPossible};
 ghost use Rattle.running_time.specs.declared.edges.Edge.TheVariants.{Rolling};
 ghost use Rattle.stair_pieces.specs.Places.{start_place};
 ghost use Rattle.tail_states.specs.Following.{AreFollowers};
@@ -10,6 +12,7 @@ ghost use Rattle.tail_states.specs.Spots.{AreFewEnough, IsStride};
 ghost use Rattle.label_search.specs.declared.plans.Target.TheVariants.{Place as To};
 ghost use Rattle.label_search.specs.declared.plans.TheConstants.{LATEST};
 ghost use Rattle.label_search.specs.Charts.{HasNumbers, LeadOnChart};
+ghost use Rattle.label_search.specs.Endings.{last_call, spots_before};
 ghost use Rattle.label_search.specs.Nearing.{AreRests, HaveShortDwells};
 ghost use Rattle.path_labels.specs.Answers.{IsFinding, claims_held};
 ghost use Rattle.path_labels.specs.ChartCourses.{
@@ -23,7 +26,7 @@ ghost use Rattle.path_labels.specs.ChartCourses.{
   plan_along,
 };
 ghost use Rattle.path_labels.specs.Joining.{AreSteps, path_in};
-ghost use Rattle.path_labels.specs.KeptNears.{AreNearAt, GoOn, IsNearKept, near_kept};
+ghost use Rattle.path_labels.specs.KeptNears.{AreNearAt, GoOn, IsNearAt, IsNearKept, near_kept};
 ghost use Rattle.path_labels.specs.TrainCharts.{IsChartOf};
 
 use crate::laws::{charts_are_planned, granted_paths_are_planned, planned_paths_are_granted};
@@ -31,8 +34,8 @@ use crate::plan_searches::{claims_have_ticks, trip};
 use crate::request_plans::dwell_after;
 use crate::train_charts::{TrainChart, charted_way};
 use label_search::{
-    Ahead, Aheads, ChartCall, ChartWay, Finding, LentPlan, Step as PlannedStep, Target, find_lent,
-    rests_of, way_on_chart,
+    Ahead, Aheads, ChartCall, ChartWay, Finding, LentPlan, Step as PlannedStep, Target,
+    ends_are_shut, find_lent, rests_of, way_on_chart,
 };
 use no_memory::NoMemory;
 use occupation_book::Occupations;
@@ -98,8 +101,20 @@ impl ChartCourse {
         self.chart
     }
 
-    // The plan of the course.
-    fn plan<'a>(&'a self, settings: &Settings) -> LentPlan<'a>
+    // The spots from which a way leads to its last call, at the destination.
+    fn lasts(&self) -> &List<usize>
+        requires called { 0 < length self.now.calls }
+        requires nears { All (IsNearKept self.now.chart.chart.spots) self.now.chart.nears }
+        requires kept { AreNearAt self.now.chart.nears self.now.calls self.now.numbers.items }
+        ensures { result.now ≡ spots_before (last_call self.now.calls).blocks
+            self.now.chart.chart.spots }
+    {
+        let number = last_number(self);
+        self.chart.nears.lasts_at(number)
+    }
+
+    /// The plan of the course.
+    pub(crate) fn plan<'a>(&'a self, settings: &Settings) -> LentPlan<'a>
         requires leads { LeadOnChart self.now.chart.chart.spots self.now.starts }
         requires numbers { HasNumbers self.now.chart.chart.spots self.now.calls }
         ensures { result ≡ plan_along settings.now self.now }
@@ -111,6 +126,16 @@ impl ChartCourse {
             settings.horizon,
         )
     }
+}
+
+// Where it stands how near the train is to the last call of a course.
+fn last_number(course: &ChartCourse) -> usize
+    requires called { 0 < length course.now.calls }
+    requires kept { AreNearAt course.now.chart.nears course.now.calls course.now.numbers.items }
+    ensures { IsNearAt course.now.chart.nears (last_call course.now.calls).blocks result }
+{
+    let numbers = course.numbers.as_slice();
+    numbers[numbers.len() - 1]
 }
 
 // What a course has beside its chart.
@@ -327,9 +352,60 @@ fn call_of(
 }
 
 /// The path of a request that leaves last as early as any that can be granted beside what the book
-/// holds, or None where none can, found by the request's course over the chart of its train.
-/// `NoMemory` alone is refused.
+/// holds, or None where none can, found by the request's course over the chart of its train. Where
+/// no path can end at the destination nothing is searched. `NoMemory` alone is refused.
 pub fn find_over(
+    alloc: Global,
+    net: &Network,
+    settings: &Settings,
+    book: &Occupations,
+    request: &Request,
+    course: &ChartCourse,
+) -> Result<Option<Path>, NoMemory>
+    requires zones { length book.now ≡ net.now.zones }
+    requires request { IsRequestWithinLimits request.now }
+    requires course { IsChartCourse net.now settings.now request.now course.now }
+    ensures { IfOk result
+        (IsFinding net.now settings.now (claims_held book.now) request.now) }
+{
+    if is_shut(net, settings, book, request, course) {
+        return Ok(None);
+    }
+    search_over(alloc, net, settings, book, request, course)
+}
+
+// Whether each way to the destination is taken whenever a train of the request could come by it.
+fn is_shut(
+    net: &Network,
+    settings: &Settings,
+    book: &Occupations,
+    request: &Request,
+    course: &ChartCourse,
+) -> bool
+    requires zones { length book.now ≡ net.now.zones }
+    requires request { IsRequestWithinLimits request.now }
+    requires course { IsChartCourse net.now settings.now request.now course.now }
+    ensures { IsTrue result
+        → ¬ IsPossible net.now settings.now (claims_held book.now) request.now }
+{
+    planned_paths_are_granted();
+    granted_paths_are_planned();
+    charts_are_planned();
+    claims_have_ticks(book);
+    let lasts = course.lasts();
+    ends_are_shut(
+        &course.chart.chart,
+        &course.starts,
+        &course.calls,
+        lasts,
+        book,
+        &trip(request),
+        settings.horizon,
+    )
+}
+
+// The same as `find_over`, by a search in any case.
+fn search_over(
     alloc: Global,
     net: &Network,
     settings: &Settings,
@@ -381,8 +457,8 @@ fn run_of_way(way: &ChartWay, step: &PlannedStep) -> Run
     }
 }
 
-// The path that the steps of a planned path make.
-fn told_over(
+/// The path that the steps of a planned path make.
+pub(crate) fn told_over(
     alloc: Global,
     settings: &Settings,
     request: &Request,

@@ -1,13 +1,17 @@
-//! What guides the search of a request, and the search by it.
+//! What guides the search of a request, and the searches by it.
 
 ghost use Rattle.std.specs.Prelude.{◌≡◌, IfOk, length};
 ghost use Rattle.rail_types.specs.Limits.{IsRequestWithinLimits};
-ghost use Rattle.path_labels.specs.Answers.{IsFinding, claims_held};
-ghost use Rattle.path_labels.specs.Guides.{GuidesAreNarrow, IsGuide};
+ghost use Rattle.path_labels.specs.Answers.{IsAnswer, IsFinding, claims_held};
+ghost use Rattle.path_labels.specs.Guides.{GuidesAreNarrow, GuidesHaveThePlaces, IsGuide};
 
+use crate::Sought;
 use crate::chart_courses::{ChartCourse, find_over};
-use crate::course_searches::{Course, find_along};
-use crate::laws::{chart_courses_are_narrow, courses_have_the_places};
+use crate::chart_seeks::seek_over;
+use crate::course_searches::{Course, find_along, seek_along};
+use crate::laws::{
+    chart_courses_are_narrow, chart_courses_have_the_places, courses_have_the_places,
+};
 use no_memory::NoMemory;
 use occupation_book::Occupations;
 use rail_types::{Network, Path, Request, Settings};
@@ -26,6 +30,14 @@ pub fn guides_are_narrow()
 {
     courses_have_the_places();
     chart_courses_are_narrow();
+}
+
+/// The places of a request with a guide can be listed, no more than are searched.
+pub fn guides_have_the_places()
+    ensures { GuidesHaveThePlaces }
+{
+    courses_have_the_places();
+    chart_courses_have_the_places();
 }
 
 /// The path of a request that leaves last as early as any that can be granted beside what the book
@@ -47,5 +59,26 @@ pub fn find_by(
     match guide {
         Guide::Listed(course) => find_along(alloc, net, settings, book, request, course),
         Guide::Charted(course) => find_over(alloc, net, settings, book, request, course),
+    }
+}
+
+/// The same with members that show it, as `seek` has them.
+pub fn seek_by(
+    alloc: Global,
+    net: &Network,
+    settings: &Settings,
+    book: &Occupations,
+    request: &Request,
+    guide: &Guide,
+) -> Result<Sought, NoMemory>
+    requires zones { length book.now ≡ net.now.zones }
+    requires request { IsRequestWithinLimits request.now }
+    requires guide { IsGuide net.now settings.now request.now guide.now }
+    ensures { IfOk result
+        (IsAnswer net.now settings.now (claims_held book.now) request.now) }
+{
+    match guide {
+        Guide::Listed(course) => seek_along(alloc, net, settings, book, request, course),
+        Guide::Charted(course) => seek_over(alloc, net, settings, book, request, course),
     }
 }

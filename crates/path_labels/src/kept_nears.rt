@@ -10,28 +10,30 @@ ghost use Rattle.path_labels.specs.KeptNears.{
   IsNearAt,
   IsNearKept,
   PutsNear,
+  kept_at,
   near_kept,
 };
 
-use label_search::{Chart, ChartCall, Near, Roads, near_to};
+use label_search::{Chart, ChartCall, Near, Roads, near_to, spots_before};
 use no_memory::NoMemory;
 use rail_types::List;
 use std::alloc::Global;
 use std::marker::Model;
 
 /// Greatest number of calls of which it is kept how near a train is to them.
-pub const MAX_NEARS: usize = 64;
+pub const MAX_NEARS: usize = 128;
 
-/// How near a train is to a call at the ends of these blocks.
+/// How near a train is to a call at the ends of these blocks, and the spots from which a way leads
+/// to this call.
 #[derive(Drop)]
 pub struct KeptNear {
     pub(crate) blocks: List<u32>,
     pub(crate) near: Near,
+    pub(crate) lasts: List<usize>,
 }
 
 /// How near a train is to its calls, the one that was worked out last behind the others: at most
-/// `MAX_NEARS`, each with a number of ticks for each spot of the chart. Contracts see the list of
-/// them.
+/// `MAX_NEARS`, each with 4 bytes for each spot of the chart. Contracts see the list of them.
 #[derive(Drop)]
 pub struct Nears {
     kept: Vec<KeptNear>,
@@ -96,6 +98,14 @@ impl Nears {
     {
         let nears = nears_of(alloc, self.kept.as_slice(), numbers)?;
         Ok(nears)
+    }
+
+    /// The spots from which a way leads to the call that stands there.
+    pub(crate) fn lasts_at(&self, number: usize) -> &List<usize>
+        requires { number < length self.now }
+        ensures { result.now ≡ (kept_at self.now number).lasts }
+    {
+        lasts_of(self.kept.as_slice(), number)
     }
 }
 
@@ -172,9 +182,11 @@ fn number_of(
         return Ok(at);
     }
     let near = near_to(alloc, chart, roads, blocks.as_slice())?;
+    let lasts = spots_before(alloc, chart, blocks.as_slice())?;
     let one = KeptNear {
         blocks: blocks.copy(alloc)?,
         near,
+        lasts,
     };
     let at = kept.len();
     kept.push(one)?;
@@ -214,4 +226,11 @@ fn nears_of<'a>(
         nears.push(&kept[*number].near)?;
     }
     Ok(nears)
+}
+
+fn lasts_of(kept: &[KeptNear], number: usize) -> &List<usize>
+    requires { number < length kept.now }
+    ensures { result.now ≡ (kept_at kept.now number).lasts }
+{
+    &kept[number].lasts
 }

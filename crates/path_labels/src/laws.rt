@@ -2,7 +2,11 @@
 //! that calls other laws alone.
 
 ghost use Rattle.std.specs.Prelude.{◌≡◌};
-ghost use Rattle.path_labels.specs.ChartCourses.{ChartCoursesAreNarrow, ChartsArePlanned};
+ghost use Rattle.path_labels.specs.ChartCourses.{
+  ChartCoursesAreNarrow,
+  ChartCoursesHaveThePlaces,
+  ChartsArePlanned,
+};
 ghost use Rattle.path_labels.specs.Courses.{CoursesHaveThePlaces};
 ghost use Rattle.path_labels.specs.Joining.{
   ClosedPlansAreClosed,
@@ -56,7 +60,7 @@ pub fn courses_have_the_places()
 pub fn limits_are_these()
     ensures charts { MAX_CHARTS ≡ 8 }
     ensures spots { MAX_SPOTS ≡ 16384 }
-    ensures nears { MAX_NEARS ≡ 64 }
+    ensures nears { MAX_NEARS ≡ 128 }
     ensures courses { MAX_COURSES ≡ 16 }
     ensures kept_places { MAX_KEPT_PLACES ≡ 32768 }
 {}
@@ -67,6 +71,15 @@ pub fn chart_courses_are_narrow()
 {
     sound_networks_are_asked();
     spots_bound_places();
+}
+
+/// The places of a request that has such a course can be listed, no more than are searched: they
+/// are those that moves lead to from the start.
+pub fn chart_courses_have_the_places()
+    ensures { ChartCoursesHaveThePlaces }
+{
+    charts_are_planned();
+    chart_courses_are_narrow();
 }
 
 /// What a request asks of the chart of its train is planned: from each of the places exactly the

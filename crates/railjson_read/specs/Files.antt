@@ -1,8 +1,10 @@
 -- What the bytes of a file of infrastructure read as: its lists, or the first fault.
-use Rattle.std.specs.Prelude.{ℕ, ◌+◌, pos, List, length, codes, if◌then◌else◌, nat_le, is_some}
-use Rattle.std.specs.Prelude.{Result, Ok, Err}
+use Rattle.std.specs.Prelude.{◌≡◌, ℕ, ◌+◌, pos, List, length, codes, if◌then◌else◌, nat_le}
+use Rattle.std.specs.Prelude.{is_some, Option, Some, None, Result, Ok, Err}
 use Rattle.serde_json.specs.Data.{Data}
 use Rattle.serde_json.specs.Find.{as_object}
+use Rattle.serde_json.specs.View.{view}
+use Rattle.serde_json.specs.declared.value.Value.{Value}
 use Rattle.rail_types.specs.declared.limits.TheConstants.{MAX_NETWORK_FILE_BYTES}
 use Rattle.json_fields.specs.Places.{whole_file, spot_of}
 use Rattle.json_fields.specs.Reading.{◌>>=◌, or_fault}
@@ -10,7 +12,9 @@ use Rattle.json_fields.specs.Texts.{data_of}
 use Rattle.rail_types.specs.declared.infra_types.infras.Infra.{Infra}
 use Rattle.infra_fields.specs.declared.faults.InfraFault.{InfraFault}
 use Rattle.infra_fields.specs.declared.faults.InfraFault.TheVariants.{NotJson, Kind, Limit}
+use Rattle.infra_fields.specs.declared.faults.InfraFault.TheVariants.{Memory}
 use Rattle.infra_fields.specs.declared.faults.What.TheVariants as what
+use Rattle.infra_fields.specs.Kept.{file_levels, Keeps}
 use Rattle.railjson_read.specs.Objects.{tracks_in, switches_in, all_placed_in}
 use Rattle.railjson_read.specs.Signals.{signals_in}
 use Rattle.railjson_read.specs.Points.{points_in}
@@ -81,3 +85,10 @@ abbrev pub infra_at : List ℕ → List ℕ → Result Infra InfraFault
 infra_at bytes quoted =
     if nat_le (length bytes) MAX_NETWORK_FILE_BYTES then text_at quoted
     else Err (Limit what.File (pos (MAX_NETWORK_FILE_BYTES + 1)))
+
+-- ---- inside
+
+-- What a call returned is what is kept of what a text reads as, unless memory was wanted.
+abbrev pub KeepsRead : Result Value InfraFault → Option Data → Type 0
+KeepsRead (Ok value) read = (all : Data) × (read ≡ Some all) × Keeps file_levels all (view value)
+KeepsRead (Err fault) read = (fault ≡ Memory → ⊥) → (fault ≡ NotJson) × (read ≡ None)

@@ -34,7 +34,9 @@ use line_sessions::{Ended, Why};
 use no_memory::NoMemory;
 use outside_io::{Between, Disk, Sink, Source};
 use served_clients::book::Book;
-use served_clients::client_seats::{Newcomer, close_gate, leave_seat, open_gate, take_seat};
+use served_clients::client_seats::{
+    Newcomer, close_gate, leave_seat, open_gate, take_seat, told_positions,
+};
 use served_clients::gate::Pass;
 use served_clients::{Plan, Session};
 use std::alloc::Global;
@@ -105,9 +107,10 @@ fn newcomers_of<D: Disk, S: Source + Drop, T: Sink + Drop, B: Between + Drop, L:
     ensures newcomers { IfOk result (λ newcomers. All (λ n.
         IsNewcomer book.now.timetable book.now.entries n.client.name n) newcomers.items) }
 {
+    let places = told_positions(alloc, book.history())?;
     let mut newcomers = Vec::new(alloc);
     for plan in plans {
-        let newcomer = Newcomer::new(alloc, book, &plan.name)?;
+        let newcomer = Newcomer::new(alloc, book, &places, &plan.name)?;
         newcomers.push(newcomer)?;
     }
     Ok(newcomers)

@@ -18,8 +18,9 @@ use Rattle.rail_types.specs.declared.entries.Entry.{Entry}
 use Rattle.served_clients.specs.declared.client_seats.tellings.Telling.{Telling}
 use Rattle.served_clients.specs.declared.client_seats.tellings.Telling.TheVariants.{Granted, Freed}
 use Rattle.served_clients.specs.ClientRuns.{is_owned, owned, told_own}
-use Rattle.served_clients.specs.Tellings.{own_telling, own_tellings, own_tellings_from, telling_of}
-use Rattle.served_clients.specs.Tellings.{telling_of_entry, told_each, told_once}
+use Rattle.served_clients.specs.Tellings.{is_no_hold, may_tell, own_telling, own_tellings}
+use Rattle.served_clients.specs.Tellings.{own_tellings_from, telling_of, telling_of_entry, told_each}
+use Rattle.served_clients.specs.Tellings.{told_once, told_positions}
 
 pub told_at-append : (history : List Entry) (ps qs : List ℕ) (rules : List Ruled) → told_at history (ps ++ qs) rules ≡ told_at history qs (told_at history ps rules)
 told_at-append history [] qs rules = refl
@@ -181,3 +182,49 @@ module _ (history : List Entry) (name : List ℕ) where
       let next : suc at ≡ at + 1 = omega arith in
       ap (own_tellings_from history name at) some
       ∙ ap (λ n. option_to_list (own_telling history name at) ++ own_tellings_from history name n (length history - (at + 1))) next
+
+-- what is told of an owner's entries at these positions
+abbrev pub told_of_each : List Entry → List ℕ → List ℕ → List Telling
+told_of_each history name ps = flat_map (λ p. option_to_list (own_telling history name p)) ps
+
+nothing_told : (before : List Entry) (entry : Option Entry) → may_tell entry ≡ false → telling_of_entry before entry ≡ None
+nothing_told before None miss = refl
+nothing_told before (Some entry) miss = of_deed entry.deed miss
+  where
+    of_deed : (deed : Deed) → is_no_hold deed ≡ false → telling_of before deed ≡ None
+    of_deed (Hold claims reason) miss = refl
+    of_deed (Grant wanted path) miss = absurd cc
+    of_deed (Free at) miss = absurd cc
+
+-- where nothing is told of a position, nothing is told of an owner's entry there
+none_owned : (history : List Entry) (name : List ℕ) (p : ℕ) → may_tell (slice_get history p) ≡ false → own_telling history name p ≡ None
+none_owned history name p miss = go (is_owned name (slice_get history p))
+  where
+    told : Option Telling
+    told = telling_of_entry (take p history) (slice_get history p)
+
+    go : (b : Bool) → cond b told None ≡ None
+    go true = nothing_told (take p history) (slice_get history p) miss
+    go false = refl
+
+-- rules are told of those entries alone of which they may be told
+told_of_kept : (history : List Entry) (name : List ℕ) (ps : List ℕ) → told_of_each history name (filter (λ p. may_tell (slice_get history p)) ps) ≡ told_of_each history name ps
+told_of_kept history name [] = refl
+told_of_kept history name (p ∷ ps) =
+    ⊎_elim
+    (λ hit. ap (λ b. told_of_each history name (cond b (p ∷ filter (λ q. may_tell (slice_get history q)) ps) (filter (λ q. may_tell (slice_get history q)) ps))) hit
+    ∙ ap (λ l. option_to_list (own_telling history name p) ++ l) (told_of_kept history name ps))
+    (λ miss. ap (λ b. told_of_each history name (cond b (p ∷ filter (λ q. may_tell (slice_get history q)) ps) (filter (λ q. may_tell (slice_get history q)) ps))) miss
+    ∙ told_of_kept history name ps
+    ∙ ap (λ o. option_to_list o ++ told_of_each history name ps) (sym (none_owned history name p miss)))
+    (cases_Bool (may_tell (slice_get history p)))
+
+pub told_of_positions : (history : List Entry) (name : List ℕ) → told_of_each history name (told_positions history) ≡ own_tellings history name
+told_of_positions history name = told_of_kept history name (positions 0 (length history))
+
+-- the positions of the entries from one on: that one, and those behind it
+pub positions_step : (count at : ℕ) → at < count → positions at (count - at) ≡ at ∷ positions (at + 1) (count - (at + 1))
+positions_step count at below =
+    let some : count - at ≡ suc (count - (at + 1)) = omega arith in
+    let next : suc at ≡ at + 1 = omega arith in
+    ap (positions at) some ∙ ap (λ n. at ∷ positions n (count - (at + 1))) next

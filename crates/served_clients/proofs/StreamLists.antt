@@ -1,10 +1,8 @@
 -- Pairs of elements, and fronts of lists of calls.
-use Rattle.std.proofs.Common.{◌≡◌, ◌∙◌, ◌++◌, ℕ, zero, suc, List, [], ◌∷◌, All, AllPairs, Option, Some, None, get_or, take, drop, refl, ap, subst, arith}
-use Rattle.std.proofs.lemmas.List.{append_assoc, get_or_append_left, length-append}
+use Rattle.std.proofs.Common.{◌≡◌, ◌++◌, ℕ, zero, suc, List, [], ◌∷◌, All, AllPairs, get_or, take, drop, refl, ap, subst, arith}
+use Rattle.std.proofs.lemmas.List.{get_or_append_left, length-append}
 use Rattle.std.proofs.lemmas.List.Elements.{All-cons, All-head, All-nil, All-tail}
-use Rattle.outside_io.specs.Openings.{Opening, Opens as CallsOf}
-use Rattle.command_reports.proofs.Steps.{opens_both as calls_both}
-use Rattle.command_reports.proofs.Steps.{take_front}
+use Rattle.outside_io.specs.Openings.{Opening}
 
 module _ {X : Type 0} (P : X → Type 0) where
   pub all_left : (xs ys : List X) → All P (xs ++ ys) → All P xs

@@ -1,6 +1,7 @@
 -- *inside*: what a client's rules are told of the entries that were found.
-use Rattle.std.specs.Prelude.{ℕ, List, [], ◌∷◌, Option, Some, None, flat_map, if◌then◌else◌, length}
-use Rattle.std.specs.Prelude.{option_map, option_to_list, slice_get, take}
+use Rattle.std.specs.Prelude.{ℕ, Bool, true, false, List, [], ◌∷◌, Option, Some, None, filter}
+use Rattle.std.specs.Prelude.{flat_map, if◌then◌else◌, length, option_map, option_to_list}
+use Rattle.std.specs.Prelude.{slice_get, take}
 use Rattle.line_answers.specs.gate.Views.{positions}
 use Rattle.admission_rules.specs.Ruled.{Ruled, freed, granted}
 use Rattle.admission_rules.specs.Told.{wish_at}
@@ -37,6 +38,22 @@ own_tellings_from history name at count =
 -- what rules are told of all entries of that owner
 abbrev pub own_tellings : List Entry → List ℕ → List Telling
 own_tellings history name = own_tellings_from history name 0 (length history)
+
+-- whether rules may be told of a deed: it is no hold
+abbrev pub is_no_hold : Deed → Bool
+is_no_hold (Grant wanted path) = true
+is_no_hold (Free at) = true
+is_no_hold (Hold claims reason) = false
+
+-- the same of an entry
+abbrev pub may_tell : Option Entry → Bool
+may_tell None = false
+may_tell (Some entry) = is_no_hold entry.deed
+
+-- the positions of the entries of which rules may be told
+abbrev pub told_positions : List Entry → List ℕ
+told_positions history =
+    filter (λ p. may_tell (slice_get history p)) (positions 0 (length history))
 
 -- rules, once they were told this
 abbrev pub told_once : Telling → List Ruled → List Ruled

@@ -13,3 +13,4 @@ pub use newcomers::Newcomer;
 pub use seats::Seat;
 #[doc(hidden)]
 pub use tellings::Telling;
+pub use tellings::told_positions;

@@ -7,7 +7,7 @@ ghost use Rattle.rail_types.specs.Timetables.{Timetable};
 use crate::books::{empty_book, sent_on};
 use grant_log::copy_since::copy_of;
 use no_memory::NoMemory;
-use occupation_book::Occupations;
+use occupation_book::{Occupations, ZoneClaims};
 use outside_io::{Disk, MemDisk};
 use path_commit::{Book, Sent, run_all};
 use rail_types::{Claim, Network, Owner};
@@ -73,7 +73,20 @@ fn brought_up<D: Disk>(
 
 fn are_same(one: &Occupations, other: &Occupations) -> bool {
     for zone in 0..one.zones() {
-        if other.zones() <= zone || one.of_zone(zone) != other.of_zone(zone) {
+        if other.zones() <= zone || !have_same(one.of_zone(zone), other.of_zone(zone)) {
+            return false;
+        }
+    }
+    true
+}
+
+// Whether the claims of two zones are the same, with their owners.
+fn have_same(one: &ZoneClaims, other: &ZoneClaims) -> bool {
+    if one.len() != other.len() {
+        return false;
+    }
+    for at in 0..one.len() {
+        if one.claim_at(at) != other.claim_at(at) {
             return false;
         }
     }

@@ -4,7 +4,7 @@ ghost use Rattle.std.specs.Prelude.{◌≡◌, ◌≤◌, pos, ◌-ℤ◌, ◌�
 ghost use Rattle.rail_types.specs.Limits.{IsRequestWithinLimits};
 ghost use Rattle.refusal_proof.specs.Proofs.{claims_held};
 ghost use Rattle.path_labels.specs.Answers.{before, last_leave};
-ghost use Rattle.path_labels.specs.Courses.{IsCourse};
+ghost use Rattle.path_labels.specs.Guides.{IsGuide};
 ghost use Rattle.ask_turns.specs.Certified.{IsCertified};
 
 use crate::certificates::laws::certificates_pass;
@@ -12,7 +12,7 @@ use no_memory::NoMemory;
 use path_commit::claims::Occupations;
 use path_labels::pieces::a_path_is_a_list_of_moves;
 use path_labels::tails::Closed;
-use path_labels::{Course, Sought, courses_have_the_places, seek_along};
+use path_labels::{Guide, Sought, guides_have_the_places, seek_by};
 use rail_types::{Network, Path, Request, Run, Settings, Window};
 use std::alloc::Global;
 
@@ -64,18 +64,18 @@ pub fn seek_certified(
     settings: &Settings,
     book: &Occupations,
     request: &Request,
-    course: &Course,
+    guide: &Guide,
 ) -> Result<Certified, NoMemory>
     requires zones { length book.now ≡ net.now.zones }
     requires request { IsRequestWithinLimits request.now }
-    requires course { IsCourse net.now settings.now request.now course.now }
-    ensures { IfOk result (IsCertified net.now settings.now (claims_held book.now) request.now
-        course.now.places) }
+    requires guide { IsGuide net.now settings.now request.now guide.now }
+    ensures { IfOk result
+        (IsCertified net.now settings.now (claims_held book.now) request.now) }
 {
     certificates_pass();
     a_path_is_a_list_of_moves();
-    courses_have_the_places();
-    let sought = seek_along(alloc, net, settings, book, request, course)?;
+    guides_have_the_places();
+    let sought = seek_by(alloc, net, settings, book, request, guide)?;
     match sought {
         Sought::Found(path, closed) => {
             let excluded = earlier(alloc, request, &path)?;

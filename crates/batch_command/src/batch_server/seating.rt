@@ -26,7 +26,7 @@ use served_clients::admission::Rule;
 use served_clients::answers::Shared;
 use served_clients::book::Book;
 use served_clients::bytes::Buffer;
-use served_clients::client_seats::{Newcomer, leave_seat, take_seat};
+use served_clients::client_seats::{Newcomer, leave_seat, take_seat, told_positions};
 use served_clients::gate::Pass;
 use served_clients::lines::reply_texts::Reply;
 use std::alloc::Global;
@@ -42,9 +42,10 @@ pub(crate) fn newcomers_of<D: Disk, B: Between + Drop, L: Rule>(
         (λ member newcomer. IsNewcomer book.now.timetable book.now.entries member.name newcomer)
         members.now newcomers.items) }
 {
+    let places = told_positions(alloc, book.history())?;
     let mut newcomers = Vec::new(alloc);
     for member in members {
-        let newcomer = Newcomer::new(alloc, book, &member.name)?;
+        let newcomer = Newcomer::new(alloc, book, &places, &member.name)?;
         newcomers.push(newcomer)?;
     }
     Ok(newcomers)

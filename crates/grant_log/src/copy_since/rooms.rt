@@ -25,6 +25,11 @@ pub fn reserve_for(
     ensures kept { (number : ℕ) →
         (zone_at book.old number).spare ≤ (zone_at book.new number).spare }
 {
+    // A claim that comes alone is the only one of its zone, so nothing needs to be counted.
+    if claims.len() == 1 {
+        book.reserve(claims[0].0.zone, 1)?;
+        return Ok(());
+    }
     let zones = sorted_zones(alloc, claims)?;
     reserve_each(book, &zones)
 }

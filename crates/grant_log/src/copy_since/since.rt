@@ -146,11 +146,42 @@ fn brought_since(
     let mut all = Vec::new(alloc);
     for at in front..history.front() {
         if history.freed_by(at).is_none() {
-            let claims = claims_at(alloc, history, at)?;
-            push_owned(&mut all, &claims, at)?;
+            push_brought(alloc, history, at, &mut all)?;
         }
     }
     Ok(all)
+}
+
+// Puts the claims of the entry at this position behind the others, with it as their owner. Those of
+// a hold are taken from its deed as they stand there, and need no list of their own.
+fn push_brought(
+    alloc: Global,
+    history: &History,
+    at: u64,
+    all: &mut Vec<(Claim, Owner)>,
+) -> Result<(), NoMemory>
+    ensures { OnOk result (all.new.items ≡ all.old.items ++
+        owned_by at (claims_standing_at history.now.timetable history.now.entries at)) }
+{
+    if let Some(claims) = claims_of_hold(history, at) {
+        push_owned(all, claims, at)?;
+        return Ok(());
+    }
+    let claims = claims_at(alloc, history, at)?;
+    push_owned(all, &claims, at)?;
+    Ok(())
+}
+
+// The claims of the entry at this position as its deed has them, where it is a hold.
+fn claims_of_hold(history: &History, at: u64) -> Option<&[Claim]>
+    ensures { IfSome result (λ claims.
+        claims.now ≡ claims_standing_at history.now.timetable history.now.entries at) }
+{
+    let entry = history.entry(at)?;
+    match &entry.deed {
+        Deed::Hold(claims, _) => Some(claims.as_slice()),
+        _ => None,
+    }
 }
 
 // Puts claims behind the others, with the entry at this position as their owner.

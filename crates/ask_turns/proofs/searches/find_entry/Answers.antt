@@ -4,9 +4,6 @@ use Rattle.rail_types.specs.declared.paths.Path.{Path}
 use Rattle.ask_turns.specs.Shown.{IsShown}
 use Rattle.ask_turns.proofs.searches.find_entry.Goals as goal
 
-pub seek_path-requires-clause-listed : goal.seek_path-requires-clause-listed
-seek_path-requires-clause-listed c = c.requires.listed
-
 pub taken-requires : goal.taken-requires
 taken-requires c =
     let net = c.args.known.now.railway.network in let settings = c.args.settings.now in let ask = c.args.ask.now in

@@ -41,10 +41,6 @@ returns-in_default-clause-searched g c =
           c.in_ok-found.found c.in_default.not-Some c.in_ok-found.ensures.found),
     )
 
-pub find_entry-requires-clause-listed : goal.find_entry-requires-clause-listed
-find_entry-requires-clause-listed g c proved =
-    c.requires.listed (sym c.loop-search.invariant.proves ∙ proved)
-
 pub try_entry-requires-clause-range : goal.try_entry-requires-clause-range
 try_entry-requires-clause-range g c =
     let now = c.loop-search.invariant in let timetable : Timetable = timetable_at c.args.shared.now.gate in

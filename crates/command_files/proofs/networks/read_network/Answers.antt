@@ -1,6 +1,5 @@
-use Rattle.std.proofs.Common.{refl, subst}
+use Rattle.std.proofs.Common.{refl}
 use Rattle.sha2.specs.Sha256.{sha256}
-use Rattle.command_files.specs.Files.{TellsNetwork}
 use Rattle.command_files.specs.declared.networks.NetworkFile.{NetworkFile}
 use Rattle.command_files.proofs.networks.read_network.Goals as goal
 
@@ -17,7 +16,7 @@ returns-clause-step g c =
           bytes = bytes;
           reads = c.in_ok-bytes.ensures.0;
           means = record {
-            tells = subst (λ given. TellsNetwork given named) c.deref.ensures.value c.in_ok-named.ensures.says;
+            tells = c.in_ok-named.ensures.says;
             digest = refl;
           };
         };

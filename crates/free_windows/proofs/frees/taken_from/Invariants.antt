@@ -4,4 +4,4 @@ use Rattle.free_windows.specs.Starts.{IsStretch}
 use Rattle.free_windows.proofs.frees.taken_from.Given as goal
 
 abbrev pub invariant-loop-number : goal.invariant-loop-number
-invariant-loop-number l = IsStretch (IsFreeOf l.kept l.piece) l.within false l.ticks
+invariant-loop-number l = IsStretch (IsFreeOf l.kept.claims l.piece) l.within false l.ticks

@@ -20,7 +20,7 @@ returns-in_default-clause-advanced c = advanced_none c.args.plan.now c.args.sear
 
 pub returns-in_default-clause-done : goal.returns-in_default-clause-done
 returns-in_default-clause-done c =
-    none_in_hand c.args.plan.now c.args.book.now c.args.part.now c.args.onward.number c.move_at-step.result c.move_at-step.ensures c.pieces.result.now c.pieces.ensures c.enters-rest.result c.requires.part.ticks.0 c.enters-rest.ensures.from c.args.search.now.limits c.enters-rest.ensures.to c.args.trip.now c.args.search.now refl c.args.queue.now c.args.onward.label (c.in_default.ensures.none refl)
+    none_in_hand c.args.plan.now c.args.book.now c.args.part.now c.args.next.now.onward.number c.args.next.now.step c.requires.step c.pieces.result.now c.pieces.ensures c.enters-rest.result c.requires.part.ticks.0 c.enters-rest.ensures.from c.args.search.now.limits c.enters-rest.ensures.to c.args.trip.now c.args.search.now refl c.args.queue.now c.args.next.now.onward.label (c.in_default.ensures.none refl)
 
 pub reach-requires-clause-held : goal.reach-requires-clause-held
 reach-requires-clause-held c enter held =
@@ -32,12 +32,12 @@ reach-requires-clause-held c enter held =
 pub reach-requires-clause-free : goal.reach-requires-clause-free
 reach-requires-clause-free c =
     let from = c.enters-rest.ensures.from in
-    free_moves c.args.plan.now c.args.book.now c.args.part.now c.args.onward.number c.move_at-step.result c.move_at-step.ensures c.pieces.result.now c.pieces.ensures c.enters-rest.result c.requires.part.ticks.0 (omega (arith, ints)) c.args.search.now.limits c.enters-rest.ensures.to c.requires.number c.in-Some.free c.in-Some.ensures.found
+    free_moves c.args.plan.now c.args.book.now c.args.part.now c.args.next.now.onward.number c.args.next.now.step c.requires.step c.pieces.result.now c.pieces.ensures c.enters-rest.result c.requires.part.ticks.0 (omega (arith, ints)) c.args.search.now.limits c.enters-rest.ensures.to c.requires.number c.in-Some.free c.in-Some.ensures.found
 
 pub reach-requires-clause-below : goal.reach-requires-clause-below
 reach-requires-clause-below c =
     let from = c.enters-rest.ensures.from in
-    free_below c.args.plan.now c.args.book.now c.args.part.now c.args.onward.number c.move_at-step.result c.move_at-step.ensures c.pieces.result.now c.pieces.ensures c.enters-rest.result c.requires.part.ticks.0 (omega (arith, ints)) c.args.search.now.limits c.enters-rest.ensures.to c.in-Some.free c.in-Some.ensures.found c.args.search.now.limits refl
+    free_below c.args.plan.now c.args.book.now c.args.part.now c.args.next.now.onward.number c.args.next.now.step c.requires.step c.pieces.result.now c.pieces.ensures c.enters-rest.result c.requires.part.ticks.0 (omega (arith, ints)) c.args.search.now.limits c.enters-rest.ensures.to c.in-Some.free c.in-Some.ensures.found c.args.search.now.limits refl
 
 pub returns-then-free-rest-clause-advanced : goal.returns-then-free-rest-clause-advanced
 returns-then-free-rest-clause-advanced c =
@@ -46,7 +46,7 @@ returns-then-free-rest-clause-advanced c =
 pub returns-then-free-rest-clause-done : goal.returns-then-free-rest-clause-done
 returns-then-free-rest-clause-done c =
     let late = c.if-free-rest.true in
-    last_in_hand c.args.plan.now c.args.book.now c.args.part.now c.args.onward.number c.move_at-step.result c.move_at-step.ensures c.pieces.result.now c.pieces.ensures c.enters-rest.result c.requires.part.ticks.0 c.enters-rest.ensures.from c.args.search.now.limits c.enters-rest.ensures.to c.args.trip.now c.args.search.now c.reach.new.search refl c.reach.ensures.further c.in-Some.free c.in-Some.ensures.found c.in_ok-reach.ensures.admitted c.leave_later.new.queue c.args.onward.label (omega (arith, ints))
+    last_in_hand c.args.plan.now c.args.book.now c.args.part.now c.args.next.now.onward.number c.args.next.now.step c.requires.step c.pieces.result.now c.pieces.ensures c.enters-rest.result c.requires.part.ticks.0 c.enters-rest.ensures.from c.args.search.now.limits c.enters-rest.ensures.to c.args.trip.now c.args.search.now c.reach.new.search refl c.reach.ensures.further c.in-Some.free c.in-Some.ensures.found c.in_ok-reach.ensures.admitted c.leave_later.new.queue c.args.next.now.onward.label (omega (arith, ints))
 
 pub move_behind-requires-clause-near : goal.move_behind-requires-clause-near
 move_behind-requires-clause-near c =
@@ -58,7 +58,7 @@ move_behind-requires-clause-near c =
 
 pub move_behind-requires-clause-run : goal.move_behind-requires-clause-run
 move_behind-requires-clause-run c =
-    subst (λ m. IsShort m.run) (sym c.move_at-step.ensures) ((c.requires.plan.places c.args.part.now.place _ c.requires.part.place).moves c.args.onward.number _ c.requires.number).run.0
+    subst (λ m. IsShort m.run) (sym c.requires.step) ((c.requires.plan.places c.args.part.now.place _ c.requires.part.place).moves c.args.next.now.onward.number _ c.requires.number).run.0
 
 pub returns-clause-advanced : goal.returns-clause-advanced
 returns-clause-advanced c = on_ok_weaker c.push.result
@@ -68,17 +68,17 @@ returns-clause-advanced c = on_ok_weaker c.push.result
 
 pub returns-clause-done : goal.returns-clause-done
 returns-clause-done c = on_ok_weaker c.push.result
-    (rest_in_hand c.args.plan.now c.args.book.now c.args.part.now c.args.onward.number c.move_at-step.result c.move_at-step.ensures c.pieces.result.now c.pieces.ensures c.enters-rest.result c.requires.part.ticks.0 c.enters-rest.ensures.from c.args.search.now.limits c.enters-rest.ensures.to c.args.trip.now c.args.search.now c.reach.new.search refl c.reach.ensures.further c.in-Some.free c.in-Some.ensures.found c.in_ok-reach.ensures.admitted c.push.new.self c.args.onward.label c.move_behind.result c.move_behind.ensures.label c.move_behind.ensures.work c.ahead_to-ahead.result c.ahead_to-ahead.ensures.value c.move_behind.ensures.tick)
+    (rest_in_hand c.args.plan.now c.args.book.now c.args.part.now c.args.next.now.onward.number c.args.next.now.step c.requires.step c.pieces.result.now c.pieces.ensures c.enters-rest.result c.requires.part.ticks.0 c.enters-rest.ensures.from c.args.search.now.limits c.enters-rest.ensures.to c.args.trip.now c.args.search.now c.reach.new.search refl c.reach.ensures.further c.in-Some.free c.in-Some.ensures.found c.in_ok-reach.ensures.admitted c.push.new.self c.args.next.now.onward.label c.move_behind.result c.move_behind.ensures.label c.move_behind.ensures.work c.ahead_to-ahead.result c.ahead_to-ahead.ensures.value c.move_behind.ensures.tick)
     c.push.ensures.added
 
 pub enters-rest-requires-clause-run : goal.enters-rest-requires-clause-run
-enters-rest-requires-clause-run c = run_of_move c.args.plan.now c.args.book.now c.requires.plan c.args.part.now.place c.requires.part.place c.args.onward.number c.requires.number c.move_at-step.result c.move_at-step.ensures
+enters-rest-requires-clause-run c = run_of_move c.args.plan.now c.args.book.now c.requires.plan c.args.part.now.place c.requires.part.place c.args.next.now.onward.number c.requires.number c.args.next.now.step c.requires.step
 
 pub enters-rest-requires-clause-limits : goal.enters-rest-requires-clause-limits
 enters-rest-requires-clause-limits c = c.requires.search.limits
 
 pub next_start-requires-clause-pieces : goal.next_start-requires-clause-pieces
-next_start-requires-clause-pieces c = pieces_of_move c.args.plan.now c.args.book.now c.requires.plan c.args.part.now.place c.requires.part.place c.args.onward.number c.requires.number c.move_at-step.result c.move_at-step.ensures c.pieces.result.now c.pieces.ensures
+next_start-requires-clause-pieces c = pieces_of_move c.args.plan.now c.args.book.now c.requires.plan c.args.part.now.place c.requires.part.place c.args.next.now.onward.number c.requires.number c.args.next.now.step c.requires.step c.pieces.result.now c.pieces.ensures
 
 pub reach-requires-clause-some : goal.reach-requires-clause-some
 reach-requires-clause-some c = c.in-Some.ensures.found.ticks

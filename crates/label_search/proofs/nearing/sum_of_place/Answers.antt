@@ -1,4 +1,5 @@
-use Rattle.std.proofs.Common.{◌∙◌, ◌-◌, ◌/◌, ◌%◌, ◌<◌, ◌≤◌, ℕ, Bor, map, subst, sym, arith}
+use Rattle.std.proofs.Common.{◌∙◌, ◌-◌, ◌/◌, ◌%◌, ◌<◌, ◌≤◌, ℕ, Bor, ap, length, map, subst, sym, arith}
+use Rattle.label_search.specs.Nearing.{stay_ahead}
 use Rattle.std.proofs.lemmas.Nat.{mod_below}
 use Rattle.label_search.specs.declared.nearing.Near.{Near}
 use Rattle.label_search.proofs.Resting.{nothing_is}
@@ -21,25 +22,29 @@ returns-then-levels-eq0-clause-value c =
 pub returns-then-levels-eq0-clause-ahead : goal.returns-then-levels-eq0-clause-ahead
 returns-then-levels-eq0-clause-ahead c = nothing_is
 
-pub returns-then-spot-len-clause-value : goal.returns-then-spot-len-clause-value
-returns-then-spot-len-clause-value c =
+pub returns-then-stay-len-clause-value : goal.returns-then-stay-len-clause-value
+returns-then-stay-len-clause-value c =
     let some = c.if-place-eq0.false in
     let called = c.if-levels-eq0.false in
     nothing_past c.args.chart.now.spots c.args.calls.now (map (λ (near : Bor Near). near.now) c.args.nears.now) c.args.rests.now c.args.place (c.args.place - 1) c.len-levels.result (omega arith)
-    c.len-levels.ensures (omega arith) (subst (λ (count : ℕ). count ≤ (c.args.place - 1) / c.len-levels.result) c.len.ensures c.if-spot-len.true)
+    c.len-levels.ensures (omega arith) (subst (λ (count : ℕ). count ≤ (c.args.place - 1) / c.len-levels.result) c.len.ensures (subst (λ (spot : ℕ). c.len.result ≤ spot) c.stay_of-stay.ensures.spot c.if-stay-len.true))
 
-pub returns-then-spot-len-clause-ahead : goal.returns-then-spot-len-clause-ahead
-returns-then-spot-len-clause-ahead c = nothing_is
+pub returns-then-stay-len-clause-ahead : goal.returns-then-stay-len-clause-ahead
+returns-then-stay-len-clause-ahead c = nothing_is
 
 pub sum_of_stay-requires-clause-made : goal.sum_of_stay-requires-clause-made
 sum_of_stay-requires-clause-made c =
     let called = c.if-levels-eq0.false in
-    subst (λ (levels : ℕ). (c.args.place - 1) % c.len-levels.result < levels) c.len-levels.ensures (mod_below (c.args.place - 1) c.len-levels.result (omega arith))
+    subst (λ (made : ℕ). made < length c.args.calls.now) (sym c.stay_of-stay.ensures.made)
+    (subst (λ (levels : ℕ). (c.args.place - 1) % c.len-levels.result < levels) c.len-levels.ensures (mod_below (c.args.place - 1) c.len-levels.result (omega arith)))
 
 pub returns-clause-value : goal.returns-clause-value
 returns-clause-value c =
     let some = c.if-place-eq0.false in
     let called = c.if-levels-eq0.false in
     sum_at_place c.args.chart.now.spots c.args.calls.now (map (λ (near : Bor Near). near.now) c.args.nears.now) c.args.rests.now c.args.place (c.args.place - 1) c.len-levels.result (omega arith)
-    c.len-levels.ensures (omega arith) (subst (λ (count : ℕ). (c.args.place - 1) / c.len-levels.result < count) c.len.ensures c.if-spot-len.false)
-    c.sum_of_stay.result c.sum_of_stay.ensures.sum
+    c.len-levels.ensures (omega arith) (subst (λ (count : ℕ). (c.args.place - 1) / c.len-levels.result < count) c.len.ensures (subst (λ (spot : ℕ). spot < c.len.result) c.stay_of-stay.ensures.spot c.if-stay-len.false))
+    c.sum_of_stay.result
+    (c.sum_of_stay.ensures.sum
+    ∙ (ap (λ (spot : ℕ). stay_ahead c.args.chart.now.spots c.args.calls.now (map (λ (near : Bor Near). near.now) c.args.nears.now) c.args.rests.now spot c.stay_of-stay.result.made) c.stay_of-stay.ensures.spot
+    ∙ ap (λ (made : ℕ). stay_ahead c.args.chart.now.spots c.args.calls.now (map (λ (near : Bor Near). near.now) c.args.nears.now) c.args.rests.now ((c.args.place - 1) / c.len-levels.result) made) c.stay_of-stay.ensures.made))

@@ -22,7 +22,7 @@ loop-free-init c = record {
 
 pub reach-requires-clause-free : goal.reach-requires-clause-free
 reach-requires-clause-free c =
-    free_moves c.args.plan.now c.args.book.now c.args.front.now c.args.number _ c.move_at-step.ensures _ c.pieces.ensures c.loop-free.rest c.requires.front.ticks.0 c.loop-free.invariant.from c.args.search.now.limits c.loop-free.invariant.to c.requires.number _ c.in-Some.ensures.found
+    free_moves c.args.plan.now c.args.book.now c.args.front.now c.args.number _ c.requires.step _ c.pieces.ensures c.loop-free.rest c.requires.front.ticks.0 c.loop-free.invariant.from c.args.search.now.limits c.loop-free.invariant.to c.requires.number _ c.in-Some.ensures.found
 
 pub returns-in_err-reach-clause-further : goal.returns-in_err-reach-clause-further
 returns-in_err-reach-clause-further c = further_more _ _ _ c.loop-free.invariant.further c.in_err-reach.ensures.further
@@ -45,7 +45,7 @@ loop-free-preserved c =
       from = omega (arith, ints);
       to = omega (arith, ints);
       explored = λ enter held early.
-          admitted_more c.args.plan.now c.args.book.now c.args.front.now c.args.number _ c.move_at-step.ensures _ c.pieces.ensures c.loop-free.rest c.requires.front.ticks.0 old.from c.args.search.now.limits old.to c.args.trip.now _ _ c.reach.ensures.further _ next old.explored c.in_ok-reach.ensures.admitted enter held (omega (arith, ints));
+          admitted_more c.args.plan.now c.args.book.now c.args.front.now c.args.number _ c.requires.step _ c.pieces.ensures c.loop-free.rest c.requires.front.ticks.0 old.from c.args.search.now.limits old.to c.args.trip.now _ _ c.reach.ensures.further _ next old.explored c.in_ok-reach.ensures.admitted enter held (omega (arith, ints));
     }
 
 pub returns-clause-explored : goal.returns-clause-explored
@@ -53,7 +53,7 @@ returns-clause-explored c enter held free below =
     let old = c.loop-free.invariant in
     by_lt_z enter c.loop-free.rest.from
     (λ ahead. old.explored enter held ahead free below)
-    (λ behind. absurd (none_left c.args.plan.now c.args.book.now c.args.front.now c.args.number _ c.move_at-step.ensures _ c.pieces.ensures c.loop-free.rest c.requires.front.ticks.0 old.from c.args.search.now.limits old.to (c.in_default.ensures.none refl) enter held behind free (subst (λ limits. IsBelow limits (move_at c.args.plan.now c.args.front.now.place c.args.number).target (leave_of c.args.plan.now c.args.front.now.place (step_at c.args.number enter))) c.loop-free.invariant.further.limits below)))
+    (λ behind. absurd (none_left c.args.plan.now c.args.book.now c.args.front.now c.args.number _ c.requires.step _ c.pieces.ensures c.loop-free.rest c.requires.front.ticks.0 old.from c.args.search.now.limits old.to (c.in_default.ensures.none refl) enter held behind free (subst (λ limits. IsBelow limits (move_at c.args.plan.now c.args.front.now.place c.args.number).target (leave_of c.args.plan.now c.args.front.now.place (step_at c.args.number enter))) c.loop-free.invariant.further.limits below)))
 
 pub reach-requires-clause-held : goal.reach-requires-clause-held
 reach-requires-clause-held c enter held =
@@ -78,10 +78,10 @@ loop-free-smaller c =
 
 pub reach-requires-clause-below : goal.reach-requires-clause-below
 reach-requires-clause-below c =
-    free_below c.args.plan.now c.args.book.now c.args.front.now c.args.number _ c.move_at-step.ensures _ c.pieces.ensures c.loop-free.rest c.requires.front.ticks.0 c.loop-free.invariant.from c.args.search.now.limits c.loop-free.invariant.to _ c.in-Some.ensures.found _ (sym c.loop-free.invariant.further.limits)
+    free_below c.args.plan.now c.args.book.now c.args.front.now c.args.number _ c.requires.step _ c.pieces.ensures c.loop-free.rest c.requires.front.ticks.0 c.loop-free.invariant.from c.args.search.now.limits c.loop-free.invariant.to _ c.in-Some.ensures.found _ (sym c.loop-free.invariant.further.limits)
 
 pub enters-rest-requires-clause-run : goal.enters-rest-requires-clause-run
-enters-rest-requires-clause-run c = run_of_move c.args.plan.now c.args.book.now c.requires.plan c.args.front.now.place c.requires.front.place c.args.number c.requires.number c.move_at-step.result c.move_at-step.ensures
+enters-rest-requires-clause-run c = run_of_move c.args.plan.now c.args.book.now c.requires.plan c.args.front.now.place c.requires.front.place c.args.number c.requires.number c.args.step.now c.requires.step
 
 pub next_start-requires-clause-pieces : goal.next_start-requires-clause-pieces
-next_start-requires-clause-pieces c = pieces_of_move c.args.plan.now c.args.book.now c.requires.plan c.args.front.now.place c.requires.front.place c.args.number c.requires.number c.move_at-step.result c.move_at-step.ensures c.pieces.result.now c.pieces.ensures
+next_start-requires-clause-pieces c = pieces_of_move c.args.plan.now c.args.book.now c.requires.plan c.args.front.now.place c.requires.front.place c.args.number c.requires.number c.args.step.now c.requires.step c.pieces.result.now c.pieces.ensures

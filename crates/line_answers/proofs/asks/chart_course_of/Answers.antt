@@ -9,9 +9,6 @@ use Rattle.rail_types.specs.Timetables.{Timetable}
 use Rattle.line_answers.proofs.Timetabled.{at_timetable, from_timetable}
 use Rattle.line_answers.proofs.asks.chart_course_of.Goals as goal
 
-pub returns-then-proves-clause-copy : goal.returns-then-proves-clause-copy
-returns-then-proves-clause-copy g c entries copy = copy
-
 -- ---- the chart does not bound the places
 
 pub returns-then-not-is_narrow-clause-copy : goal.returns-then-not-is_narrow-clause-copy
@@ -42,6 +39,3 @@ returns-clause-course g c =
     at_timetable (λ net settings. IsChartCourse net settings c.args.request.now c.in-Ok.course)
     (timetable_at c.args.shared.now.gate) c.network_of-net.result.now c.args.shared.now.settings
     c.network_of-net.ensures c.requires.shared.settings c.in-Ok.ensures.course
-
-pub returns-clause-unproved : goal.returns-clause-unproved
-returns-clause-unproved g c = c.if-proves.false

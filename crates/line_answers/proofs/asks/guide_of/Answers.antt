@@ -1,4 +1,3 @@
-use Rattle.std.proofs.Common.{◌≡◌, false, true, sym, ◌∙◌}
 use Rattle.ask_turns.specs.Turns.{timetable_at}
 use Rattle.rail_types.specs.Timetables.{Timetable}
 use Rattle.line_answers.proofs.asks.guide_of.Goals as goal
@@ -8,9 +7,6 @@ use Rattle.line_answers.proofs.asks.guide_of.Goals as goal
 pub returns-in-Some-clause-guide : goal.returns-in-Some-clause-guide
 returns-in-Some-clause-guide g c =
     c.in-Some.ensures.some (timetable_at c.args.shared.now.gate) c.requires.copy.0 c.requires.copy.1
-
-pub returns-in-Some-clause-listed : goal.returns-in-Some-clause-listed
-returns-in-Some-clause-listed g c proved = tt
 
 pub returns-in-Some-clause-copy : goal.returns-in-Some-clause-copy
 returns-in-Some-clause-copy g c = c.take_course.ensures.copy (timetable_at c.args.shared.now.gate)
@@ -25,10 +21,6 @@ chart_course_of-requires-clause-copy g c =
 pub returns-in-Some-chart_course_of-clause-guide : goal.returns-in-Some-chart_course_of-clause-guide
 returns-in-Some-chart_course_of-clause-guide g c = c.in-Some-chart_course_of.ensures.course
 
-pub returns-in-Some-chart_course_of-clause-listed : goal.returns-in-Some-chart_course_of-clause-listed
-returns-in-Some-chart_course_of-clause-listed g c proved =
-    let wrong : false ≡ true = sym c.in-Some-chart_course_of.ensures.unproved ∙ proved in cc
-
 pub returns-in-Some-chart_course_of-clause-copy : goal.returns-in-Some-chart_course_of-clause-copy
 returns-in-Some-chart_course_of-clause-copy g c entries copy =
     c.chart_course_of.ensures.copy entries (c.take_course.ensures.copy (timetable_at c.args.shared.now.gate) entries copy)
@@ -41,9 +33,6 @@ returns-in_err-course-clause-copy g c entries copy =
 
 pub returns-clause-guide : goal.returns-clause-guide
 returns-clause-guide g c = c.in_ok-course.ensures.course
-
-pub returns-clause-listed : goal.returns-clause-listed
-returns-clause-listed g c proved = tt
 
 pub returns-clause-copy : goal.returns-clause-copy
 returns-clause-copy g c entries copy =

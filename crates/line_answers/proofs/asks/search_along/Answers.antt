@@ -35,9 +35,6 @@ try_searches-requires-clause-may g c =
           c.requires.guide;
     }
 
-pub try_searches-requires-clause-listed : goal.try_searches-requires-clause-listed
-try_searches-requires-clause-listed g c = c.requires.listed
-
 pub returns-in-Ok-clause-answers : goal.returns-in-Ok-clause-answers
 returns-in-Ok-clause-answers g c v after looks reached is_new rules allowed =
     let caller : Caller = caller_of c.args.shared.now rules c.args.guest.now.client.name c.args.ask.now.line in

@@ -29,9 +29,6 @@ search_along-reply-requires-clause-name g c = subst IsClientName (sym c.guide_of
 pub search_along-reply-requires-clause-guide : goal.search_along-reply-requires-clause-guide
 search_along-reply-requires-clause-guide g c = c.in-Ok.ensures.guide
 
-pub search_along-reply-requires-clause-listed : goal.search_along-reply-requires-clause-listed
-search_along-reply-requires-clause-listed g c = c.in-Ok.ensures.listed
-
 -- ---- too many places, or no memory for them
 
 pub returns-in-Err-Wide-clause-knows : goal.returns-in-Err-Wide-clause-knows

@@ -28,7 +28,7 @@ returns-in_ok-proof-in-NoPath c =
     let none : IsNone c.args.plan.now c.trip.result c.args.book.now c.in-NoPath.members = subst (IsSought c.args.plan.now c.trip.result c.args.book.now) c.in-NoPath.is c.in_ok-steps.ensures in
     none_answer c.planned_paths_are_granted.ensures c.granted_paths_are_planned.ensures c.args.net.now c.args.settings.now c.args.request.now c.args.places.now c.args.plan.now
     (over_of c.args.net.now c.args.settings.now c.args.request.now c.args.places.now c.args.plan.now c.requires.planned) c.args.book.now c.claims_have_ticks.ensures
-    c.requires.planned.places c.closed_plans_are_closed.ensures c.windows_change_no_places.ensures c.in-NoPath.members c.in_ok-proof-in-NoPath.proof c.in_ok-proof-in-NoPath.ensures
+    c.closed_plans_are_closed.ensures c.windows_change_no_places.ensures c.in-NoPath.members c.in_ok-proof-in-NoPath.proof c.in_ok-proof-in-NoPath.ensures
     (subst (λ trip. IsNone c.args.plan.now trip c.args.book.now c.in-NoPath.members) c.trip.ensures none)
 
 pub returns-in_ok-proof-in-Found : goal.returns-in_ok-proof-in-Found
@@ -36,6 +36,6 @@ returns-in_ok-proof-in-Found c =
     let found : IsFound c.args.plan.now c.trip.result c.args.book.now c.in-Found.steps c.in-Found.members = subst (IsSought c.args.plan.now c.trip.result c.args.book.now) c.in-Found.is c.in_ok-steps.ensures in
     found_answer c.planned_paths_are_granted.ensures c.granted_paths_are_planned.ensures c.args.net.now c.args.settings.now c.args.request.now c.args.places.now c.args.plan.now
     (over_of c.args.net.now c.args.settings.now c.args.request.now c.args.places.now c.args.plan.now c.requires.planned) c.args.book.now c.claims_have_ticks.ensures
-    c.requires.planned.places c.closed_plans_are_closed.ensures c.windows_change_no_places.ensures c.in-Found.members c.in_ok-proof-in-Found.proof c.in_ok-proof-in-Found.ensures
+    c.closed_plans_are_closed.ensures c.windows_change_no_places.ensures c.in-Found.members c.in_ok-proof-in-Found.proof c.in_ok-proof-in-Found.ensures
     c.in-Found.steps c.in_ok-path-in-Found.path c.in_ok-path-in-Found.ensures
     (subst (λ trip. IsFound c.args.plan.now trip c.args.book.now c.in-Found.steps c.in-Found.members) c.trip.ensures found)

@@ -22,17 +22,17 @@ returns-in_ok-excluded-in-Found c =
     let live = claims_held c.args.book.now in
     let request = c.args.request.now in
     let closed = c.in-Found.closed in
-    let course = c.args.course.now in
-    let all = c.requires.course.planned in
-    let has = c.courses_have_the_places.ensures net settings request course c.requires.course in
+    let listed = c.guides_have_the_places.ensures net settings request c.args.guide.now c.requires.request c.requires.guide in
+    let places = listed.0 in let has = listed.1 in
     let cut = c.in_ok-excluded-in-Found.ensures in
     let found : IsAnswer net settings live request (Found c.in-Found.path closed) = subst (λ (sought : Sought). IsAnswer net settings live request sought) c.in-Found.is c.in_ok-sought.ensures in
     record {
       answer = found.0;
       excludes = cut;
       certificate = subst (λ (r : Request). IsCertificate net settings live r closed) (sym cut) found.1;
-      passes = subst (λ (r : Request). Passes net settings live r course.places closed) (sym cut)
-          (c.certificates_pass.ensures.earlier net settings live request course.places c.in-Found.path closed all.flawless all.timetable c.requires.request has.places has.moves all.few found);
+      places = places;
+      passes = subst (λ (r : Request). Passes net settings live r places closed) (sym cut)
+          (c.certificates_pass.ensures.earlier net settings live request places c.in-Found.path closed has.flawless has.timetable c.requires.request has.places has.moves has.few found);
     }
 
 pub returns-in_ok-excluded-in-NoPath : goal.returns-in_ok-excluded-in-NoPath
@@ -42,15 +42,15 @@ returns-in_ok-excluded-in-NoPath c =
     let live = claims_held c.args.book.now in
     let request = c.args.request.now in
     let closed = c.in-NoPath.closed in
-    let course = c.args.course.now in
-    let all = c.requires.course.planned in
-    let has = c.courses_have_the_places.ensures net settings request course c.requires.course in
+    let listed = c.guides_have_the_places.ensures net settings request c.args.guide.now c.requires.request c.requires.guide in
+    let places = listed.0 in let has = listed.1 in
     let same = c.in_ok-excluded-in-NoPath.ensures in
     let none : IsAnswer net settings live request (NoPath closed) = subst (λ (sought : Sought). IsAnswer net settings live request sought) c.in-NoPath.is c.in_ok-sought.ensures in
     record {
       answer = none.0;
       excludes = same;
       certificate = subst (λ (r : Request). IsCertificate net settings live r closed) (sym same) none.1;
-      passes = subst (λ (r : Request). Passes net settings live r course.places closed) (sym same)
-          (c.certificates_pass.ensures.refused net settings live request course.places closed all.flawless all.timetable c.requires.request has.places has.moves all.few none);
+      places = places;
+      passes = subst (λ (r : Request). Passes net settings live r places closed) (sym same)
+          (c.certificates_pass.ensures.refused net settings live request places closed has.flawless has.timetable c.requires.request has.places has.moves has.few none);
     }

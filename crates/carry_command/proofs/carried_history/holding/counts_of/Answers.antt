@@ -10,8 +10,8 @@ loop-zone-preserved c =
     let at = c.loop-zone.zone in
     let none : Zone = record { claims = []; spare = 0 } in
     let within : at < length c.args.claims = search rules in
-    let count : length c.of_zone.result.now ≡ count_of (get_or c.args.claims at none) = ap length c.of_zone.ensures.claims in
-    counted_more c.args.claims at none within c.loop-zone.counts.items c.push.new.self.items (length c.of_zone.result.now) c.loop-zone.invariant c.in_ok-push.ensures.items count
+    let count : c.len.result ≡ count_of (get_or c.args.claims at none) = c.len.ensures ∙ ap length c.of_zone.ensures.claims in
+    counted_more c.args.claims at none within c.loop-zone.counts.items c.push.new.self.items c.len.result c.loop-zone.invariant c.in_ok-push.ensures.items count
 
 pub returns : goal.returns
 returns c =

@@ -3,7 +3,7 @@ use Rattle.grant_log.specs.Live.{claims_of, freed_by, live_from, live_of, owned_
 use Rattle.grant_log.proofs.Lives.{entry_at}
 use Rattle.grant_log.specs.Since.{claims_at, claims_of_some}
 use Rattle.grant_log.proofs.Bringing.{brought_more}
-use Rattle.grant_log.proofs.copy_since.since.brought_since.Goals.{then-is_none+in_ok-claims+in_ok-push_owned, else-is_none}
+use Rattle.grant_log.proofs.copy_since.since.brought_since.Goals.{then-is_none+in_ok-push_brought, else-is_none}
 use Rattle.grant_log.proofs.copy_since.since.brought_since.Goals as goal
 
 pub loop-at-preserved : goal.loop-at-preserved
@@ -17,10 +17,10 @@ loop-at-preserved c =
     let more = brought_more timetable entries front at here.0 c.loop-at.auto.at here.1 in
     let claims : claims_at timetable entries at ≡ claims_of timetable here.0.deed = ap (claims_of_some timetable) here.1 in
     elim c.if-is_none.branch [
-      | then-is_none+in_ok-claims+in_ok-push_owned w ↦
+      | then-is_none+in_ok-push_brought w ↦
           let none : is_some (freed_by entries at) ≡ false = ap is_some (sym c.freed_by.ensures) ∙ c.is_none.ensures ∙ ap not w.if-is_none.true in
           let own : live_of timetable entries at here.0 ≡ owned_by at (claims_of timetable here.0.deed) = rw none refl in
-          ap (λ v. v.items) w.all-is ∙ w.in_ok-push_owned.ensures ∙ ap (λ l. l ++ owned_by at w.deref.result.now) c.loop-at.invariant ∙ ap (λ l. live_from timetable entries front (take (at - front) (drop front entries)) ++ owned_by at l) (w.deref.ensures.value ∙ w.in_ok-claims.ensures ∙ claims) ∙ ap (λ l. live_from timetable entries front (take (at - front) (drop front entries)) ++ l) (sym own) ∙ sym more
+          ap (λ v. v.items) w.all-is ∙ w.in_ok-push_brought.ensures ∙ ap (λ l. l ++ owned_by at (claims_at timetable entries at)) c.loop-at.invariant ∙ ap (λ l. live_from timetable entries front (take (at - front) (drop front entries)) ++ owned_by at l) claims ∙ ap (λ l. live_from timetable entries front (take (at - front) (drop front entries)) ++ l) (sym own) ∙ sym more
       | else-is_none w ↦
           let some : is_some (freed_by entries at) ≡ true = ap is_some (sym c.freed_by.ensures) ∙ c.is_none.ensures ∙ ap not w.if-is_none.false in
           let own : live_of timetable entries at here.0 ≡ [] = rw some refl in

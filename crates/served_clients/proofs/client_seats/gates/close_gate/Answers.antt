@@ -1,6 +1,6 @@
-use Rattle.std.proofs.Common.{refl, ◌-◌, ap, subst}
+use Rattle.std.proofs.Common.{refl, ap, subst}
 use Rattle.line_answers.specs.gate.Passes.{view, opened}
-use Rattle.line_answers.specs.gate.Views.{mark_of, rises, statement_of}
+use Rattle.line_answers.specs.gate.Views.{mark_of, statement_of}
 use Rattle.line_answers.specs.history.Legal.{IsLegal}
 use Rattle.line_answers.specs.book.Ledgers.{Ledger, settled_of}
 use Rattle.served_clients.proofs.Whole.{run_is, timetable_in}

@@ -1,0 +1,11 @@
+//! The value of a file's text, without the members that nobody reads.
+
+mod kept_values;
+mod number_tokens;
+mod passing;
+mod read_keys;
+mod texts;
+mod value_tokens;
+mod whole_values;
+
+pub use texts::file_value;
