@@ -1,6 +1,7 @@
 #!/usr/bin/env python3
-"""Tests that what a client asked before changes no reply and no proof: a client keeps what searches
-of its last requests had worked out, and finds by it what a client finds that has asked nothing yet.
+"""Tests that what a client asked before changes no reply, and of a proof no more than the order of
+its members: a client keeps what searches of its last requests had worked out, and finds by it what a
+client finds that has asked nothing yet.
 
 On corridors with planned trains one client asks all in one session. Another server, over a journal
 of its own, is begun anew for each ask. More relations are asked for than are kept, each of them
@@ -108,6 +109,16 @@ def lines_of(talk: Talk, stops: list[str], zones: int, source: random.Random) ->
     return lines
 
 
+def in_order(proofs: str) -> list[list[str]]:
+    """Each proof's head, and then its members in the order of their texts."""
+    made: list[list[str]] = []
+    for line in proofs.splitlines():
+        if line.startswith("proof "):
+            made.append([])
+        made[-1].append(line)
+    return [[*proof[:2], *sorted(proof[2:])] for proof in made]
+
+
 def try_talk(cases: Cases, program: Path, folder: Path, talk: Talk) -> None:
     """All lines in one session, and each in a session of its own over another journal."""
     seed, source = talk.seed, random.Random(talk.seed)
@@ -142,8 +153,12 @@ def try_talk(cases: Cases, program: Path, folder: Path, talk: Talk) -> None:
         cases.equal(f"corridor {seed}: {line}", wanted, got)
     cases.equal(f"corridor {seed}: as many replies", len(lines), len(together))
     if talk.proves:
-        cases.equal(f"corridor {seed}: the proofs", many.path("proofs").read_text(),
-                    one.path("proofs").read_text())
+        wanted, got = (in_order(world.path("proofs").read_text()) for world in (many, one))
+        cases.equal(f"corridor {seed}: as many proofs", len(wanted), len(got))
+        for line, apart_proof, proof in zip((line for line, reply in zip(lines, together)
+                                             if reply.split()[0] in ("granted", "no-path")),
+                                            wanted, got):
+            cases.equal(f"corridor {seed}: the proof beside {line}", apart_proof, proof)
 
 
 def main() -> int:
