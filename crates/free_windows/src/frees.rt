@@ -54,32 +54,52 @@ pub fn next_start(pieces: &[Claim], book: &Occupations, within: &Window) -> Opti
     ensures none { IsNone result → (tick : ℤ) → Holds within.now tick
         → ¬ Fits (held book.now) pieces.now tick }
 {
-    let mut rest = *within;
-    while rest.from <= rest.to {
-        let stretch = stretch_of_all(pieces, book, &rest);
-        if stretch.free {
-            return Some(stretch.ticks);
-        }
-        rest = behind(&rest, &stretch.ticks);
+    if within.from > within.to {
+        return None;
     }
-    None
+    // The `known` pieces in a row that stand before `at`, where the first piece follows the last,
+    // all leave `ticks` free, which are the first ticks of `rest`. No tick before `rest` fits.
+    let mut rest = *within;
+    let mut ticks = rest;
+    let mut known = 0;
+    let mut at = 0;
+    while known < pieces.len() {
+        let piece = &pieces[at];
+        let stretch = stretch_of(book.of_zone(piece.zone), piece, &rest);
+        if stretch.free {
+            ticks = until_either_ends(&ticks, &stretch.ticks);
+            known += 1;
+            at = next_place(at, pieces.len());
+        } else {
+            rest = behind(&rest, &stretch.ticks);
+            if rest.from > rest.to {
+                return None;
+            }
+            ticks = rest;
+            known = 0;
+        }
+    }
+    Some(ticks)
 }
 
-fn stretch_of_all(pieces: &[Claim], book: &Occupations, within: &Window) -> Stretch
-    requires pieces { All (IsPiece (length book.now)) pieces.now }
-    requires within { IsNearWindow within.now }
-    requires some { within.now.from ≤ℤ within.now.to }
-    ensures { IsStretch (Fits (held book.now) pieces.now) within.now result.free result.ticks }
+// The place behind one of so many, which is the first one behind the last.
+fn next_place(at: usize, count: usize) -> usize
+    requires { at < count }
+    ensures on { at + 1 < count → result ≡ at + 1 }
+    ensures round { at + 1 ≡ count → result ≡ 0 }
 {
-    let mut ticks = *within;
-    for piece in pieces {
-        let stretch = stretch_of(book.of_zone(piece.zone), piece, &ticks);
-        if !stretch.free {
-            return stretch;
-        }
-        ticks = stretch.ticks;
+    if at + 1 < count { at + 1 } else { 0 }
+}
+
+// The ticks of two windows with one first tick that stand in both.
+fn until_either_ends(one: &Window, other: &Window) -> Window
+    ensures from { result.from ≡ one.now.from }
+    ensures to { result.to ≡ int_min one.now.to other.now.to }
+{
+    Window {
+        from: one.from,
+        to: one.to.min(other.to),
     }
-    Stretch { free: true, ticks }
 }
 
 fn stretch_of(kept: &ZoneClaims, piece: &Claim, within: &Window) -> Stretch
