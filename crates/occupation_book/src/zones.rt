@@ -1,8 +1,8 @@
 //! The claims of one zone.
 
 ghost use Rattle.std.specs.Prelude.{◌≡◌, ℕ, ◌+◌, ◌<◌, ◌≤◌, ◌<ℤ◌, ◌≤ℤ◌, [], ◌∷◌, ◌++◌, length, min};
-ghost use Rattle.std.specs.Prelude.{int_le, AllPairs, insert, slice_index_or, vec_capacity, vec_len};
-ghost use Rattle.std.specs.Prelude.{IfOk, IfSome, IsNone, OnErr, OnOk, ◌↔◌, IsOk};
+ghost use Rattle.std.specs.Prelude.{int_le, insert, slice_index_or, vec_capacity, vec_len};
+ghost use Rattle.std.specs.Prelude.{AllPairs, IfOk, IfSome, IsNone, OnErr, OnOk, ◌↔◌, IsOk};
 ghost use Rattle.std.specs.List.{AllWithin};
 ghost use Rattle.std.specs.List.Sorted.{IsPermutation};
 ghost use Rattle.rail_types.specs.FirstClash.{IsFirstClash};
