@@ -226,7 +226,10 @@ fn front_of(label: &Label) -> Front
     Front {
         place: label.place,
         ready: label.ready,
-        ticks: label.ticks,
+        ticks: Window {
+            from: label.ticks.from,
+            to: label.ticks.to,
+        },
     }
 }
 
