@@ -165,6 +165,7 @@ impl Labels {
     }
 
     // Labels for those ticks that no label has.
+    #[inline(always)]
     pub(crate) fn add(&mut self, wanted: &Label) -> Result<(), NoMemory>
         requires place { wanted.now.place < self.old.places }
         requires near { IsNearBelow wanted.now.ticks }
