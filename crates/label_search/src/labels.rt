@@ -247,6 +247,7 @@ fn front_of(label: &Label) -> Front
     Front {
         place: label.place,
         ready: label.ready,
+        // By its fields: a copy of the whole reads together what was written apart just before.
         ticks: Window {
             from: label.ticks.from,
             to: label.ticks.to,
