@@ -9,20 +9,12 @@ ghost use Rattle.rail_types.specs.Limits.{IsNear, IsNearSpan};
 ghost use Rattle.rail_types.specs.Occupation.{HasTicks};
 ghost use Rattle.occupation_book.specs.Held.{AreInOrder, held};
 ghost use Rattle.free_windows.specs.Free.{Fits, Holds, IsFreeOf, moved};
-ghost use Rattle.free_windows.specs.Starts.{IsPiece, IsNearWindow, IsStretch, IsNextWindow};
-ghost use Rattle.free_windows.specs.Starts.{AreWindowsOf};
+ghost use Rattle.free_windows.specs.Starts.{IsPiece, IsNearWindow, IsNextWindow, AreWindowsOf};
 
 use no_memory::NoMemory;
 use occupation_book::{Occupations, ZoneClaims};
 use rail_types::{Claim, Span, Window};
 use std::alloc::Global;
-
-// The first ticks of a window, all of which are free or none.
-#[derive(Clone, Copy, Debug)]
-struct Stretch {
-    free: bool,
-    ticks: Window,
-}
 
 /// The ticks of a window to which claims can be moved, that stand here for tick 0, so that each of
 /// them is free: ascending windows that neither overlap nor touch.
@@ -54,97 +46,79 @@ pub fn next_start(pieces: &[Claim], book: &Occupations, within: &Window) -> Opti
     ensures none { IsNone result → (tick : ℤ) → Holds within.now tick
         → ¬ Fits (held book.now) pieces.now tick }
 {
+    if within.from > within.to {
+        return None;
+    }
+    // The `known` pieces in a row that stand before `at`, where the first piece follows the last,
+    // all leave `ticks` free, which are the first ticks of `rest`. No tick before `rest` fits.
     let mut rest = *within;
-    while rest.from <= rest.to {
-        let stretch = stretch_of_all(pieces, book, &rest);
-        if stretch.free {
-            return Some(stretch.ticks);
+    let mut ticks = rest;
+    let mut known = 0;
+    let mut at = 0;
+    while known < pieces.len() {
+        let piece = &pieces[at];
+        let next = next_of(book.of_zone(piece.zone), piece, &rest)?;
+        if next.from > rest.from {
+            rest.from = next.from;
+            ticks = next;
+            known = 1;
+        } else {
+            ticks = until_either_ends(&ticks, &next);
+            known += 1;
         }
-        rest = behind(&rest, &stretch.ticks);
+        at = next_place(at, pieces.len());
     }
-    None
+    Some(ticks)
 }
 
-fn stretch_of_all(pieces: &[Claim], book: &Occupations, within: &Window) -> Stretch
-    requires pieces { All (IsPiece (length book.now)) pieces.now }
-    requires within { IsNearWindow within.now }
-    requires some { within.now.from ≤ℤ within.now.to }
-    ensures { IsStretch (Fits (held book.now) pieces.now) within.now result.free result.ticks }
+// The place behind one of so many, which is the first one behind the last.
+fn next_place(at: usize, count: usize) -> usize
+    requires { at < count }
+    ensures on { at + 1 < count → result ≡ at + 1 }
+    ensures round { at + 1 ≡ count → result ≡ 0 }
 {
-    let mut ticks = *within;
-    for piece in pieces {
-        let stretch = stretch_of(book.of_zone(piece.zone), piece, &ticks);
-        if !stretch.free {
-            return stretch;
-        }
-        ticks = stretch.ticks;
-    }
-    Stretch { free: true, ticks }
+    if at + 1 < count { at + 1 } else { 0 }
 }
 
-fn stretch_of(kept: &ZoneClaims, piece: &Claim, within: &Window) -> Stretch
+// The ticks of two windows with one first tick that stand in both.
+fn until_either_ends(one: &Window, other: &Window) -> Window
+    ensures from { result.from ≡ one.now.from }
+    ensures to { result.to ≡ int_min one.now.to other.now.to }
+{
+    Window {
+        from: one.from,
+        to: one.to.min(other.to),
+    }
+}
+
+// The first ticks of a window at which one claim is free of those of its zone, as many as follow
+// one another.
+fn next_of(kept: &ZoneClaims, piece: &Claim, within: &Window) -> Option<Window>
     requires zone { AreInOrder piece.now.zone kept.now.claims }
     requires near { IsNearSpan piece.now.span }
     requires ticks { HasTicks piece.now.span }
     requires within { IsNearWindow within.now }
     requires some { within.now.from ≤ℤ within.now.to }
-    ensures { IsStretch (IsFreeOf kept.now.claims piece.now) within.now result.free result.ticks }
+    ensures found { IfSome result (IsNextWindow (IsFreeOf kept.now.claims piece.now) within.now) }
+    ensures none { IsNone result → (tick : ℤ) → Holds within.now tick
+        → ¬ IsFreeOf kept.now.claims piece.now tick }
 {
     let start = at_start(piece, within);
-    let at = kept.first_ending_after(piece.zone, &start);
-    if at >= kept.len() {
-        return Stretch {
-            free: true,
-            ticks: *within,
-        };
-    }
-    let next = kept.span_at(at);
-    if next.from < start.to {
-        Stretch {
-            free: false,
-            ticks: taken_from(kept, at, piece, within),
-        }
-    } else {
-        Stretch {
-            free: true,
-            ticks: until_it_begins(&next, piece, within),
-        }
-    }
-}
-
-// The first ticks of a window at which a claim meets those of a zone, from the one of a number on,
-// which it meets at the first tick: they go on as long as the next one begins before it would end.
-fn taken_from(kept: &ZoneClaims, at: usize, piece: &Claim, within: &Window) -> Window
-    requires zone { AreInOrder piece.now.zone kept.now.claims }
-    requires near { IsNearSpan piece.now.span }
-    requires within { IsNearWindow within.now }
-    requires some { within.now.from ≤ℤ within.now.to }
-    requires at { at < length kept.now.claims }
-    requires begun { AllWithin (λ one. one.0.span.from <ℤ (within.now.from +ℤ piece.now.span.to))
-        kept.now.claims at (at + 1) }
-    requires ends { AllWithin (λ one. (within.now.from +ℤ piece.now.span.from) <ℤ one.0.span.to)
-        kept.now.claims at (length kept.now.claims) }
-    ensures { IsStretch (IsFreeOf kept.now.claims piece.now) within.now false result }
-{
-    let count = kept.len();
-    let first = kept.span_at(at);
-    let mut ticks = until_it_ends(&first, piece, within);
-    for number in at + 1..count {
+    let first = kept.first_ending_after(piece.zone, &start);
+    // The piece is free at no tick before `rest`. Where it is moved to the first tick of `rest`,
+    // the claims before `number` have ended as it begins, and the others have not.
+    let mut rest = *within;
+    for number in first..kept.len() {
         let next = kept.span_at(number);
-        if ticks.to >= within.to || is_free_behind(&next, piece, &ticks) {
-            return ticks;
+        if at_start(piece, &rest).to <= next.from {
+            return Some(until_it_begins(&next, piece, &rest));
         }
-        ticks = until_it_ends(&next, piece, within);
+        rest = once_it_ends(&next, piece, &rest);
+        if rest.from > rest.to {
+            return None;
+        }
     }
-    ticks
-}
-
-// Whether a claim that begins behind the last of some ticks ends before the next span begins.
-fn is_free_behind(next: &Span, piece: &Claim, ticks: &Window) -> bool
-    requires near { IsNear piece.now.span.to × IsNear ticks.now.to }
-    ensures { result ≡ false → next.now.from <ℤ ((ticks.now.to +ℤ pos 1) +ℤ piece.now.span.to) }
-{
-    ticks.to + 1 + piece.span.to <= next.from
+    Some(rest)
 }
 
 fn at_start(piece: &Claim, within: &Window) -> Span
@@ -160,14 +134,15 @@ fn at_start(piece: &Claim, within: &Window) -> Span
     }
 }
 
-fn until_it_ends(next: &Span, piece: &Claim, within: &Window) -> Window
+// What is left of a window from the tick on at which a claim begins as a span ends.
+fn once_it_ends(next: &Span, piece: &Claim, within: &Window) -> Window
     requires near { IsNear piece.now.span.from × IsNear next.now.to }
-    ensures from { result.from ≡ within.now.from }
-    ensures to { result.to ≡ int_min within.now.to ((next.now.to -ℤ piece.now.span.from) -ℤ pos 1) }
+    ensures from { result.from ≡ next.now.to -ℤ piece.now.span.from }
+    ensures to { result.to ≡ within.now.to }
 {
     Window {
-        from: within.from,
-        to: within.to.min(next.to - piece.span.from - 1),
+        from: next.to - piece.span.from,
+        to: within.to,
     }
 }
 

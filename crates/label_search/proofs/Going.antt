@@ -24,7 +24,7 @@ use Rattle.label_search.specs.Labels.{IsReached}
 use Rattle.label_search.specs.Search.{IsAdmitted, IsMoveExplored, IsFurther, step_at}
 use Rattle.label_search.specs.Queues.{Pending, Waits}
 use Rattle.label_search.specs.Pending.{LooksAtMove, LooksAtWait, IsMoveInHand, AreLongWaitsInHand}
-use Rattle.label_search.proofs.Reaching.{none_left, admitted_more}
+use Rattle.label_search.proofs.Reaching.{entered_within, none_left, admitted_more}
 use Rattle.label_search.proofs.Waiting.{waits_more}
 
 module _ (plan : Plan) (book : Book) (front : Front) (number : ℕ) (step : Move) (is : step ≡ move_at plan front.place number) (pieces : List Claim) (same : pieces ≡ step.pieces) (rest : Window) (low : pos 0 ≤ℤ front.ticks.from) (from : rest.from ≡ front.ticks.from) (limits : Limits) (to : rest.to ≡ int_min (int_min front.ticks.to (plan.horizon -ℤ step.run)) (last_enter limits step)) where
@@ -38,6 +38,14 @@ module _ (plan : Plan) (book : Book) (front : Front) (number : ℕ) (step : Move
   none_in_hand trip search limits_is queue label none tick held =
       let begins = held.0 in
       inl (none_behind trip search limits_is rest (omega (arith, ints)) refl none tick held (omega (arith, ints)))
+
+  -- labels have all that the move leads to
+  pub known_in_hand : (trip : Trip) (search : Search) → search.limits ≡ limits → (queue : Pending) (label : ℕ) → ((enter : ℤ) → Holds rest enter → IsAdmitted trip search step.target (enter +ℤ step.run)) → (tick : ℤ) → Holds front.ticks tick → IsMoveInHand plan trip book search queue label front.place tick number
+  known_in_hand trip search limits_is queue label known tick held =
+      let begins = held.0 in
+      inl (λ free below. subst (λ (m : Move). IsAdmitted trip search m.target (tick +ℤ m.run)) is
+      (known tick (entered_within plan book front number step is pieces same rest low (omega (arith, ints)) limits to tick held (omega (arith, ints)) free
+      (subst (λ l. IsBelow l (move_at plan front.place number).target (leave_of plan front.place (step_at number tick))) limits_is below))))
 
   module _ (trip : Trip) (old new : Search) (limits_is : old.limits ≡ limits) (further : IsFurther old new) (free : Window) (next : IsNextWindow (Fits book pieces) rest free) (admitted : (enter : ℤ) → Holds free enter → IsAdmitted trip new (move_at plan front.place number).target (leave_of plan front.place (step_at number enter))) (queue : Pending) (label : ℕ) where
     first_explored : (tick : ℤ) → Holds front.ticks tick → tick ≤ℤ free.to → IsMoveExplored plan trip book front.place tick number new

@@ -6,7 +6,7 @@ use Rattle.label_search.specs.declared.plans.Move.{Move}
 use Rattle.label_search.specs.declared.plans.Place.{Place}
 use Rattle.label_search.specs.declared.plans.Plan.{Plan}
 use Rattle.label_search.specs.Free.{Book}
-use Rattle.label_search.specs.Plans.{IsPlan, IsShort}
+use Rattle.label_search.specs.Plans.{IsPlan, IsShort, IsTarget}
 use Rattle.label_search.specs.Paths.{place_at, move_at}
 
 module _ (plan : Plan) (book : Book) (is : IsPlan plan book) (at : ℕ) (inside : at < length plan.places) where
@@ -20,6 +20,9 @@ module _ (plan : Plan) (book : Book) (is : IsPlan plan book) (at : ℕ) (inside 
   module _ (number : ℕ) (within : number < length (place_at plan at).moves) (step : Move) (same : step ≡ move_at plan at number) where
     pub pieces_of_move : (pieces : List Claim) → pieces ≡ step.pieces → All (IsPiece (length book)) pieces
     pieces_of_move pieces read = subst (All (IsPiece (length book))) (sym (read ∙ ap (λ (m : Move). m.pieces) same)) ((is.places at _ inside).moves number _ within).pieces
+
+    pub target_of_move : IsTarget (length plan.places) step.target
+    target_of_move = subst (λ (m : Move). IsTarget (length plan.places) m.target) (sym same) ((is.places at _ inside).moves number _ within).target
 
     pub run_of_move : IsShort step.run
     run_of_move = subst (λ (m : Move). IsShort m.run) (sym same) ((is.places at _ inside).moves number _ within).run.0

@@ -135,10 +135,13 @@ module _ (plan : Plan) (book : Book) (front : Front) (number : ℕ) (step : Move
   fits_pieces : (enter : ℤ) → IsFreeMove plan book front.place (step_at number enter) → Fits book pieces enter
   fits_pieces enter free = subst (λ claims. Fits book claims enter) (sym pieces_of) free.1
 
-  pub none_left : ((tick : ℤ) → Holds rest tick → ¬ Fits book pieces tick) → (enter : ℤ) → Holds front.ticks enter → rest.from ≤ℤ enter → IsFreeMove plan book front.place (step_at number enter) → ¬ IsBelow limits (move_at plan front.place number).target (leave_of plan front.place (step_at number enter))
-  none_left none enter held behind free low =
+  pub entered_within : (enter : ℤ) → Holds front.ticks enter → rest.from ≤ℤ enter → IsFreeMove plan book front.place (step_at number enter) → IsBelow limits (move_at plan front.place number).target (leave_of plan front.place (step_at number enter)) → Holds rest enter
+  entered_within enter held behind free low =
       let ends = held.1 in let leaves = free.0.2 in let run = run_of in let ahead = ahead_is in
-      none enter (behind, omega (arith, ints, clamps)) (fits_pieces enter free)
+      (behind, omega (arith, ints, clamps))
+
+  pub none_left : ((tick : ℤ) → Holds rest tick → ¬ Fits book pieces tick) → (enter : ℤ) → Holds front.ticks enter → rest.from ≤ℤ enter → IsFreeMove plan book front.place (step_at number enter) → ¬ IsBelow limits (move_at plan front.place number).target (leave_of plan front.place (step_at number enter))
+  none_left none enter held behind free low = none enter (entered_within enter held behind free low) (fits_pieces enter free)
 
   pub admitted_more : (trip : Trip) (old new : Search) → IsFurther old new → (free : Window) → IsNextWindow (Fits book pieces) rest free
       → ((enter : ℤ) → Holds front.ticks enter → enter <ℤ rest.from → IsMoveExplored plan trip book front.place enter number old)

@@ -6,6 +6,7 @@ use Rattle.std.specs.Int.{int_min}
 use Rattle.std.specs.List.{AllWithin}
 use Rattle.std.specs.List.Sorted.{IsPartitionedBy}
 use Rattle.std.proofs.lemmas.Bool.{cases_order, cases_Bool}
+use Rattle.std.proofs.lemmas.List.{get_or_default}
 use Rattle.std.proofs.lemmas.Int.{by_lt_z, ints, clamps}
 use Rattle.rail_types.specs.declared.paths.Claim.{Claim}
 use Rattle.rail_types.specs.declared.paths.Span.{Span}
@@ -37,6 +38,30 @@ ends_by_tick kept tick zone i j other le within test = elim (cases_order i j) [
     | inr behind ↦ absurd (omega arith)
   ]
 ]
+
+-- so many spans and those behind them, by whether the last of them has ended
+module _ (kept : List Span) (tick : ℤ) (last : ℕ) (one : Span) (zone : IsZone kept) (inside : last < length kept) where
+  pub all_ended : (get_or kept last one).to ≤ℤ tick → (k : ℕ) (other : Span) → k ≤ last → (get_or kept k other).to ≤ℤ tick
+  all_ended ended_there k other low =
+      let there = subst (λ span. span.to ≤ℤ tick) (get_or_default kept last one other inside) ended_there in
+      elim (cases_order k last) [
+        | inl same ↦ subst (λ q. (get_or kept q other).to ≤ℤ tick) (sym same) there
+        | inr differs ↦ elim differs [
+          | inl before ↦ let ordered = zone.sorted k last other before inside in let lasts = zone.ticks last other inside in omega (arith, ints)
+          | inr behind ↦ absurd (omega arith)
+        ]
+      ]
+
+  pub none_ended : tick <ℤ (get_or kept last one).to → (k : ℕ) (other : Span) → last ≤ k → k < length kept → tick <ℤ (get_or kept k other).to
+  none_ended open_there k other low within =
+      let there = subst (λ span. tick <ℤ span.to) (get_or_default kept last one other inside) open_there in
+      elim (cases_order k last) [
+        | inl same ↦ subst (λ q. tick <ℤ (get_or kept q other).to) (sym same) there
+        | inr differs ↦ elim differs [
+          | inl before ↦ absurd (omega arith)
+          | inr behind ↦ let ordered = zone.sorted last k other behind within in let lasts = zone.ticks k other within in omega (arith, ints)
+        ]
+      ]
 
 module _ (kept : List Span) (piece : Claim) (first : ℤ) (at : ℕ) (zone : IsZone kept) (before : AllWithin (λ one. one.to ≤ℤ (first +ℤ piece.span.from)) kept 0 at) (after : AllWithin (λ one. (first +ℤ piece.span.from) <ℤ one.to) kept at (length kept)) where
   -- the claim is free where it ends before the span at the place begins

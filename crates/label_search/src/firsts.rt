@@ -26,7 +26,8 @@ use crate::limits::Ahead;
 use crate::plans::Trip;
 use crate::queues::{Due, Queue, Task, Work};
 use crate::searches::{
-    Search, enters, go_on_at_once, place_at, reach, ready_ticks, start, until_the_horizon, wait,
+    Search, enters, go_on_at_once, is_known, place_at, reach, ready_ticks, start,
+    until_the_horizon, wait,
 };
 use free_windows::next_start;
 use no_memory::NoMemory;
@@ -368,6 +369,10 @@ fn go_on(
 {
     let step = &next.step;
     let rest = enters(part, plan, &search.limits, step);
+    // A look at the labels costs less than one at the book.
+    if is_known(search, step, &rest) {
+        return Ok(());
+    }
     let Some(free) = next_start(step.pieces(), book, &rest) else {
         return Ok(());
     };

@@ -5,6 +5,7 @@ ghost use Rattle.std.specs.Prelude.{◌≡◌, ℕ, ◌<◌, ◌≤◌, ℤ, ◌
 ghost use Rattle.std.specs.Prelude.{false, length, take, All, Bool as bool_type, IfOk, IsTrue};
 ghost use Rattle.std.specs.Prelude.{OnOk, pos};
 ghost use Rattle.free_windows.specs.Free.{Holds};
+ghost use Rattle.free_windows.specs.Starts.{IsNearWindow};
 ghost use Rattle.rail_types.specs.Limits.{IsNear};
 ghost use Rattle.label_search.specs.Spans.{IsNearBelow};
 ghost use Rattle.label_search.specs.Labels.{AreFronts, AreJoined, GoesOn, HasAllFrom, IsCovered};
@@ -164,7 +165,27 @@ impl Labels {
         Ok(members)
     }
 
+    // Whether labels have these ticks of arrival at a place; that they do not may be said where
+    // more than one has them.
+    pub(crate) fn have_come(&self, place: u32, ticks: &Window) -> bool
+        requires place { place < self.now.places }
+        requires near { IsNearWindow ticks.now }
+        requires some { ticks.now.from ≤ℤ ticks.now.to }
+        ensures { IsTrue result → (tick : ℤ) → Holds ticks.now tick
+            → IsReached self.now.labels place false tick }
+    {
+        let hint = self.hints[place as usize] as usize;
+        let Some(one) = self.seen.get(hint) else {
+            return false;
+        };
+        if one.place != place {
+            return false;
+        }
+        one.arrived.has(ticks)
+    }
+
     // Labels for those ticks that no label has.
+    #[inline(always)]
     pub(crate) fn add(&mut self, wanted: &Label) -> Result<(), NoMemory>
         requires place { wanted.now.place < self.old.places }
         requires near { IsNearBelow wanted.now.ticks }
@@ -226,7 +247,11 @@ fn front_of(label: &Label) -> Front
     Front {
         place: label.place,
         ready: label.ready,
-        ticks: label.ticks,
+        // By its fields: a copy of the whole reads together what was written apart just before.
+        ticks: Window {
+            from: label.ticks.from,
+            to: label.ticks.to,
+        },
     }
 }
 

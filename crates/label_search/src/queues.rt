@@ -111,6 +111,7 @@ impl Queue {
     }
 
     /// Adds work.
+    #[inline(always)]
     pub(crate) fn push(&mut self, alloc: Global, due: &Due) -> Result<(), NoMemory>
         ensures added { OnOk result (Waits self.new due.now) }
         ensures kept { (one : due_type) → Waits self.old one → Waits self.new one }

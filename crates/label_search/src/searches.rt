@@ -7,7 +7,9 @@ ghost use Rattle.std.specs.Int.{int_max, int_min};
 ghost use Rattle.label_search.specs.Free.{Fits};
 ghost use Rattle.free_windows.specs.Free.{Holds};
 ghost use Rattle.rail_types.specs.Limits.{IsNear};
-ghost use Rattle.label_search.specs.Plans.{IsPlan, IsShort};
+ghost use Rattle.rail_types.specs.declared.limits.TheConstants.{FAR_TICK};
+ghost use Rattle.label_search.specs.Plans.{IsPlan, IsShort, IsTarget};
+ghost use Rattle.label_search.specs.declared.plans.Trip.{Trip as trip_type};
 ghost use Rattle.label_search.specs.Paths.{place_at as place_of, move_at as move_of, target_of};
 ghost use Rattle.label_search.specs.Paths.{leave_of};
 ghost use Rattle.label_search.specs.Closed.{IsFreeMove};
@@ -235,6 +237,24 @@ fn explore_move(
         rest = behind(&rest, &free);
     }
     Ok(())
+}
+
+// Whether labels have all that a move leads to that is entered at these ticks.
+pub(crate) fn is_known(search: &Search, step: &LentMove, enters: &Window) -> bool
+    requires target { IsTarget search.now.labels.places step.now.target }
+    requires run { IsShort step.now.run }
+    requires low { pos 0 ≤ℤ enters.now.from }
+    requires high { (enters.now.to +ℤ step.now.run) ≤ℤ FAR_TICK }
+    ensures { IsTrue result → (trip : trip_type) (enter : ℤ) → Holds enters.now enter
+        → IsAdmitted trip search.now step.now.target (enter +ℤ step.now.run) }
+{
+    if enters.from > enters.to {
+        return true;
+    }
+    match step.target() {
+        Target::Place(place) => search.labels.have_come(place, &later(enters, step)),
+        Target::End => false,
+    }
 }
 
 // What a move leads to that is entered at any of these ticks of a label.

@@ -53,6 +53,19 @@ impl Seen {
         stretch_of(self.spans.as_slice(), &one_tick(), within)
     }
 
+    // Whether all ticks of a window are there, as far as the first of them tell.
+    pub(crate) fn has(&self, within: &Window) -> bool
+        requires within { IsNearWindow within.now }
+        requires some { within.now.from ≤ℤ within.now.to }
+        ensures { IsTrue result → (tick : ℤ) → Holds within.now tick → ¬ IsUnseen self.now tick }
+    {
+        let stretch = self.stretch(within);
+        if stretch.free || stretch.ticks.to < within.to {
+            return false;
+        }
+        true
+    }
+
     // Adds ticks none of which is there.
     pub(crate) fn insert(&mut self, ticks: &Window) -> Result<(), NoMemory>
         requires near { IsNear ticks.now.from × (ticks.now.to <ℤ FAR_TICK) }

@@ -1,7 +1,8 @@
 //! The first ticks of a window that spans in order leave free.
 
 ghost use Rattle.rail_types.specs.declared.limits.TheConstants.{FAR_TICK};
-ghost use Rattle.std.specs.Prelude.{◌≡◌, ◌≤◌, pos, ◌+ℤ◌, ◌-ℤ◌, ◌<ℤ◌, ◌≤ℤ◌, length};
+ghost use Rattle.std.specs.Prelude.{◌≡◌, ◌<◌, ◌≤◌, ◌-◌, pos, ◌+ℤ◌, ◌-ℤ◌, ◌<ℤ◌, ◌≤ℤ◌, false};
+ghost use Rattle.std.specs.Prelude.{length, IsTrue};
 ghost use Rattle.std.specs.Int.{int_min};
 ghost use Rattle.std.specs.List.{AllWithin};
 ghost use Rattle.rail_types.specs.Occupation.{HasTicks};
@@ -95,12 +96,43 @@ pub(crate) fn behind(window: &Window, ticks: &Window) -> Window
     }
 }
 
-// How many of a zone's spans end before this one begins.
+// How many of a zone's spans end before this one begins. Mostly these are all, or all but the last,
+// so that these are looked at first.
 pub(crate) fn first_ending_after(kept: &[Span], span: &Span) -> usize
     requires { IsZone kept.now }
     ensures bound { result ≤ length kept.now }
     ensures before { AllWithin (λ one. one.to ≤ℤ span.now.from) kept.now 0 result }
     ensures after { AllWithin (λ one. span.now.from <ℤ one.to) kept.now result (length kept.now) }
 {
+    let count = kept.len();
+    if all_end_before(kept, count, span) {
+        return count;
+    }
+    if all_end_before(kept, count - 1, span) {
+        return count - 1;
+    }
     kept.partition_point(|one| one.to <= span.from)
+}
+
+// Whether so many of a zone's spans end before this one begins, by the last of them.
+fn all_end_before(kept: &[Span], count: usize, span: &Span) -> bool
+    requires zone { IsZone kept.now }
+    requires count { count ≤ length kept.now }
+    ensures before { IsTrue result → AllWithin (λ one. one.to ≤ℤ span.now.from) kept.now 0 count }
+    ensures some { result ≡ false → 0 < count }
+    ensures after { result ≡ false → AllWithin (λ one. span.now.from <ℤ one.to) kept.now (count - 1)
+        (length kept.now) }
+{
+    if count == 0 {
+        return true;
+    }
+    ends_before(&kept[count - 1], span)
+}
+
+// Whether a span ends before another begins.
+fn ends_before(one: &Span, span: &Span) -> bool
+    ensures before { IsTrue result → one.now.to ≤ℤ span.now.from }
+    ensures after { result ≡ false → span.now.from <ℤ one.now.to }
+{
+    one.to <= span.from
 }

@@ -2,7 +2,7 @@
 use Rattle.std.proofs.Common.{◌≡◌, ℕ, ◌<◌, ◌≤◌, ◌<ℤ◌, ◌≤ℤ◌, ℤ, int_le, true, false, zero, suc, List, [], ◌∷◌, length, get_or, sym, subst, inl, inr, refl, arith}
 use borrow.Author.Differences.{le-true, le-false}
 use Rattle.std.specs.List.{AllWithin}
-use Rattle.std.proofs.lemmas.Bool.{cases_order, cases_Bool}
+use Rattle.std.proofs.lemmas.Bool.{cases_order}
 use Rattle.std.proofs.lemmas.Int.{by_lt_z, ints}
 use Rattle.rail_types.specs.declared.paths.Claim.{Claim}
 use Rattle.rail_types.specs.Occupation.{Clash, HeldClaim}
@@ -15,12 +15,6 @@ ended a b test = let fact = le-true a b test in omega (arith, ints)
 
 pub not_ended : (a b : ℤ) → int_le a b ≡ false → b <ℤ a
 not_ended a b test = let fact = le-false a b test in omega (arith, ints)
-
-pub le_true_below : (a b c : ℤ) → a ≤ℤ b → int_le b c ≡ true → int_le a c ≡ true
-le_true_below a b c le test = elim (cases_Bool (int_le a c)) [
-  | inl passes ↦ passes
-  | inr fails ↦ let above = not_ended a c fails in let below = ended b c test in absurd (omega (arith, ints))
-]
 
 module _ (claims : List HeldClaim) (claim : Claim) (at : ℕ) (order : AreInOrder claim.zone claims) (before : AllWithin (λ one. one.0.span.to ≤ℤ claim.span.from) claims 0 at) (after : AllWithin (λ one. claim.span.from <ℤ one.0.span.to) claims at (length claims)) where
   -- a claim behind the place begins when the one at the place has ended

@@ -1,8 +1,6 @@
 -- What both columns of a zone say of its claims.
-use Rattle.std.proofs.Common.{◌≡◌, ℕ, zero, suc, ◌+◌, ◌<◌, ◌≤◌, ◌≤ℤ◌, ℤ, pos, int_le, true, false, not, List, [], ◌∷◌, length, get_or, set, take, insert, sym, ap, subst, inl, inr, refl, arith, ◌∙◌, All, AllPairs, length-set, length-take, min}
+use Rattle.std.proofs.Common.{◌≡◌, ℕ, zero, suc, ◌+◌, ◌<◌, ◌≤◌, ◌≤ℤ◌, ℤ, pos, true, false, not, List, [], ◌∷◌, length, get_or, set, take, insert, sym, ap, subst, refl, arith, ◌∙◌, All, AllPairs, length-set, length-take, min}
 use Rattle.std.specs.List.{AllWithin}
-use Rattle.std.specs.List.Sorted.{IsPartitionedBy}
-use Rattle.std.proofs.lemmas.Bool.{cases_order}
 use Rattle.std.proofs.lemmas.Int.{ints}
 use Rattle.std.proofs.lemmas.List.{get_or_default}
 use Rattle.std.proofs.lemmas.List.Filters.{FiltersInPlace, FiltersInPlace-more_set, FiltersInPlace-more_no}
@@ -12,7 +10,6 @@ use Rattle.rail_types.specs.Occupation.{HeldClaim}
 use Rattle.occupation_book.specs.declared.zones.Rest.{Rest}
 use Rattle.occupation_book.specs.Columns.{owner_of, row_of, rows_of}
 use Rattle.occupation_book.specs.Held.{AreInOrder, is_same_owner}
-use Rattle.occupation_book.proofs.Clashes.{le_true_below}
 
 -- a row that was made of a claim and its owner tells them again
 pub of_claim : (claim : Claim) (owner : Owner) (row : Rest) → row.from ≡ claim.span.from → owner_of row ≡ owner → row_of claim.zone claim.span.to row ≡ (claim, owner)
@@ -95,16 +92,6 @@ module _ (number : ℕ) where
   of_last_ends P ends rests low level holds =
       subst (λ high. AllWithin (λ one. P one.0.span.to) (rows_of number ends rests) low high) (sym (length_rows ends rests level))
       (of_ends P ends rests low (length ends) level (omega arith) holds)
-
--- ends in order are parted by whether they come by a tick
-pub parted_by_tick : (ends : List ℤ) (tick : ℤ) → AllPairs (λ one later. one ≤ℤ later) ends → IsPartitionedBy (λ end. int_le end tick) ends
-parted_by_tick ends tick order i j other le within test = elim (cases_order i j) [
-  | inl same ↦ subst (λ q. int_le (get_or ends q other) tick ≡ true) (sym same) test
-  | inr apart ↦ elim apart [
-    | inl before ↦ le_true_below _ _ tick (order i j other before within) test
-    | inr behind ↦ absurd (omega arith)
-  ]
-]
 
 -- both columns stay as long as one another
 pub level_set : (ends : List ℤ) (rests : List Rest) (at : ℕ) (end : ℤ) (rest : Rest) → length ends ≡ length rests → length (set ends at end) ≡ length (set rests at rest)

@@ -1,6 +1,7 @@
 mod Pairs
 mod Clashes
 mod Columns
+mod Halves
 mod Orders
 mod AllZones
 mod Removals

@@ -1,8 +1,8 @@
 //! The claims of one zone.
 
 ghost use Rattle.std.specs.Prelude.{◌≡◌, ℕ, ◌+◌, ◌<◌, ◌≤◌, ◌<ℤ◌, ◌≤ℤ◌, [], ◌∷◌, ◌++◌, length, min};
-ghost use Rattle.std.specs.Prelude.{AllPairs, insert, slice_index_or, vec_capacity, vec_len};
-ghost use Rattle.std.specs.Prelude.{IfOk, IfSome, IsNone, OnErr, OnOk, ◌↔◌, IsOk};
+ghost use Rattle.std.specs.Prelude.{int_le, insert, slice_index_or, vec_capacity, vec_len};
+ghost use Rattle.std.specs.Prelude.{AllPairs, IfOk, IfSome, IsNone, OnErr, OnOk, ◌↔◌, IsOk};
 ghost use Rattle.std.specs.List.{AllWithin};
 ghost use Rattle.std.specs.List.Sorted.{IsPermutation};
 ghost use Rattle.rail_types.specs.FirstClash.{IsFirstClash};
@@ -249,7 +249,30 @@ fn ended_by(ends: &[Tick], span: &Span) -> usize
     ensures before { AllWithin (λ end. end ≤ℤ span.now.from) ends.now 0 result }
     ensures after { AllWithin (λ end. span.now.from <ℤ end) ends.now result (length ends.now) }
 {
-    ends.partition_point(|end| *end <= span.from)
+    let mut first = 0;
+    let mut count = ends.len();
+    // Each step chooses between two numbers, and jumps nowhere: which half it is can't be foretold.
+    while count > 1 {
+        let half = count / 2;
+        let middle = &ends[first + half];
+        first = if comes_by(middle, span) {
+            first + half
+        } else {
+            first
+        };
+        count -= half;
+    }
+    if first < ends.len() && comes_by(&ends[first], span) {
+        first + 1
+    } else {
+        first
+    }
+}
+
+fn comes_by(end: &Tick, span: &Span) -> bool
+    ensures { result ≡ int_le end.now span.now.from }
+{
+    *end <= span.from
 }
 
 // Puts a claim at a place of both columns, which have room for it.

@@ -1,11 +1,11 @@
-use Rattle.std.proofs.Common.{arith, refl, subst, sym}
+use Rattle.std.proofs.Common.{ℕ, arith, refl, subst, sym}
 use Rattle.std.proofs.lemmas.Int.{ints, clamps}
 use Rattle.std.proofs.lemmas.Result.{on_ok_weaker}
-use Rattle.label_search.specs.Plans.{IsShort}
+use Rattle.label_search.specs.Plans.{IsShort, IsTarget}
 use Rattle.label_search.proofs.Reaching.{free_moves, free_below}
 use Rattle.label_search.proofs.Advancing.{advanced_none, advanced_later, advanced_push}
-use Rattle.label_search.proofs.Going.{none_in_hand, last_in_hand, rest_in_hand}
-use Rattle.label_search.proofs.Looking.{pieces_of_move, run_of_move}
+use Rattle.label_search.proofs.Going.{known_in_hand, none_in_hand, last_in_hand, rest_in_hand}
+use Rattle.label_search.proofs.Looking.{pieces_of_move, run_of_move, target_of_move}
 use Rattle.label_search.proofs.firsts.go_on.Goals as goal
 
 pub next_start-requires-clause-within : goal.next_start-requires-clause-within
@@ -14,6 +14,27 @@ next_start-requires-clause-within c =
     let horizon = c.requires.plan.horizon in
     let from = c.enters-rest.ensures.from in let to = c.enters-rest.ensures.to in
     (omega (arith, ints), omega (arith, ints, clamps))
+
+pub is_known-requires-clause-target : goal.is_known-requires-clause-target
+is_known-requires-clause-target c =
+    subst (λ (places : ℕ). IsTarget places c.args.next.now.step.target) (sym c.requires.search.places)
+    (target_of_move c.args.plan.now c.args.book.now c.requires.plan c.args.part.now.place c.requires.part.place c.args.next.now.onward.number c.requires.number c.args.next.now.step c.requires.step)
+
+pub is_known-requires-clause-run : goal.is_known-requires-clause-run
+is_known-requires-clause-run c = run_of_move c.args.plan.now c.args.book.now c.requires.plan c.args.part.now.place c.requires.part.place c.args.next.now.onward.number c.requires.number c.args.next.now.step c.requires.step
+
+pub is_known-requires-clause-low : goal.is_known-requires-clause-low
+is_known-requires-clause-low c = let low = c.requires.part.ticks.0 in let from = c.enters-rest.ensures.from in omega (arith, ints)
+
+pub is_known-requires-clause-high : goal.is_known-requires-clause-high
+is_known-requires-clause-high c = let horizon = c.requires.plan.horizon in let to = c.enters-rest.ensures.to in omega (arith, ints, clamps)
+
+pub returns-then-is_known-clause-advanced : goal.returns-then-is_known-clause-advanced
+returns-then-is_known-clause-advanced c = advanced_none c.args.plan.now c.args.search.now c.args.queue.now
+
+pub returns-then-is_known-clause-done : goal.returns-then-is_known-clause-done
+returns-then-is_known-clause-done c =
+    known_in_hand c.args.plan.now c.args.book.now c.args.part.now c.args.next.now.onward.number c.args.next.now.step c.requires.step c.args.next.now.step.pieces refl c.enters-rest.result c.requires.part.ticks.0 c.enters-rest.ensures.from c.args.search.now.limits c.enters-rest.ensures.to c.args.trip.now c.args.search.now refl c.args.queue.now c.args.next.now.onward.label (c.is_known.ensures c.if-is_known.true c.args.trip.now)
 
 pub returns-in_default-clause-advanced : goal.returns-in_default-clause-advanced
 returns-in_default-clause-advanced c = advanced_none c.args.plan.now c.args.search.now c.args.queue.now

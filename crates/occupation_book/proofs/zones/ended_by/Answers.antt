@@ -1,16 +1,24 @@
-use Rattle.std.proofs.Common.{rules, of_calls, ◌≡◌, int_le, true, false}
-use Rattle.std.specs.List.Sorted.{IsPartitionPoint}
-use Rattle.std.proofs.lemmas.Fn.{always_returns_same}
+use Rattle.std.proofs.Common.{◌+◌, ◌<◌, ◌/◌, length, arith, sym, ◌∙◌}
 use Rattle.occupation_book.proofs.Clashes.{ended, not_ended}
-use Rattle.occupation_book.proofs.Columns.{parted_by_tick}
+use Rattle.occupation_book.proofs.Halves.{ended_before, later_from}
+use Rattle.occupation_book.proofs.zones.ended_by.Goals.{then-comes_by, else-comes_by}
 use Rattle.occupation_book.proofs.zones.ended_by.Goals as goal
 
--- the ends are parted by whether they come by the tick
-point : (c : goal.After-partition_point) → IsPartitionPoint (λ end. int_le end c.args.span.now.from ≡ true) (λ end. int_le end c.args.span.now.from ≡ false) c.args.ends.now c.partition_point.result
-point c = c.partition_point.ensures.partitioned (λ end. int_le end c.args.span.now.from) (always_returns_same _ _ _ (λ a r f k. search (rules, of_calls))) (parted_by_tick _ _ c.requires)
-
-pub returns-clause-before : goal.returns-clause-before
-returns-clause-before c k other low high = ended _ _ ((point c).0 k other low high)
-
-pub returns-clause-after : goal.returns-clause-after
-returns-clause-after c k other low high = not_ended _ _ ((point c).1 k other low high)
+pub loop-count-preserved : goal.loop-count-preserved
+loop-count-preserved c =
+    let ends = c.args.ends.now in let first = c.loop-count.first in let count = c.loop-count.count in
+    let known = c.loop-count.invariant in
+    let several = c.loop-count-test.true in
+    let within : first + count / 2 < length ends = omega (arith, known.bound) in
+    elim c.if-comes_by.branch [
+      | then-comes_by w ↦ rw w.first-is (record {
+        bound = omega (arith, known.bound);
+        before = ended_before ends c.args.span.now.from c.requires (first + count / 2) within (ended _ _ (sym c.comes_by.ensures ∙ w.if-comes_by.true));
+        after = λ k other low high. known.after k other (omega (arith, low)) high;
+      })
+      | else-comes_by w ↦ rw w.first-is (record {
+        bound = omega (arith, known.bound);
+        before = known.before;
+        after = λ k other low high. later_from ends c.args.span.now.from c.requires (first + count / 2) within (not_ended _ _ (sym c.comes_by.ensures ∙ w.if-comes_by.false)) k other (omega (arith, low)) high;
+      })
+    ]
