@@ -154,10 +154,11 @@ def try_talk(cases: Cases, program: Path, folder: Path, talk: Talk) -> None:
     cases.equal(f"corridor {seed}: as many replies", len(lines), len(together))
     if talk.proves:
         wanted, got = (in_order(world.path("proofs").read_text()) for world in (many, one))
-        cases.equal(f"corridor {seed}: as many proofs", len(wanted), len(got))
-        for line, apart_proof, proof in zip((line for line, reply in zip(lines, together)
-                                             if reply.split()[0] in ("granted", "no-path")),
-                                            wanted, got):
+        proved = [line for line, reply in zip(lines, together)
+                  if reply.split()[0] in ("granted", "no-path")]
+        cases.equal(f"corridor {seed}: as many proofs in one session", len(proved), len(got))
+        cases.equal(f"corridor {seed}: as many proofs apart", len(proved), len(wanted))
+        for line, apart_proof, proof in zip(proved, wanted, got):
             cases.equal(f"corridor {seed}: the proof beside {line}", apart_proof, proof)
 
 
