@@ -1,9 +1,10 @@
 //! The ticks at which claims are free.
 
 ghost use Rattle.std.specs.Prelude.{◌≡◌, ℕ, ◌+◌, ◌≤◌, ◌<◌, ℤ, pos, ◌+ℤ◌, ◌-ℤ◌, ◌<ℤ◌, ◌≤ℤ◌, ◌↔◌};
-ghost use Rattle.std.specs.Prelude.{false, All, AllPairs, IfOk, IfSome, IsNone, length};
+ghost use Rattle.std.specs.Prelude.{◌-◌, false, All, AllPairs, IfOk, IfSome, IsNone, IsTrue};
+ghost use Rattle.std.specs.Prelude.{length};
 ghost use Rattle.std.specs.Int.{int_min};
-ghost use Rattle.std.specs.List.{AllWithin};
+ghost use Rattle.std.specs.List.{AllWithin, HoldsAt};
 ghost use Rattle.rail_types.specs.declared.limits.TheConstants.{FAR_TICK};
 ghost use Rattle.rail_types.specs.Limits.{IsNear, IsNearSpan};
 ghost use Rattle.rail_types.specs.Occupation.{HasTicks};
@@ -15,6 +16,9 @@ use no_memory::NoMemory;
 use occupation_book::{Occupations, ZoneClaims};
 use rail_types::{Claim, Span, Window};
 use std::alloc::Global;
+
+// How far a hint is followed, until a search among all claims of a zone takes less.
+const MOST_STEPS: usize = 8;
 
 /// The ticks of a window to which claims can be moved, that stand here for tick 0, so that each of
 /// them is free: ascending windows that neither overlap nor touch.
@@ -46,6 +50,24 @@ pub fn next_start(pieces: &[Claim], book: &Occupations, within: &Window) -> Opti
     ensures none { IsNone result → (tick : ℤ) → Holds within.now tick
         → ¬ Fits (held book.now) pieces.now tick }
 {
+    next_start_near(pieces, book, &mut [], within)
+}
+
+/// The same by hints, which it leaves for the next call: of each zone how many of its claims had
+/// ended where it was last asked for. Any hints do, and none where the list is too short; good ones
+/// save a search among the claims.
+pub fn next_start_near(
+    pieces: &[Claim],
+    book: &Occupations,
+    hints: &mut [usize],
+    within: &Window,
+) -> Option<Window>
+    requires pieces { All (IsPiece (length book.now)) pieces.now }
+    requires within { IsNearWindow within.now }
+    ensures found { IfSome result (IsNextWindow (Fits (held book.now) pieces.now) within.now) }
+    ensures none { IsNone result → (tick : ℤ) → Holds within.now tick
+        → ¬ Fits (held book.now) pieces.now tick }
+{
     if within.from > within.to {
         return None;
     }
@@ -57,7 +79,7 @@ pub fn next_start(pieces: &[Claim], book: &Occupations, within: &Window) -> Opti
     let mut at = 0;
     while known < pieces.len() {
         let piece = &pieces[at];
-        let next = next_of(book.of_zone(piece.zone), piece, &rest)?;
+        let next = next_of(book.of_zone(piece.zone), piece, hints, &rest)?;
         if next.from > rest.from {
             rest.from = next.from;
             ticks = next;
@@ -93,7 +115,7 @@ fn until_either_ends(one: &Window, other: &Window) -> Window
 
 // The first ticks of a window at which one claim is free of those of its zone, as many as follow
 // one another.
-fn next_of(kept: &ZoneClaims, piece: &Claim, within: &Window) -> Option<Window>
+fn next_of(kept: &ZoneClaims, piece: &Claim, hints: &mut [usize], within: &Window) -> Option<Window>
     requires zone { AreInOrder piece.now.zone kept.now.claims }
     requires near { IsNearSpan piece.now.span }
     requires ticks { HasTicks piece.now.span }
@@ -104,7 +126,7 @@ fn next_of(kept: &ZoneClaims, piece: &Claim, within: &Window) -> Option<Window>
         → ¬ IsFreeOf kept.now.claims piece.now tick }
 {
     let start = at_start(piece, within);
-    let first = kept.first_ending_after(piece.zone, &start);
+    let first = first_ending_after(kept, piece.zone, hints, &start);
     // The piece is free at no tick before `rest`. Where it is moved to the first tick of `rest`,
     // the claims before `number` have ended as it begins, and the others have not.
     let mut rest = *within;
@@ -119,6 +141,64 @@ fn next_of(kept: &ZoneClaims, piece: &Claim, within: &Window) -> Option<Window>
         }
     }
     Some(rest)
+}
+
+// How many claims of a zone end before a span begins, by the hint of the zone, which is left there.
+fn first_ending_after(kept: &ZoneClaims, zone: u32, hints: &mut [usize], span: &Span) -> usize
+    requires { AreInOrder zone kept.now.claims }
+    ensures bound { result ≤ length kept.now.claims }
+    ensures before { AllWithin (λ one. one.0.span.to ≤ℤ span.now.from) kept.now.claims 0 result }
+    ensures after { AllWithin (λ one. span.now.from <ℤ one.0.span.to) kept.now.claims
+        result (length kept.now.claims) }
+{
+    let Some(hint) = hints.get_mut(zone as usize) else {
+        return kept.first_ending_after(zone, span);
+    };
+    let first = first_ending_near(kept, zone, *hint, span);
+    *hint = first;
+    first
+}
+
+// The same by a hint.
+fn first_ending_near(kept: &ZoneClaims, zone: u32, hint: usize, span: &Span) -> usize
+    requires { AreInOrder zone kept.now.claims }
+    ensures bound { result ≤ length kept.now.claims }
+    ensures before { AllWithin (λ one. one.0.span.to ≤ℤ span.now.from) kept.now.claims 0 result }
+    ensures after { AllWithin (λ one. span.now.from <ℤ one.0.span.to) kept.now.claims
+        result (length kept.now.claims) }
+{
+    if !have_ended(kept, hint, span) {
+        return kept.first_ending_after(zone, span);
+    }
+    for at in hint..kept.len() {
+        if at - hint >= MOST_STEPS {
+            return kept.first_ending_after(zone, span);
+        }
+        if !ends_by(kept, at, span) {
+            return at;
+        }
+    }
+    kept.len()
+}
+
+// Whether there are so many claims, the last of which has ended as a span begins.
+fn have_ended(kept: &ZoneClaims, count: usize, span: &Span) -> bool
+    ensures bound { IsTrue result → count ≤ length kept.now.claims }
+    ensures ended { IsTrue result → 0 < count
+        → HoldsAt (λ one. one.0.span.to ≤ℤ span.now.from) kept.now.claims (count - 1) }
+{
+    count <= kept.len() && (count == 0 || ends_by(kept, count - 1, span))
+}
+
+// Whether there is a claim at a place that has ended as a span begins.
+fn ends_by(kept: &ZoneClaims, at: usize, span: &Span) -> bool
+    ensures bound { IsTrue result → at < length kept.now.claims }
+    ensures ended { IsTrue result
+        → HoldsAt (λ one. one.0.span.to ≤ℤ span.now.from) kept.now.claims at }
+    ensures late { result ≡ false → at < length kept.now.claims
+        → HoldsAt (λ one. span.now.from <ℤ one.0.span.to) kept.now.claims at }
+{
+    at < kept.len() && kept.span_at(at).to <= span.from
 }
 
 fn at_start(piece: &Claim, within: &Window) -> Span

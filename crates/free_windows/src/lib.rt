@@ -3,4 +3,4 @@
 
 mod frees;
 
-pub use frees::{next_start, starts};
+pub use frees::{next_start, next_start_near, starts};

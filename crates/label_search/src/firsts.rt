@@ -29,7 +29,7 @@ use crate::searches::{
     Search, enters, go_on_at_once, is_known, place_at, reach, ready_ticks, start,
     until_the_horizon, wait,
 };
-use free_windows::next_start;
+use free_windows::next_start_near;
 use no_memory::NoMemory;
 use occupation_book::Occupations;
 use rail_types::{Tick, Window};
@@ -88,18 +88,19 @@ fn explore_due(
     ensures settled { OnOk result (IsSettled plan.now trip.now book.now search.new) }
 {
     let mut queue = Queue::new(alloc);
-    leave_later(alloc, plan, book, trip, search, &mut queue, 0)?;
-    take_up_all(alloc, plan, book, trip, search, &mut queue)
+    let mut hints = vec![in alloc; 0; book.zones() as usize]?;
+    leave_later(plan, book, trip, search, &mut queue, 0)?;
+    take_up_all(plan, book, trip, search, &mut queue, hints.as_mut_slice())
 }
 
 // Does what is due before the best end.
 fn take_up_all(
-    alloc: Global,
     plan: &LentPlan,
     book: &Occupations,
     trip: &Trip,
     search: &mut Search,
     queue: &mut Queue,
+    hints: &mut [usize],
 ) -> Result<(), NoMemory>
     requires plan { IsPlan plan.now book.now }
     requires search { IsSearch plan.now trip.now book.now search.old }
@@ -116,7 +117,7 @@ fn take_up_all(
         let Some(due) = queue.pop_before(&stop.ticks) else {
             return Ok(());
         };
-        take_up(alloc, plan, book, trip, search, queue, &due.task)?;
+        take_up(plan, book, trip, search, queue, hints, &due.task)?;
     }
     // More work than can be counted.
     Err(NoMemory)
@@ -136,12 +137,12 @@ fn stop_of(search: &Search) -> Ahead
 
 // Does work of a label.
 fn take_up(
-    alloc: Global,
     plan: &LentPlan,
     book: &Occupations,
     trip: &Trip,
     search: &mut Search,
     queue: &mut Queue,
+    hints: &mut [usize],
     task: &Task,
 ) -> Result<(), NoMemory>
     requires plan { IsPlan plan.now book.now }
@@ -157,10 +158,10 @@ fn take_up(
     }
     let front = search.labels.front(task.label);
     match &task.work {
-        Work::Leave => leave(alloc, plan, book, trip, search, queue, &front, task.label),
+        Work::Leave => leave(plan, book, trip, search, queue, hints, &front, task.label),
         Work::Wait { from } => {
             let part = part_from(&front, from);
-            wait_on(alloc, plan, book, trip, search, queue, &part, task.label)
+            wait_on(plan, book, trip, search, queue, hints, &part, task.label)
         }
         Work::Move { number, from } => {
             let part = part_from(&front, from);
@@ -168,7 +169,7 @@ fn take_up(
                 label: task.label,
                 number: *number,
             };
-            move_on(alloc, plan, book, trip, search, queue, &part, onward)
+            move_on(plan, book, trip, search, queue, hints, &part, onward)
         }
     }
 }
@@ -192,12 +193,12 @@ fn part_from(front: &Front, from: &Tick) -> Front
 
 // All work of a label: the waits, where the train stands there and has not waited, else the moves.
 fn leave(
-    alloc: Global,
     plan: &LentPlan,
     book: &Occupations,
     trip: &Trip,
     search: &mut Search,
     queue: &mut Queue,
+    hints: &mut [usize],
     front: &Front,
     label: usize,
 ) -> Result<(), NoMemory>
@@ -210,19 +211,19 @@ fn leave(
         front.now Work.Leave) }
 {
     if !front.ready && place_at(plan, front.place).standing {
-        return leave_waits(alloc, plan, book, trip, search, queue, front, label);
+        return leave_waits(plan, book, trip, search, queue, hints, front, label);
     }
-    leave_moves(alloc, plan, book, trip, search, queue, front, label)
+    leave_moves(plan, book, trip, search, queue, hints, front, label)
 }
 
 // All moves of a label, in one pass over those of its place.
 fn leave_moves(
-    alloc: Global,
     plan: &LentPlan,
     book: &Occupations,
     trip: &Trip,
     search: &mut Search,
     queue: &mut Queue,
+    hints: &mut [usize],
     front: &Front,
     label: usize,
 ) -> Result<(), NoMemory>
@@ -248,19 +249,19 @@ fn leave_moves(
             onward: Onward { label, number },
             step,
         };
-        go_on(alloc, plan, book, trip, search, queue, front, &next)?;
+        go_on(plan, book, trip, search, queue, hints, front, &next)?;
         left = behind;
     }
     Ok(())
 }
 
 fn leave_waits(
-    alloc: Global,
     plan: &LentPlan,
     book: &Occupations,
     trip: &Trip,
     search: &mut Search,
     queue: &mut Queue,
+    hints: &mut [usize],
     front: &Front,
     label: usize,
 ) -> Result<(), NoMemory>
@@ -276,19 +277,19 @@ fn leave_waits(
 {
     let known = search.labels.len();
     go_on_at_once(plan, book, trip, search, front)?;
-    leave_later(alloc, plan, book, trip, search, queue, known)?;
-    go_on_waiting(alloc, plan, book, trip, search, queue, front, label)?;
+    leave_later(plan, book, trip, search, queue, known)?;
+    go_on_waiting(plan, book, trip, search, queue, hints, front, label)?;
     Ok(())
 }
 
 // A move at ticks of a label, where there is such a move and the train can go on.
 fn move_on(
-    alloc: Global,
     plan: &LentPlan,
     book: &Occupations,
     trip: &Trip,
     search: &mut Search,
     queue: &mut Queue,
+    hints: &mut [usize],
     part: &Front,
     onward: Onward,
 ) -> Result<(), NoMemory>
@@ -314,17 +315,17 @@ fn move_on(
         onward,
         step: place.moves.get(onward.number),
     };
-    go_on(alloc, plan, book, trip, search, queue, part, &next)
+    go_on(plan, book, trip, search, queue, hints, part, &next)
 }
 
 // The waits from ticks of a label, where the train stands there and has not waited.
 fn wait_on(
-    alloc: Global,
     plan: &LentPlan,
     book: &Occupations,
     trip: &Trip,
     search: &mut Search,
     queue: &mut Queue,
+    hints: &mut [usize],
     part: &Front,
     label: usize,
 ) -> Result<(), NoMemory>
@@ -339,19 +340,19 @@ fn wait_on(
 {
     let place = place_at(plan, part.place);
     if place.standing && !part.ready {
-        return go_on_waiting(alloc, plan, book, trip, search, queue, part, label);
+        return go_on_waiting(plan, book, trip, search, queue, hints, part, label);
     }
     Ok(())
 }
 
 // The first free ticks of a move among those of a label; what is behind them waits.
 fn go_on(
-    alloc: Global,
     plan: &LentPlan,
     book: &Occupations,
     trip: &Trip,
     search: &mut Search,
     queue: &mut Queue,
+    hints: &mut [usize],
     part: &Front,
     next: &OnwardMove,
 ) -> Result<(), NoMemory>
@@ -373,7 +374,7 @@ fn go_on(
     if is_known(search, step, &rest) {
         return Ok(());
     }
-    let Some(free) = next_start(step.pieces(), book, &rest) else {
+    let Some(free) = next_start_near(step.pieces(), book, hints, &rest) else {
         return Ok(());
     };
     let known = search.labels.len();
@@ -387,12 +388,12 @@ fn go_on(
         step,
         &free,
     )?;
-    leave_later(alloc, plan, book, trip, search, queue, known)?;
+    leave_later(plan, book, trip, search, queue, known)?;
     if free.to >= rest.to {
         return Ok(());
     }
     let ahead = search.limits.ahead_to(step);
-    queue.push(alloc, &move_behind(&free, step, &ahead, next.onward))
+    queue.push(&move_behind(&free, step, &ahead, next.onward))
 }
 
 // A move behind its first free ticks.
@@ -419,12 +420,12 @@ fn move_behind(free: &Window, step: &LentMove, ahead: &Ahead, onward: Onward) ->
 // The first free ticks at which a train can stand that came at ticks of a
 // label; what is behind them waits.
 fn go_on_waiting(
-    alloc: Global,
     plan: &LentPlan,
     book: &Occupations,
     trip: &Trip,
     search: &mut Search,
     queue: &mut Queue,
+    hints: &mut [usize],
     part: &Front,
     label: usize,
 ) -> Result<(), NoMemory>
@@ -440,7 +441,7 @@ fn go_on_waiting(
 {
     let place = place_at(plan, part.place);
     let rest = until_the_horizon(&part.ticks, plan);
-    let Some(free) = next_start(place.waits(), book, &rest) else {
+    let Some(free) = next_start_near(place.waits(), book, hints, &rest) else {
         return Ok(());
     };
     if free.from > part.ticks.to {
@@ -455,7 +456,7 @@ fn go_on_waiting(
         part,
         &ready_ticks(&free, &place, plan),
     )?;
-    leave_later(alloc, plan, book, trip, search, queue, known)?;
+    leave_later(plan, book, trip, search, queue, known)?;
     if free.to >= part.ticks.to {
         return Ok(());
     }
@@ -465,7 +466,7 @@ fn go_on_waiting(
     if due.tick >= below.ticks {
         return Ok(());
     }
-    queue.push(alloc, &due)
+    queue.push(&due)
 }
 
 // The waits of trains that came behind free ticks.
@@ -487,7 +488,6 @@ fn waits_behind(free: &Window, ahead: &Ahead, label: usize) -> Due
 
 // All work of the labels from a number on.
 fn leave_later(
-    alloc: Global,
     plan: &LentPlan,
     book: &Occupations,
     trip: &Trip,
@@ -501,14 +501,13 @@ fn leave_later(
     ensures left { OnOk result (AreToBeLeft plan.now search.now queue.new from) }
 {
     for label in from..search.labels.len() {
-        leave_one(alloc, plan, book, trip, search, queue, label)?;
+        leave_one(plan, book, trip, search, queue, label)?;
     }
     Ok(())
 }
 
 // All work of a label, unless what it leads to cannot arrive below the limit.
 fn leave_one(
-    alloc: Global,
     plan: &LentPlan,
     book: &Occupations,
     trip: &Trip,
@@ -529,7 +528,7 @@ fn leave_one(
     if due.tick >= below.ticks {
         return Ok(());
     }
-    queue.push(alloc, &due)
+    queue.push(&due)
 }
 
 fn leaving(front: &Front, waited: &Ahead, ahead: &Ahead, label: usize) -> Due

@@ -25,6 +25,11 @@ use rail_types::{Tick, Window};
 use std::alloc::Global;
 use std::marker::Model;
 
+// How many labels, and how many places that they reach, room is made for at once.
+const FIRST_LABELS: usize = 512;
+
+const FIRST_PLACES: usize = 256;
+
 /// Where the ticks of a label came from.
 #[derive(Clone, Copy, Debug)]
 pub enum Origin {
@@ -105,8 +110,8 @@ impl Labels {
         let hints = vec![in alloc; 0u32; places]?;
         Ok(Labels {
             alloc,
-            labels: Vec::new(alloc),
-            seen: Vec::new(alloc),
+            labels: Vec::with_capacity(alloc, FIRST_LABELS)?,
+            seen: Vec::with_capacity(alloc, FIRST_PLACES)?,
             hints,
         })
     }

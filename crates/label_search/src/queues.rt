@@ -6,6 +6,7 @@ ghost use Rattle.std.specs.List.{slice_index_or};
 ghost use Rattle.label_search.specs.Queues.{AreDueFrom, Waits};
 ghost use Rattle.label_search.specs.declared.queues.Due.{Due as due_type};
 
+use many_stacks::Stacks;
 use no_memory::NoMemory;
 use rail_types::Tick;
 use std::alloc::Global;
@@ -39,51 +40,11 @@ pub(crate) struct Due {
     pub(crate) task: Task,
 }
 
-// Work that is due at one tick.
-#[derive(Drop)]
-struct Bucket {
-    due: Vec<Due>,
-}
-
-impl Model for Bucket {
-    ghost use Rattle.std.specs.Prelude.{List};
-    ghost use Rattle.label_search.specs.declared.queues.Due.{Due};
-
-    ghost Value = { List Due };
-
-    ghost view = { λ a. a.due.items };
-}
-
-impl Bucket {
-    fn new(alloc: Global) -> Bucket
-        ensures { result ≡ [] }
-    {
-        Bucket {
-            due: Vec::new(alloc),
-        }
-    }
-
-    fn push(&mut self, due: &Due) -> Result<(), NoMemory>
-        ensures ok { OnOk result (self.new ≡ self.old ++ due.now ∷ []) }
-        ensures err { OnErr result (self.new ≡ self.old) }
-    {
-        self.due.push(*due)?;
-        Ok(())
-    }
-
-    fn pop(&mut self) -> Option<Due>
-        ensures some { IfSome result (λ due. self.old ≡ self.new ++ due ∷ []) }
-        ensures none { IfNone result ((self.old ≡ []) × (self.new ≡ [])) }
-    {
-        self.due.pop()
-    }
-}
-
 /// Work by the tick at which it is due: buckets for the ticks from a first one on,
 /// where nothing waits before one.
 #[derive(Drop)]
 pub(crate) struct Queue {
-    buckets: Vec<Bucket>,
+    buckets: Stacks<Due>,
     first: usize,
     start: Tick,
 }
@@ -93,9 +54,9 @@ impl Model for Queue {
 
     ghost Value = { Pending };
 
-    ghost view = { λ a. record { buckets = a.buckets.items; start = a.start } };
+    ghost view = { λ a. record { buckets = a.buckets; start = a.start } };
 
-    ghost invariant = { λ a. IsQueue a.buckets.items a.first a.start };
+    ghost invariant = { λ a. IsQueue a.buckets a.first a.start };
 }
 
 impl Queue {
@@ -104,7 +65,7 @@ impl Queue {
         ensures { result.buckets ≡ [] }
     {
         Queue {
-            buckets: Vec::new(alloc),
+            buckets: Stacks::new(alloc),
             first: 0,
             start: 0,
         }
@@ -112,13 +73,13 @@ impl Queue {
 
     /// Adds work.
     #[inline(always)]
-    pub(crate) fn push(&mut self, alloc: Global, due: &Due) -> Result<(), NoMemory>
+    pub(crate) fn push(&mut self, due: &Due) -> Result<(), NoMemory>
         ensures added { OnOk result (Waits self.new due.now) }
         ensures kept { (one : due_type) → Waits self.old one → Waits self.new one }
     {
         self.begin(due);
         let at = self.bucket_of(due);
-        self.reach(alloc, at)?;
+        self.reach(at)?;
         self.put(at, due)
     }
 
@@ -130,8 +91,7 @@ impl Queue {
     {
         let end = ticks_before(&self.start, stop).max(1);
         while self.first < self.buckets.len() && self.first < end {
-            let bucket = &mut self.buckets[self.first];
-            if let Some(due) = bucket.pop() {
+            if let Some(due) = self.buckets.pop(self.first) {
                 return Some(due);
             }
             self.first += 1;
@@ -143,7 +103,7 @@ impl Queue {
     fn begin(&mut self, due: &Due)
         ensures { self.new.buckets ≡ self.old.buckets }
     {
-        if self.buckets.is_empty() {
+        if self.buckets.len() == 0 {
             self.start = due.tick.max(0);
         }
     }
@@ -155,28 +115,13 @@ impl Queue {
     }
 
     // Makes buckets up to a number; nothing else changes.
-    fn reach(&mut self, alloc: Global, at: usize) -> Result<(), NoMemory>
+    fn reach(&mut self, at: usize) -> Result<(), NoMemory>
         ensures room { OnOk result (at < length self.new.buckets) }
         ensures start { self.new.start ≡ self.old.start }
         ensures kept { (one : ℕ) → slice_index_or self.new.buckets one []
             ≡ slice_index_or self.old.buckets one [] }
     {
-        self.make_room(at)?;
-        while self.buckets.len() <= at {
-            self.buckets.push(Bucket::new(alloc))?;
-        }
-        Ok(())
-    }
-
-    // Makes room for the buckets up to a number at once.
-    fn make_room(&mut self, at: usize) -> Result<(), NoMemory>
-        ensures { self.new ≡ self.old }
-    {
-        let made = self.buckets.len();
-        if made <= at {
-            self.buckets.reserve((at - made).saturating_add(1))?;
-        }
-        Ok(())
+        self.buckets.reach(at)
     }
 
     fn put(&mut self, at: usize, due: &Due) -> Result<(), NoMemory>
@@ -186,8 +131,7 @@ impl Queue {
             (slice_index_or self.old.buckets at [] ++ due.now ∷ [])) }
         ensures err { OnErr result (self.new.buckets ≡ self.old.buckets) }
     {
-        let bucket = &mut self.buckets[at];
-        bucket.push(due)?;
+        self.buckets.push(at, *due)?;
         self.first = self.first.min(at);
         Ok(())
     }

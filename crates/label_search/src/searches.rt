@@ -25,7 +25,7 @@ use crate::lent_limits::LentLimits;
 use crate::limits::Ahead;
 use crate::plans::{Target, Trip};
 use crate::stretches::behind;
-use free_windows::next_start;
+use free_windows::next_start_near;
 use no_memory::NoMemory;
 use occupation_book::Occupations;
 use rail_types::Window;
@@ -65,10 +65,19 @@ pub(crate) fn explore_all<'a>(
         search.labels.labels)) }
 {
     let mut search = start(alloc, plan, book, trip, limits)?;
+    let mut hints = vec![in alloc; 0; book.zones() as usize]?;
     let mut next = 0;
     while next < search.labels.len() {
         let end = search.labels.len();
-        explore_from(alloc, plan, book, trip, &mut search, next)?;
+        explore_from(
+            alloc,
+            plan,
+            book,
+            trip,
+            &mut search,
+            hints.as_mut_slice(),
+            next,
+        )?;
         next = end;
     }
     Ok(search)
@@ -81,6 +90,7 @@ fn explore_from(
     book: &Occupations,
     trip: &Trip,
     search: &mut Search,
+    hints: &mut [usize],
     from: usize,
 ) -> Result<(), NoMemory>
     requires plan { IsPlan plan.now book.now }
@@ -92,7 +102,7 @@ fn explore_from(
         search.old.labels.labels) search.new) }
 {
     let fronts = search.labels.fronts(alloc, from)?;
-    explore_fronts(plan, book, trip, search, fronts.as_slice())
+    explore_fronts(plan, book, trip, search, hints, fronts.as_slice())
 }
 
 fn explore_fronts(
@@ -100,6 +110,7 @@ fn explore_fronts(
     book: &Occupations,
     trip: &Trip,
     search: &mut Search,
+    hints: &mut [usize],
     fronts: &[Front],
 ) -> Result<(), NoMemory>
     requires plan { IsPlan plan.now book.now }
@@ -112,7 +123,7 @@ fn explore_fronts(
         place ready tick) }
 {
     for front in fronts {
-        explore(plan, book, trip, search, front)?;
+        explore(plan, book, trip, search, hints, front)?;
     }
     Ok(())
 }
@@ -162,6 +173,7 @@ fn explore(
     book: &Occupations,
     trip: &Trip,
     search: &mut Search,
+    hints: &mut [usize],
     front: &Front,
 ) -> Result<(), NoMemory>
     requires plan { IsPlan plan.now book.now }
@@ -174,9 +186,9 @@ fn explore(
 {
     let place = place_at(plan, front.place);
     if place.standing && !front.ready {
-        return explore_waits(plan, book, trip, search, front);
+        return explore_waits(plan, book, trip, search, hints, front);
     }
-    explore_moves(plan, book, trip, search, front, &place)
+    explore_moves(plan, book, trip, search, hints, front, &place)
 }
 
 // All moves at ticks of a place, in one pass over them.
@@ -185,6 +197,7 @@ fn explore_moves(
     book: &Occupations,
     trip: &Trip,
     search: &mut Search,
+    hints: &mut [usize],
     front: &Front,
     place: &LentPlace,
 ) -> Result<(), NoMemory>
@@ -205,7 +218,7 @@ fn explore_moves(
             return Ok(());
         };
         let FirstMove { step, behind } = parts;
-        explore_move(plan, book, trip, search, front, number, &step)?;
+        explore_move(plan, book, trip, search, hints, front, number, &step)?;
         left = behind;
     }
     Ok(())
@@ -216,6 +229,7 @@ fn explore_move(
     book: &Occupations,
     trip: &Trip,
     search: &mut Search,
+    hints: &mut [usize],
     front: &Front,
     number: usize,
     step: &LentMove,
@@ -232,7 +246,7 @@ fn explore_move(
         → IsMoveExplored plan.now trip.now book.now front.now.place tick number search.new) }
 {
     let mut rest = enters(front, plan, &search.limits, step);
-    while let Some(free) = next_start(step.pieces(), book, &rest) {
+    while let Some(free) = next_start_near(step.pieces(), book, hints, &rest) {
         reach(plan, book, trip, search, front, number, step, &free)?;
         rest = behind(&rest, &free);
     }
@@ -369,6 +383,7 @@ fn explore_waits(
     book: &Occupations,
     trip: &Trip,
     search: &mut Search,
+    hints: &mut [usize],
     front: &Front,
 ) -> Result<(), NoMemory>
     requires plan { IsPlan plan.now book.now }
@@ -384,7 +399,7 @@ fn explore_waits(
     let place = place_at(plan, front.place);
     go_on_at_once(plan, book, trip, search, front)?;
     let mut rest = until_the_horizon(&front.ticks, plan);
-    while let Some(free) = next_start(place.waits(), book, &rest) {
+    while let Some(free) = next_start_near(place.waits(), book, hints, &rest) {
         if free.from > front.ticks.to {
             return Ok(());
         }

@@ -3,11 +3,16 @@
 
 use osrd_stdcm::{Status, rules_of_words, run};
 use outside_io::{FileOutside, Locking};
+use std::alloc::{AllocError, Global};
 use std::io::ErrorKind;
 use std::process::ExitCode;
 use std::{env, io};
 
+// Bytes of the room that is made once.
+const ROOM: usize = 31 << 20;
+
 fn main(rt: HostRuntime) -> ExitCode {
+    keep_freed_room(rt.alloc());
     let words = match words_of(&rt) {
         Ok(words) => words,
         // No word that is understood has bytes that are no text: these are
@@ -21,6 +26,13 @@ fn main(rt: HostRuntime) -> ExitCode {
     let mut outside = FileOutside::new(rt, locking_of(&words));
     let status = run(&rt, &words, &mut outside, rules);
     ExitCode::from(status.number())
+}
+
+// Makes room and gives it back untouched. From then on the C library keeps pieces of up to that
+// size that are let go, and twice that in all, for those that ask next: without it a search over a
+// large network has its memory from the system anew, page by page.
+fn keep_freed_room(alloc: Global) {
+    let _room: Result<Vec<u8>, AllocError> = Vec::with_capacity(alloc, ROOM);
 }
 
 // The words behind the program's own name.

@@ -8,8 +8,8 @@ use Rattle.label_search.proofs.Going.{known_in_hand, none_in_hand, last_in_hand,
 use Rattle.label_search.proofs.Looking.{pieces_of_move, run_of_move, target_of_move}
 use Rattle.label_search.proofs.firsts.go_on.Goals as goal
 
-pub next_start-requires-clause-within : goal.next_start-requires-clause-within
-next_start-requires-clause-within c =
+pub next_start_near-requires-clause-within : goal.next_start_near-requires-clause-within
+next_start_near-requires-clause-within c =
     let low = c.requires.part.ticks.0 in let high = c.requires.part.ticks.1 in
     let horizon = c.requires.plan.horizon in
     let from = c.enters-rest.ensures.from in let to = c.enters-rest.ensures.to in
@@ -98,8 +98,8 @@ enters-rest-requires-clause-run c = run_of_move c.args.plan.now c.args.book.now 
 pub enters-rest-requires-clause-limits : goal.enters-rest-requires-clause-limits
 enters-rest-requires-clause-limits c = c.requires.search.limits
 
-pub next_start-requires-clause-pieces : goal.next_start-requires-clause-pieces
-next_start-requires-clause-pieces c = pieces_of_move c.args.plan.now c.args.book.now c.requires.plan c.args.part.now.place c.requires.part.place c.args.next.now.onward.number c.requires.number c.args.next.now.step c.requires.step c.pieces.result.now c.pieces.ensures
+pub next_start_near-requires-clause-pieces : goal.next_start_near-requires-clause-pieces
+next_start_near-requires-clause-pieces c = pieces_of_move c.args.plan.now c.args.book.now c.requires.plan c.args.part.now.place c.requires.part.place c.args.next.now.onward.number c.requires.number c.args.next.now.step c.requires.step c.pieces.result.now c.pieces.ensures
 
 pub reach-requires-clause-some : goal.reach-requires-clause-some
 reach-requires-clause-some c = c.in-Some.ensures.found.ticks

@@ -82,11 +82,11 @@ returns-clause-done c =
     (rest_waits c.args.plan.now c.args.book.now c.args.part.now c.place_at-place.result c.place_at-place.ensures c.waits.result.now c.waits.ensures c.until_the_horizon-rest.result c.requires.part.ticks.0 c.until_the_horizon-rest.ensures.from c.until_the_horizon-rest.ensures.to dwell.0 c.push.new.self c.args.label c.in-Some.free c.in-Some.ensures.found c.ready_ticks.result c.ready_ticks.ensures.from c.ready_ticks.ensures.to c.args.search.now c.wait.new.search c.wait.ensures.further c.in_ok-wait.ensures.reached c.waits_behind-due.result c.waits_behind-due.ensures.label c.waits_behind-due.ensures.work c.ahead_at-ahead.result c.ahead_at-ahead.ensures.value c.waits_behind-due.ensures.tick)
     c.push.ensures.added
 
-pub next_start-requires-clause-pieces : goal.next_start-requires-clause-pieces
-next_start-requires-clause-pieces c = pieces_of_wait c.args.plan.now c.args.book.now c.requires.plan c.args.part.now.place c.requires.part.place c.place_at-place.result c.place_at-place.ensures c.waits.result.now c.waits.ensures
+pub next_start_near-requires-clause-pieces : goal.next_start_near-requires-clause-pieces
+next_start_near-requires-clause-pieces c = pieces_of_wait c.args.plan.now c.args.book.now c.requires.plan c.args.part.now.place c.requires.part.place c.place_at-place.result c.place_at-place.ensures c.waits.result.now c.waits.ensures
 
-pub next_start-requires-clause-within : goal.next_start-requires-clause-within
-next_start-requires-clause-within c =
+pub next_start_near-requires-clause-within : goal.next_start_near-requires-clause-within
+next_start_near-requires-clause-within c =
     let low = c.requires.part.ticks.0 in let horizon = c.requires.plan.horizon in
     let from = c.until_the_horizon-rest.ensures.from in let to = c.until_the_horizon-rest.ensures.to in
     (omega (arith, ints), omega (arith, ints))

@@ -62,8 +62,8 @@ reach-requires-clause-held c enter held =
     let low = held.0 in let high = held.1 in
     (omega (arith, ints), omega (arith, ints, clamps))
 
-pub next_start-requires-clause-within : goal.next_start-requires-clause-within
-next_start-requires-clause-within c =
+pub next_start_near-requires-clause-within : goal.next_start_near-requires-clause-within
+next_start_near-requires-clause-within c =
     let low = c.requires.front.ticks.0 in let high = c.requires.front.ticks.1 in
     let horizon = c.requires.plan.horizon in
     let from = c.loop-free.invariant.from in let to = c.loop-free.invariant.to in
@@ -83,5 +83,5 @@ reach-requires-clause-below c =
 pub enters-rest-requires-clause-run : goal.enters-rest-requires-clause-run
 enters-rest-requires-clause-run c = run_of_move c.args.plan.now c.args.book.now c.requires.plan c.args.front.now.place c.requires.front.place c.args.number c.requires.number c.args.step.now c.requires.step
 
-pub next_start-requires-clause-pieces : goal.next_start-requires-clause-pieces
-next_start-requires-clause-pieces c = pieces_of_move c.args.plan.now c.args.book.now c.requires.plan c.args.front.now.place c.requires.front.place c.args.number c.requires.number c.args.step.now c.requires.step c.pieces.result.now c.pieces.ensures
+pub next_start_near-requires-clause-pieces : goal.next_start_near-requires-clause-pieces
+next_start_near-requires-clause-pieces c = pieces_of_move c.args.plan.now c.args.book.now c.requires.plan c.args.front.now.place c.requires.front.place c.args.number c.requires.number c.args.step.now c.requires.step c.pieces.result.now c.pieces.ensures

@@ -89,11 +89,11 @@ loop-free-init c =
       explored = λ tick enter held early behind within later fits. let low = held.0 in absurd (omega (arith, ints));
     }
 
-pub next_start-requires-clause-pieces : goal.next_start-requires-clause-pieces
-next_start-requires-clause-pieces c = pieces_of_wait c.args.plan.now c.args.book.now c.requires.plan c.args.front.now.place c.requires.front.place c.place_at-place.result c.place_at-place.ensures c.waits.result.now c.waits.ensures
+pub next_start_near-requires-clause-pieces : goal.next_start_near-requires-clause-pieces
+next_start_near-requires-clause-pieces c = pieces_of_wait c.args.plan.now c.args.book.now c.requires.plan c.args.front.now.place c.requires.front.place c.place_at-place.result c.place_at-place.ensures c.waits.result.now c.waits.ensures
 
-pub next_start-requires-clause-within : goal.next_start-requires-clause-within
-next_start-requires-clause-within c =
+pub next_start_near-requires-clause-within : goal.next_start_near-requires-clause-within
+next_start_near-requires-clause-within c =
     let low = c.requires.front.ticks.0 in let horizon = c.requires.plan.horizon in
     let from = c.loop-free.invariant.from in let to = c.loop-free.invariant.to in
     (omega (arith, ints), omega (arith, ints))

@@ -7,8 +7,8 @@ use Rattle.free_windows.specs.Free.{moved}
 use Rattle.free_windows.specs.Starts.{IsNextWindow}
 use Rattle.free_windows.proofs.Rounds.{round_more, none_left, round_anew, round_is, less_count, less_rest}
 use Rattle.free_windows.proofs.Nexts.{next_at, none_at}
-use Rattle.free_windows.proofs.frees.next_start.Goals as goal
-use Rattle.free_windows.proofs.frees.next_start.Goals.{After-next_place-at, then-next-rest, else-next-rest}
+use Rattle.free_windows.proofs.frees.next_start_near.Goals as goal
+use Rattle.free_windows.proofs.frees.next_start_near.Goals.{After-next_place-at, then-next-rest, else-next-rest}
 
 -- the first ticks at which the piece at the place is free of all that the book holds
 at_place : (c : After-next_place-at) → IsNextWindow (λ tick. HoldsAt (λ piece. IsFree (held c.args.book.now) (moved tick piece)) c.args.pieces.now c.loop-known.at) c.loop-known.rest c.in_ok-next.next
