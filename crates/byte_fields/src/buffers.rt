@@ -47,6 +47,7 @@ impl Buffer {
     }
 
     /// Appends the bytes.
+    #[inline(always)]
     pub fn extend(&mut self, more: &[u8]) -> Result<(), NoMemory>
         ensures ok { OnOk result (self.new.held ≡ self.old.held ++ more.now) }
         ensures err { OnErr result (self.new ≡ self.old) }

@@ -8,6 +8,7 @@ use crate::buffers::Buffer;
 use no_memory::NoMemory;
 
 /// Appends one byte. For want of memory nothing changes.
+#[inline(always)]
 pub fn put_u8(to: &mut Buffer, v: u8) -> Result<(), NoMemory>
     ensures ok { OnOk result (to.new.held ≡ to.old.held ++ v ∷ []) }
     ensures err { OnErr result (to.new ≡ to.old) }
@@ -18,6 +19,7 @@ pub fn put_u8(to: &mut Buffer, v: u8) -> Result<(), NoMemory>
 }
 
 /// Appends the number's four bytes. For want of memory nothing changes.
+#[inline(always)]
 pub fn put_u32(to: &mut Buffer, v: u32) -> Result<(), NoMemory>
     ensures ok { OnOk result (to.new.held ≡ to.old.held ++ to_be_bytes w32 v) }
     ensures err { OnErr result (to.new ≡ to.old) }
@@ -29,6 +31,7 @@ pub fn put_u32(to: &mut Buffer, v: u32) -> Result<(), NoMemory>
 }
 
 /// Appends the number's eight bytes. For want of memory nothing changes.
+#[inline(always)]
 pub fn put_u64(to: &mut Buffer, v: u64) -> Result<(), NoMemory>
     ensures ok { OnOk result (to.new.held ≡ to.old.held ++ to_be_bytes w64 v) }
     ensures err { OnErr result (to.new ≡ to.old) }
@@ -41,6 +44,7 @@ pub fn put_u64(to: &mut Buffer, v: u64) -> Result<(), NoMemory>
 
 /// Appends the signed number's eight bytes, in two's complement. For
 /// want of memory nothing changes.
+#[inline(always)]
 pub fn put_i64(to: &mut Buffer, v: i64) -> Result<(), NoMemory>
     ensures ok { OnOk result (to.new.held ≡ to.old.held ++ signed_bytes v) }
     ensures err { OnErr result (to.new ≡ to.old) }
