@@ -88,12 +88,16 @@ fn bytes_of_number(text: &[u8]) -> usize
 fn is_in_number(byte: u8) -> bool
     ensures { result ≡ is_number_byte byte }
 {
-    matches!(byte, b'0'..=b'9' | b'+' | b'-' | b'.' | b'e' | b'E')
+    byte.is_ascii_digit() || matches!(byte, b'.' | b'-' | b'+' | b'e' | b'E')
 }
 
 fn push_piece(to: &mut Vec<u8>, piece: &[u8]) -> Result<(), NoMemory>
     ensures ok { OnOk result (to.new.items ≡ to.old.items ++ shown piece.now) }
 {
+    if piece.len() == 1 {
+        to.push(piece[0])?;
+        return Ok(());
+    }
     if !is_to_be_marked(piece) {
         to.extend_from_slice(piece)?;
         return Ok(());

@@ -13,18 +13,28 @@ use Rattle.json_fields.specs.declared.texts.Unread.{Unread}
 use Rattle.json_fields.specs.declared.texts.Unread.TheVariants.{NotJson, Memory}
 use Rattle.infra_fields.specs.Fields.{list_of}
 use Rattle.infra_fields.specs.Tokens.{opens_array, opens_object, ParsesTo}
-use Rattle.infra_fields.specs.Kept.{file_levels, Each, GivesKept, Keeps, KeepsItems, KeepsMembers}
-use Rattle.infra_fields.proofs.KeptMembers.{array_items, keeps_object, listed}
+use Rattle.infra_fields.specs.Kept.{is_in, Each, GivesHalf, Keeps, KeepsFields, KeepsHalf, KeepsItems, KeepsLists, list_levels}
+use Rattle.infra_fields.specs.declared.file_values.halves.Half.{Half}
+use Rattle.infra_fields.proofs.KeptMembers.{array_items, keeps_object, keeps_same, listed, object_members, object_same}
 use Rattle.infra_fields.proofs.Turns.{all_items, all_members, array_read, object_read, onto, ItemsSoFar, items_done, whole_more, whole_read, whole_refused}
 
 module _ (levels depth : ℕ) (old : List Token) (t : Token) (ts left : List Token) (first : old ≡ t ∷ ts) (some : 0 < depth) where
-  pub object_kept : (kept : Members) (v : Data) → 0 < levels → opens_object t ≡ true → ParsesTo (KeepsMembers (Keeps (levels - 1))) (all_members (depth - 1) ts) kept left → v ≡ object kept
+  pub object_kept : (kept : Members) (v : Data) → 0 < levels → opens_object t ≡ true → ParsesTo (KeepsFields (levels - 1)) (all_members (depth - 1) ts) kept left → v ≡ object kept
       → ParsesTo (Keeps levels) (converted of_json (value depth old)) v left
   object_kept kept v deep o h seen = (object h.0, object_read depth old t ts first h.0 left o some h.1, rw seen (keeps_object levels h.0 kept deep h.2))
 
   pub list_kept : (kept : List Data) (v : Data) → opens_array t ≡ true → ParsesTo (λ all objects. Each (Keeps levels) (list_of all) objects) (all_items (depth - 1) ts) kept left → v ≡ array (items_of kept)
       → ParsesTo (KeepsItems (Keeps levels)) (converted of_json (value depth old)) v left
   list_kept kept v a h seen = (array h.0, array_read depth old t ts first h.0 left a some h.1, rw seen (array_items (Keeps levels) h.0 kept h.2))
+
+-- a file, by its members
+module _ (half : Half) (depth : ℕ) (old : List Token) (t : Token) (ts left : List Token) (first : old ≡ t ∷ ts) (some : 0 < depth) where
+  pub file_kept : (kept : Members) (v : Data) → opens_object t ≡ true → ParsesTo (KeepsLists half) (all_members (depth - 1) ts) kept left → v ≡ object kept → ParsesTo (KeepsHalf half) (converted of_json (value depth old)) v left
+  file_kept kept v o h seen = (object h.0, object_read depth old t ts first h.0 left o some h.1, rw seen (object_members (is_in half) (is_in half) (Keeps list_levels) h.0 kept h.2))
+
+-- a file that is none
+pub half_same : (half : Half) (d : Data) → KeepsHalf half d d
+half_same half d = object_same (Keeps list_levels) (keeps_same list_levels) (is_in half) (is_in half) d
 
 -- a value that was read as a whole
 pub whole_kept : (Stands : Data → Data → Type 0) (depth : ℕ) (old : List Token) (t : Token) (ts left : List Token) (d : Data) → old ≡ t ∷ ts → Stands d d → converted of_json (value depth (t ∷ ts)) ≡ Some (d, left)
@@ -46,8 +56,8 @@ pub goes_on : (r : Option RustToken) (old new : List Token) → Yields old r new
 goes_on None old new h e = absurd (true≢false (sym e))
 goes_on (Some t) old new h e = (token_of t, h)
 
-module _ (text : List ℕ) (kept : Value) (left : List Token) (h : ParsesTo (Keeps file_levels) (converted of_json (value max_depth (tokens text))) (view kept) left) where
-  pub text_kept : left ≡ [] → GivesKept (Ok kept) (read text)
+module _ (half : Half) (text : List ℕ) (kept : Value) (left : List Token) (h : ParsesTo (KeepsHalf half) (converted of_json (value max_depth (tokens text))) (view kept) left) where
+  pub text_kept : left ≡ [] → GivesHalf half (Ok kept) (read text)
   text_kept nothing = (h.0, whole_read (value max_depth (tokens text)) h.0 (rw nothing at h.1), h.2)
 
   pub text_more : (t : Token) (rest : List Token) → left ≡ t ∷ rest → read text ≡ None
@@ -56,6 +66,6 @@ module _ (text : List ℕ) (kept : Value) (left : List Token) (h : ParsesTo (Kee
 pub text_refused : (text : List ℕ) → converted of_json (value max_depth (tokens text)) ≡ None → read text ≡ None
 text_refused text none = whole_refused (value max_depth (tokens text)) none
 
-pub gives_fault : (fault : Unread) (o : Option Data) → (fault ≡ NotJson → o ≡ None) → GivesKept (Err fault) o
-gives_fault NotJson o h = h refl
-gives_fault Memory o h = tt
+pub gives_fault : (half : Half) (fault : Unread) (o : Option Data) → (fault ≡ NotJson → o ≡ None) → GivesHalf half (Err fault) o
+gives_fault half NotJson o h = h refl
+gives_fault half Memory o h = tt

@@ -1,5 +1,5 @@
--- What is kept of a file's value: the members at keys that are read, of its object and of the
--- objects of its lists.
+-- What is kept of a file's value: the lists of one of its halves, and of their objects, and of
+-- those of lists in them, the members at keys that are read.
 use Rattle.std.specs.Prelude.{◌≡◌, ℕ, zero, suc, List, [], ◌∷◌, codes, Bool, true, false, ◌||◌}
 use Rattle.std.specs.Prelude.{is_some, Option, Some, None, Result, Ok, Err}
 use Rattle.std.specs.Str.{bytes_eq}
@@ -11,17 +11,32 @@ use Rattle.serde_json.specs.declared.value.Value.{Value}
 use Rattle.json_fields.specs.declared.texts.Unread.{Unread}
 use Rattle.json_fields.specs.declared.texts.Unread.TheVariants.{NotJson, Memory}
 use Rattle.infra_fields.specs.Fields.{elements_in}
+use Rattle.infra_fields.specs.declared.file_values.halves.Half.{Half}
+use Rattle.infra_fields.specs.declared.file_values.halves.Half.TheVariants.{First, Second}
 
 -- ---- keys that are read
 
--- keys of lists of objects
-abbrev pub is_list : List ℕ → Bool
-is_list key =
+-- keys of a file's first lists
+abbrev pub is_first : List ℕ → Bool
+is_first key =
     bytes_eq key (codes "track_sections") || bytes_eq key (codes "switches")
     || bytes_eq key (codes "detectors") || bytes_eq key (codes "buffer_stops")
-    || bytes_eq key (codes "signals") || bytes_eq key (codes "routes")
-    || bytes_eq key (codes "operational_points") || bytes_eq key (codes "speed_sections")
-    || bytes_eq key (codes "logical_signals")
+    || bytes_eq key (codes "signals")
+
+-- keys of the lists behind those
+abbrev pub is_second : List ℕ → Bool
+is_second key =
+    bytes_eq key (codes "routes") || bytes_eq key (codes "operational_points")
+    || bytes_eq key (codes "speed_sections")
+
+-- whether a half of a file has the list at this key
+abbrev pub is_in : Half → List ℕ → Bool
+is_in First key = is_first key
+is_in Second key = is_second key
+
+-- the key of a list of objects in an object
+abbrev pub is_list : List ℕ → Bool
+is_list key = bytes_eq key (codes "logical_signals")
 
 -- keys of objects on tracks, and of switches
 abbrev pub is_object_key : List ℕ → Bool
@@ -39,7 +54,7 @@ is_route_key key =
     || bytes_eq key (codes "release_detectors") || bytes_eq key (codes "speed_limit")
     || bytes_eq key (codes "track_ranges") || bytes_eq key (codes "signaling_system")
 
--- whether objects are read at this key
+-- whether an object is read at this key
 abbrev pub is_read : List ℕ → Bool
 is_read key = is_object_key key || is_route_key key || is_list key
 
@@ -68,41 +83,55 @@ abbrev pub KeepsBy : (Data → Data → Type 0) → Bool → Option Data → Opt
 KeepsBy Stands true all kept = BothOrNone (KeepsItems Stands) all kept
 KeepsBy Stands false all kept = kept ≡ all
 
--- An object: what stands at keys that are read. What is no object keeps being none.
-pub record KeepsObject (Stands : Data → Data → Type 0) (all kept : Data) : Type 0 where
+-- An object: what stands at keys that are read, some of them keys of lists of objects. What is no
+-- object keeps being none.
+pub record KeepsObject (reads lists : List ℕ → Bool) (Stands : Data → Data → Type 0)
+    (all kept : Data) : Type 0 where
   pub kind : is_some (as_object kept) ≡ is_some (as_object all)
-  pub fields : (key : List ℕ) → is_read key ≡ true
-      → KeepsBy Stands (is_list key) (get key all) (get key kept)
+  pub fields : (key : List ℕ) → reads key ≡ true
+      → KeepsBy Stands (lists key) (get key all) (get key kept)
 
 -- so many objects deep, each in a list of the one before
 abbrev pub Keeps : ℕ → Data → Data → Type 0
 Keeps zero = λ all kept. kept ≡ all
-Keeps (suc levels) = KeepsObject (Keeps levels)
+Keeps (suc levels) = KeepsObject is_read is_list (Keeps levels)
 
--- the file, the objects of its lists, and those of lists in them
-abbrev pub file_levels : ℕ
-file_levels = 3
+-- the objects of a file's lists, and those of lists in them
+abbrev pub list_levels : ℕ
+list_levels = 2
 
--- What a call returned is what is kept of what a text reads as, unless memory was wanted.
-abbrev pub GivesKept : Result Value Unread → Option Data → Type 0
-GivesKept (Ok value) read = (all : Data) × (read ≡ Some all) × Keeps file_levels all (view value)
-GivesKept (Err NotJson) read = read ≡ None
-GivesKept (Err Memory) read = Unit {0}
+-- a file: its lists of this half
+abbrev pub KeepsHalf : Half → Data → Data → Type 0
+KeepsHalf half = KeepsObject (is_in half) (is_in half) (Keeps list_levels)
+
+-- What a call returned is what is kept of this half of what a text reads as, unless memory was
+-- wanted.
+abbrev pub GivesHalf : Half → Result Value Unread → Option Data → Type 0
+GivesHalf half (Ok value) read = (all : Data) × (read ≡ Some all) × KeepsHalf half all (view value)
+GivesHalf half (Err NotJson) read = read ≡ None
+GivesHalf half (Err Memory) read = Unit {0}
 
 -- ---- inside
 
 -- the members at keys that are read
-abbrev pub KeepsMembers : (Data → Data → Type 0) → Members → Members → Type 0
-KeepsMembers Stands all kept =
-    (key : List ℕ) → is_read key ≡ true
-    → KeepsBy Stands (is_list key) (get_member key all) (get_member key kept)
+abbrev pub KeepsMembers : (List ℕ → Bool) → (List ℕ → Bool) → (Data → Data → Type 0)
+    → Members → Members → Type 0
+KeepsMembers reads lists Stands all kept =
+    (key : List ℕ) → reads key ≡ true
+    → KeepsBy Stands (lists key) (get_member key all) (get_member key kept)
+
+-- the members of an object in a list, and those of a file of this half
+abbrev pub KeepsFields : ℕ → Members → Members → Type 0
+KeepsFields levels = KeepsMembers is_read is_list (Keeps levels)
+
+abbrev pub KeepsLists : Half → Members → Members → Type 0
+KeepsLists half = KeepsMembers (is_in half) (is_in half) (Keeps list_levels)
 
 -- A member was parsed at this key, and these tokens are left. What was kept of any members before
 -- is, with it, kept of those with the member.
-abbrev pub TakesMember : (Data → Data → Type 0) → Option (Data × List Token) → List Token → List ℕ
-    → Members → Members → Type 0
-TakesMember Stands parsed left key before after =
+abbrev pub TakesMember : (Members → Members → Type 0) → Option (Data × List Token) → List Token
+    → List ℕ → Members → Members → Type 0
+TakesMember KeepsAll parsed left key before after =
     (member : Data)
     × (parsed ≡ Some (member, left))
-    × ((all : Members) → KeepsMembers Stands all before
-    → KeepsMembers Stands (put key member all) after)
+    × ((all : Members) → KeepsAll all before → KeepsAll (put key member all) after)

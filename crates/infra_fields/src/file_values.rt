@@ -1,5 +1,7 @@
 //! The value of a file's text, without the members that nobody reads.
 
+mod file_lists;
+mod halves;
 mod kept_values;
 mod number_tokens;
 mod passing;
@@ -8,4 +10,5 @@ mod texts;
 mod value_tokens;
 mod whole_values;
 
-pub use texts::file_value;
+pub use halves::Half;
+pub use texts::QuotedFile;

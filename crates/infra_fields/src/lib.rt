@@ -14,7 +14,7 @@ pub use fields::{
     found, id, items_in, known, limit, limited, list, metres, new_id, not_negative, number, object,
     read, rounded, text, text_in,
 };
-pub use file_values::file_value;
+pub use file_values::{Half, QuotedFile};
 pub use words::{
     Port, applies, direction, end, group_named, kind_named, port_name, port_within, ports_of,
 };

@@ -14,12 +14,14 @@ use Rattle.infra_fields.specs.declared.faults.InfraFault.{InfraFault}
 use Rattle.infra_fields.specs.declared.faults.InfraFault.TheVariants.{NotJson, Kind, Limit}
 use Rattle.infra_fields.specs.declared.faults.InfraFault.TheVariants.{Memory}
 use Rattle.infra_fields.specs.declared.faults.What.TheVariants as what
-use Rattle.infra_fields.specs.Kept.{file_levels, Keeps}
+use Rattle.infra_fields.specs.Kept.{KeepsHalf}
+use Rattle.infra_fields.specs.declared.file_values.halves.Half.{Half}
 use Rattle.railjson_read.specs.Objects.{tracks_in, switches_in, all_placed_in}
 use Rattle.railjson_read.specs.Signals.{signals_in}
 use Rattle.railjson_read.specs.Points.{points_in}
 use Rattle.railjson_read.specs.Routes.{routes_in}
 use Rattle.railjson_read.specs.Speeds.{speeds_in}
+use Rattle.railjson_read.specs.declared.wholes.FirstLists.{FirstLists}
 use Rattle.railjson_read.specs.declared.wholes.Landmarks.{Landmarks}
 use Rattle.railjson_read.specs.declared.wholes.Others.{Others}
 
@@ -37,27 +39,28 @@ landmarks_in d = do
     buffer_stops = buffer_stops;
   })
 
+-- the first lists: those, and the signals on their tracks
+unfoldable pub first_in : Data → Result FirstLists InfraFault
+first_in d = do
+  landmarks ← landmarks_in d
+  signals ← signals_in landmarks.tracks d
+  Ok (record { landmarks = landmarks; signals = signals })
+
 -- the lists behind those
 unfoldable pub others_in : Landmarks → Data → Result Others InfraFault
 others_in landmarks d = do
-  signals ← signals_in landmarks.tracks d
   routes ← routes_in landmarks.switches landmarks.detectors landmarks.buffer_stops d
   points ← points_in landmarks.tracks d
   speeds ← speeds_in landmarks.tracks d
-  Ok (record {
-    signals = signals;
-    routes = routes;
-    points = points;
-    speeds = speeds;
-  })
+  Ok (record { routes = routes; points = points; speeds = speeds })
 
-abbrev pub joined : Landmarks → Others → Infra
-joined landmarks others = record {
-  tracks = landmarks.tracks;
-  switches = landmarks.switches;
-  detectors = landmarks.detectors;
-  buffer_stops = landmarks.buffer_stops;
-  signals = others.signals;
+abbrev pub joined : FirstLists → Others → Infra
+joined first others = record {
+  tracks = first.landmarks.tracks;
+  switches = first.landmarks.switches;
+  detectors = first.landmarks.detectors;
+  buffer_stops = first.landmarks.buffer_stops;
+  signals = first.signals;
   routes = others.routes;
   points = others.points;
   speeds = others.speeds;
@@ -66,9 +69,9 @@ joined landmarks others = record {
 -- The lists of an object, in this order, each with the names of those before it.
 abbrev pub lists_in : Data → Result Infra InfraFault
 lists_in d = do
-  landmarks ← landmarks_in d
-  others ← others_in landmarks d
-  Ok (joined landmarks others)
+  first ← first_in d
+  others ← others_in first.landmarks d
+  Ok (joined first others)
 
 abbrev pub object_of : Data → Result Infra InfraFault
 object_of d =
@@ -88,7 +91,23 @@ infra_at bytes quoted =
 
 -- ---- inside
 
--- What a call returned is what is kept of what a text reads as, unless memory was wanted.
-abbrev pub KeepsRead : Result Value InfraFault → Option Data → Type 0
-KeepsRead (Ok value) read = (all : Data) × (read ≡ Some all) × Keeps file_levels all (view value)
-KeepsRead (Err fault) read = (fault ≡ Memory → ⊥) → (fault ≡ NotJson) × (read ≡ None)
+-- What a call returned is what is kept of a half of what a text reads as, unless memory was wanted.
+abbrev pub KeepsRead : Half → Result Value InfraFault → Option Data → Type 0
+KeepsRead half (Ok value) read = (all : Data) × (read ≡ Some all) × KeepsHalf half all (view value)
+KeepsRead half (Err fault) read = (fault ≡ Memory → ⊥) → (fault ≡ NotJson) × (read ≡ None)
+
+-- the first lists of a file's value
+abbrev pub first_of : Data → Result FirstLists InfraFault
+first_of d =
+    if is_some (as_object d) then first_in d else Err (Kind (spot_of whole_file (codes "file")))
+
+-- the first lists of a text, and those behind them
+abbrev pub first_at : List ℕ → Result FirstLists InfraFault
+first_at quoted = do
+  d ← or_fault NotJson (data_of quoted)
+  first_of d
+
+abbrev pub others_at : Landmarks → List ℕ → Result Others InfraFault
+others_at landmarks quoted = do
+  d ← or_fault NotJson (data_of quoted)
+  others_in landmarks d

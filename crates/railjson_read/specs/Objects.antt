@@ -1,6 +1,6 @@
 -- Objects of the lists of tracks, switches, detectors and buffer stops.
 use Rattle.rail_types.specs.InfraIds.{id_of_placed, id_of_switch, id_of_track}
-use Rattle.std.specs.Prelude.{ℕ, List, [], ◌∷◌, ◌++◌, length, map, codes, Result, Ok}
+use Rattle.std.specs.Prelude.{ℕ, List, [], ◌∷◌, ◌++◌, map, codes, Result, Ok}
 use Rattle.serde_json.specs.Data.{Data}
 use Rattle.rail_types.specs.declared.limits.TheConstants.{MAX_TRACK_LENGTH_M}
 use Rattle.json_fields.specs.Places.{FilePlace, whole_file, element, part_of}

@@ -1,6 +1,6 @@
 -- Operational points.
 use Rattle.rail_types.specs.InfraIds.{id_of_point, id_of_track}
-use Rattle.std.specs.Prelude.{ℕ, List, [], length, map, codes, false, Result, Ok}
+use Rattle.std.specs.Prelude.{ℕ, List, [], map, codes, false, Result, Ok}
 use Rattle.serde_json.specs.Data.{Data}
 use Rattle.json_fields.specs.Places.{FilePlace, whole_file, element, item_of}
 use Rattle.json_fields.specs.Reading.{◌>>=◌}

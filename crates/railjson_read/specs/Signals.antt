@@ -1,6 +1,6 @@
 -- Signals.
 use Rattle.rail_types.specs.InfraIds.{id_of_signal, id_of_track}
-use Rattle.std.specs.Prelude.{ℕ, List, [], length, map, codes, Bool, false, true, if◌then◌else◌}
+use Rattle.std.specs.Prelude.{ℕ, List, [], map, codes, Bool, false, true, if◌then◌else◌}
 use Rattle.std.specs.Prelude.{Option, Some, None, option_and_then, Result, Ok}
 use Rattle.std.specs.List.{list_any}
 use Rattle.std.specs.Str.{bytes_eq}

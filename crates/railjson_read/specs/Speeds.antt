@@ -1,6 +1,6 @@
 -- Speed sections.
 use Rattle.rail_types.specs.InfraIds.{id_of_speed, id_of_track}
-use Rattle.std.specs.Prelude.{ℕ, pos, min, List, [], map, length, codes, Bool, true, false}
+use Rattle.std.specs.Prelude.{ℕ, pos, min, List, [], map, codes, true, false}
 use Rattle.std.specs.Prelude.{if◌then◌else◌, nat_eq, is_some, slice_index_or, Option, Some, None}
 use Rattle.std.specs.Prelude.{Result, Ok, Err}
 use Rattle.serde_json.specs.Data.{Data}

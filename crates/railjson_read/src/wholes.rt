@@ -7,9 +7,9 @@ ghost use Rattle.infra_fields.specs.Fields.{Gives};
 ghost use Rattle.rail_types.specs.Infras.{IsInfra, IsSwitch, IsTrack};
 ghost use Rattle.rail_types.specs.Named.{IsId};
 ghost use Rattle.rail_types.specs.declared.limits.TheConstants.{MAX_OBJECTS};
-ghost use Rattle.railjson_read.specs.Files.{lists_in, landmarks_in, others_in, joined};
+ghost use Rattle.railjson_read.specs.Files.{first_in, landmarks_in, others_in, joined};
 ghost use Rattle.railjson_read.specs.Objects.{all_placed_in};
-ghost use Rattle.railjson_read.specs.Landmarks.{AreLandmarks, AreOthers};
+ghost use Rattle.railjson_read.specs.Landmarks.{AreFirst, AreLandmarks, AreOthers};
 
 use crate::infra_lists::{placed_of, signals_of, switches_of, tracks_of};
 use crate::infra_routes::{points_of, routes_of, speeds_of};
@@ -24,46 +24,64 @@ use std::alloc::Global;
 
 /// The lists whose objects other objects name.
 #[derive(Drop)]
-pub(crate) struct Landmarks<'a> {
-    pub tracks: Listed<'a, Track>,
-    pub switches: Listed<'a, Switch>,
-    pub detectors: Listed<'a, Placed>,
-    pub buffer_stops: Listed<'a, Placed>,
+pub(crate) struct Landmarks {
+    pub tracks: Listed<Track>,
+    pub switches: Listed<Switch>,
+    pub detectors: Listed<Placed>,
+    pub buffer_stops: Listed<Placed>,
+}
+
+/// The lists that are read first.
+#[derive(Drop)]
+pub(crate) struct FirstLists {
+    pub landmarks: Landmarks,
+    pub signals: List<Signal>,
 }
 
 /// The lists behind those.
 #[derive(Drop)]
 pub(crate) struct Others {
-    pub signals: List<Signal>,
     pub routes: List<Route>,
     pub points: List<OperationalPoint>,
     pub speeds: List<SpeedSection>,
 }
 
-/// The lists of an object.
-pub(crate) fn read_lists(alloc: Global, file: &Value) -> Result<Infra, InfraFault>
-    ensures read { Gives (λ infra. infra) result (lists_in (view file.now)) }
-    ensures sound { IfOk result IsInfra }
-{
-    let landmarks = landmarks_of(alloc, file)?;
-    let others = others_of(alloc, file, &landmarks);
-    infra_of(landmarks, others)
-}
-
 /// These lists with those behind them, where those were read.
-fn infra_of(landmarks: Landmarks, others: Result<Others, InfraFault>) -> Result<Infra, InfraFault>
-    requires landmarks { AreLandmarks landmarks }
-    requires others { IfOk others (AreOthers landmarks) }
-    ensures read { result ≡ (and_then others λ others. Ok (joined landmarks.entry others)) }
+pub(crate) fn infra_of(
+    first: FirstLists,
+    others: Result<Others, InfraFault>,
+) -> Result<Infra, InfraFault>
+    requires first { AreFirst first }
+    requires others { IfOk others (AreOthers first.landmarks) }
+    ensures read { result ≡ (and_then others λ others. Ok (joined first others)) }
     ensures sound { IfOk result IsInfra }
 {
     let others = others?;
-    Ok(joined(landmarks, others))
+    Ok(joined(first, others))
+}
+
+/// The first lists of an object. The index of the signals' ids, which nobody needs, goes at once.
+#[tactic(auto, unfolding(crate::specs::Files::first_in))]
+pub(crate) fn first_of(alloc: Global, file: &Value) -> Result<FirstLists, InfraFault>
+    ensures read { Gives (λ first. first) result (first_in (view file.now)) }
+    ensures sound { IfOk result AreFirst }
+{
+    let landmarks = landmarks_of(alloc, file)?;
+    match signals_of(alloc, file, &landmarks.tracks) {
+        Ok(signals) => Ok(FirstLists {
+            landmarks,
+            signals: alone(signals),
+        }),
+        Err(fault) => {
+            drop(landmarks);
+            Err(fault)
+        }
+    }
 }
 
 /// The lists whose objects others name.
 #[tactic(auto, unfolding(crate::specs::Files::landmarks_in))]
-fn landmarks_of<'a>(alloc: Global, file: &'a Value) -> Result<Landmarks<'a>, InfraFault>
+fn landmarks_of(alloc: Global, file: &Value) -> Result<Landmarks, InfraFault>
     ensures read { Gives (λ landmarks. landmarks) result (landmarks_in (view file.now)) }
     ensures sound { IfOk result AreLandmarks }
 {
@@ -73,23 +91,23 @@ fn landmarks_of<'a>(alloc: Global, file: &'a Value) -> Result<Landmarks<'a>, Inf
 }
 
 /// These tracks and switches with the detectors and the buffer stops of the file.
-fn landmarks_on<'a>(
+fn landmarks_on(
     alloc: Global,
-    file: &'a Value,
-    tracks: Listed<'a, Track>,
-    switches: Listed<'a, Switch>,
-) -> Result<Landmarks<'a>, InfraFault>
+    file: &Value,
+    tracks: Listed<Track>,
+    switches: Listed<Switch>,
+) -> Result<Landmarks, InfraFault>
     requires few_tracks { length tracks ≤ MAX_OBJECTS }
     requires few_switches { length switches ≤ MAX_OBJECTS }
     requires tracks { All IsTrack tracks }
     requires names { All (λ track. IsId track.id) tracks }
     requires switches { All (IsSwitch (length tracks)) switches }
     ensures read { Gives (λ landmarks. landmarks) result
-        (and_then (all_placed_in (codes "detectors") tracks.entry (view file.now)) λ detectors.
-        and_then (all_placed_in (codes "buffer_stops") tracks.entry (view file.now)) λ stops.
+        (and_then (all_placed_in (codes "detectors") tracks (view file.now)) λ detectors.
+        and_then (all_placed_in (codes "buffer_stops") tracks (view file.now)) λ stops.
         Ok (record {
-          tracks = tracks.entry;
-          switches = switches.entry;
+          tracks = tracks;
+          switches = switches;
           detectors = detectors;
           buffer_stops = stops;
         })) }
@@ -105,13 +123,16 @@ fn landmarks_on<'a>(
     })
 }
 
-/// The lists behind these. The index of their ids, which nobody needs, goes at once.
+/// The lists behind these. The indexes of their ids, which nobody needs, go at once.
 #[tactic(auto, unfolding(crate::specs::Files::others_in))]
-fn others_of(alloc: Global, file: &Value, landmarks: &Landmarks) -> Result<Others, InfraFault>
+pub(crate) fn others_of(
+    alloc: Global,
+    file: &Value,
+    landmarks: &Landmarks,
+) -> Result<Others, InfraFault>
     ensures read { Gives (λ others. others) result (others_in landmarks.now (view file.now)) }
     ensures sound { IfOk result (AreOthers landmarks.now) }
 {
-    let signals = alone(signals_of(alloc, file, &landmarks.tracks)?);
     let routes = alone(routes_of(
         alloc,
         file,
@@ -122,7 +143,6 @@ fn others_of(alloc: Global, file: &Value, landmarks: &Landmarks) -> Result<Other
     let points = alone(points_of(alloc, file, &landmarks.tracks)?);
     let speeds = alone(speeds_of(alloc, file, &landmarks.tracks)?);
     Ok(Others {
-        signals,
         routes,
         points,
         speeds,
@@ -130,9 +150,10 @@ fn others_of(alloc: Global, file: &Value, landmarks: &Landmarks) -> Result<Other
 }
 
 /// All lists as an infrastructure.
-fn joined(landmarks: Landmarks, others: Others) -> Infra
-    ensures { result ≡ joined landmarks.entry others }
+fn joined(first: FirstLists, others: Others) -> Infra
+    ensures { result ≡ joined first others }
 {
+    let FirstLists { landmarks, signals } = first;
     let Landmarks {
         tracks,
         switches,
@@ -140,7 +161,6 @@ fn joined(landmarks: Landmarks, others: Others) -> Infra
         buffer_stops,
     } = landmarks;
     let Others {
-        signals,
         routes,
         points,
         speeds,
@@ -159,7 +179,7 @@ fn joined(landmarks: Landmarks, others: Others) -> Infra
 
 /// The objects without the index of their ids.
 fn alone<T: HasId>(objects: Listed<T>) -> List<T>
-    ensures { result ≡ objects.entry }
+    ensures { result ≡ objects }
 {
     List::from_vec(objects.into_items())
 }

@@ -1,4 +1,4 @@
-//! Values of which only the members at keys that are read are kept.
+//! Lists of objects of which only the members at keys that are read are kept.
 //!
 //! `levels` counts the objects that are so read, each in a list of the one before; those further
 //! in are read as a whole.
@@ -12,7 +12,7 @@ ghost use Rattle.serde_json.specs.View.{view, members_view};
 ghost use Rattle.json_fields.specs.declared.texts.Unread.TheVariants.{NotJson};
 ghost use Rattle.infra_fields.specs.Fields.{list_of};
 ghost use Rattle.infra_fields.specs.Tokens.{ParsesTo};
-ghost use Rattle.infra_fields.specs.Kept.{is_list, Each, Keeps, KeepsBy, KeepsItems, KeepsMembers};
+ghost use Rattle.infra_fields.specs.Kept.{is_list, Each, Keeps, KeepsBy, KeepsFields, KeepsItems};
 ghost use Rattle.infra_fields.specs.Kept.{TakesMember};
 
 use crate::file_values::passing::pass;
@@ -24,9 +24,9 @@ use json_fields::Unread;
 use serde_json::{Map, Value, push, put};
 use std::alloc::Global;
 
-/// Reads one value, in which arrays and objects nest no deeper than this.
+/// Reads an object, in which arrays and objects nest no deeper than this.
 #[cycle(keep)]
-pub(crate) fn keep(
+fn keep(
     alloc: Global,
     reader: &mut Reader<'_>,
     depth: usize,
@@ -58,7 +58,7 @@ fn keep_members(
     levels: usize,
 ) -> Result<Map<String, Value>, Unread>
     requires { 2 * levels < depth }
-    ensures ok { IfOk result (λ kept. ParsesTo (KeepsMembers (Keeps levels))
+    ensures ok { IfOk result (λ kept. ParsesTo (KeepsFields levels)
         (converted (λ all. of_members all no_members)
         (members (value depth) (length reader.old) reader.old))
         (members_view kept.entries) reader.new) }
@@ -85,7 +85,7 @@ fn take_member(
     kept: &mut Map<String, Value>,
 ) -> Result<(), Unread>
     requires { 2 * levels < depth }
-    ensures ok { OnOk result (TakesMember (Keeps levels)
+    ensures ok { OnOk result (TakesMember (KeepsFields levels)
         (converted of_json (value depth reader.old)) reader.new name.now
         (members_view kept.old.entries) (members_view kept.new.entries)) }
     ensures shorter { OnOk result (length reader.new < length reader.old) }
@@ -126,9 +126,9 @@ fn member_value(
     Ok(whole)
 }
 
-/// Reads a list of objects.
+/// Reads a list of objects, in which arrays and objects nest no deeper than this.
 #[cycle(keep)]
-fn keep_list(
+pub(crate) fn keep_list(
     alloc: Global,
     reader: &mut Reader<'_>,
     depth: usize,

@@ -1,28 +1,20 @@
-//! Keys at which objects of a file are read.
+//! Keys at which objects in lists of a file are read.
 
 ghost use Rattle.std.specs.Prelude.{◌≡◌};
 ghost use Rattle.infra_fields.specs.Kept.{is_list, is_object_key, is_route_key, is_read};
 
-/// Whether objects are read at this key.
+/// Whether an object is read at this key.
 pub(crate) fn is_read(key: &str) -> bool
     ensures { result ≡ is_read key.now }
 {
     is_object_key(key) || is_route_key(key) || is_list(key)
 }
 
-/// Whether it is the key of a list of objects.
+/// Whether it is the key of a list of objects in an object.
 pub(crate) fn is_list(key: &str) -> bool
     ensures { result ≡ is_list key.now }
 {
-    key == "track_sections"
-        || key == "switches"
-        || key == "detectors"
-        || key == "buffer_stops"
-        || key == "signals"
-        || key == "routes"
-        || key == "operational_points"
-        || key == "speed_sections"
-        || key == "logical_signals"
+    key == "logical_signals"
 }
 
 // Of objects on tracks, and of switches.

@@ -4,62 +4,76 @@ ghost use Rattle.std.specs.Prelude.{◌≡◌, ℕ, List, IfOk};
 ghost use Rattle.serde_json.specs.Read.{read};
 ghost use Rattle.decimal_quote.specs.Quoted.{IsQuoted};
 ghost use Rattle.json_fields.specs.Texts.{data_of};
-ghost use Rattle.infra_fields.specs.Kept.{GivesKept};
+ghost use Rattle.infra_fields.specs.Kept.{GivesHalf};
 
-use crate::file_values::kept_values::keep;
+use crate::file_values::file_lists::keep_file;
+use crate::file_values::halves::Half;
 use decimal_quote::quote;
 use json::{Reader, Scratch};
 use json_fields::Unread;
 use no_memory::NoMemory;
 use serde_json::Value;
 use std::alloc::Global;
+use std::marker::Model;
 use std::str;
 
 /// How deep arrays and objects of a file may nest.
 const MAX_DEPTH: usize = 127;
 
-/// How many objects deep keys are looked at: the file, the objects of its lists, and those of lists
-/// in them.
-const LEVELS: usize = 3;
-
-/// The value of a file's text of JSON, its numbers quoted as by `json_fields::value_of`. What
-/// stands at keys that nobody reads is looked through for faults, and no value is made of it. The
-/// bytes are let go before values are made.
-pub fn file_value(alloc: Global, bytes: Vec<u8>) -> Result<Value, Unread>
-    ensures { (quoted : List ℕ) → IsQuoted bytes.items quoted
-        → GivesKept result (data_of quoted) }
-{
-    let quoted = quote_all(alloc, bytes)?;
-    let value = value_of_quoted(alloc, quoted.as_slice())?;
-    Ok(value)
+/// A file's text of JSON, its numbers quoted as by `json_fields::value_of`, with the room in which
+/// its strings are read. Contracts see the text's bytes.
+#[derive(Drop)]
+pub struct QuotedFile {
+    quoted: Vec<u8>,
+    scratch: Scratch,
 }
 
-/// The bytes with their numbers quoted.
-fn quote_all(alloc: Global, bytes: Vec<u8>) -> Result<Vec<u8>, NoMemory>
-    ensures { IfOk result
-        (λ quoted. (other : List ℕ) → IsQuoted bytes.items other → other ≡ quoted.items) }
-{
-    let quoted = quote(alloc, bytes.as_slice())?;
-    Ok(quoted)
+impl Model for QuotedFile {
+    ghost use Rattle.std.specs.Prelude.{List, ℕ};
+
+    ghost Value = { List ℕ };
+
+    ghost view = { λ a. a.quoted.items };
 }
 
-fn value_of_quoted(alloc: Global, quoted: &[u8]) -> Result<Value, Unread>
-    ensures { GivesKept result (data_of quoted.now) }
-{
-    let Ok(text) = str::from_utf8(quoted) else {
-        return Err(Unread::NotJson);
-    };
-    let mut scratch = Scratch::new(alloc);
-    value_of_text(alloc, text, &mut scratch)
+impl QuotedFile {
+    /// The text of a file of these bytes, which are let go.
+    pub fn of(alloc: Global, bytes: Vec<u8>) -> Result<QuotedFile, NoMemory>
+        ensures { IfOk result
+            (λ file. (quoted : List ℕ) → IsQuoted bytes.items quoted → quoted ≡ file) }
+    {
+        let quoted = quote(alloc, bytes.as_slice())?;
+        Ok(QuotedFile {
+            quoted,
+            scratch: Scratch::new(alloc),
+        })
+    }
+
+    /// What is kept of the file's value for a half: its lists, and what stands in their objects at
+    /// keys that are read. All else is looked through for faults, and no value is made of it.
+    pub fn half(&mut self, alloc: Global, half: Half) -> Result<Value, Unread>
+        ensures same { self.new ≡ self.old }
+        ensures kept { GivesHalf half result (data_of self.old) }
+    {
+        let Ok(text) = str::from_utf8(self.quoted.as_slice()) else {
+            return Err(Unread::NotJson);
+        };
+        half_of_text(alloc, text, half, &mut self.scratch)
+    }
 }
 
-fn value_of_text(alloc: Global, text: &str, scratch: &mut Scratch) -> Result<Value, Unread>
-    ensures { GivesKept result (read text.now) }
+fn half_of_text(
+    alloc: Global,
+    text: &str,
+    half: Half,
+    scratch: &mut Scratch,
+) -> Result<Value, Unread>
+    ensures { GivesHalf half result (read text.now) }
 {
     let Ok(mut reader) = Reader::new(text, scratch) else {
         return Err(Unread::Memory);
     };
-    let value = match keep(alloc, &mut reader, MAX_DEPTH, LEVELS) {
+    let value = match keep_file(alloc, &mut reader, MAX_DEPTH, half) {
         Ok(value) => value,
         Err(unread) => return Err(unread),
     };

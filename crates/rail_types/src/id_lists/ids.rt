@@ -8,24 +8,24 @@ use no_memory::NoMemory;
 use std::alloc::Global;
 use std::marker::Model;
 
-/// The ids of a list's objects in their order, each borrowed from the text that was
-/// parsed. Contracts see the list.
+/// The ids of a list's objects in their order, copies that outlive the text that was parsed.
+/// Contracts see the list.
 #[derive(Drop)]
-pub struct Ids<'a> {
-    set: IndexSet<&'a str>,
+pub struct Ids {
+    set: IndexSet<String>,
 }
 
-impl<'a> Model for Ids<'a> {
-    ghost use Rattle.std.specs.Prelude.{List, ℕ, length, map, ◌≤◌};
+impl Model for Ids {
+    ghost use Rattle.std.specs.Prelude.{List, ℕ, length, map, string_bytes, ◌≤◌};
 
     ghost Value = { List (List ℕ) };
 
-    ghost view = { λ a. map (λ key. key.now) a.set.keys };
+    ghost view = { λ a. map (λ key. string_bytes key) a.set.keys };
 
     ghost invariant = { λ a. length a.set.keys ≤ 65536 };
 }
 
-impl<'a> Ids<'a> {
+impl Ids {
     /// No ids.
     pub fn new(alloc: Global) -> Self
         ensures { result ≡ [] }
@@ -52,13 +52,14 @@ impl<'a> Ids<'a> {
     }
 
     /// Puts a new id behind the others.
-    pub fn push(&mut self, id: &'a str) -> Result<(), NoMemory>
+    pub fn push(&mut self, alloc: Global, id: &str) -> Result<(), NoMemory>
         requires room { length self.old < 65536 }
         requires fresh { is_known id.now self.old ≡ false }
         ensures ok { OnOk result (self.new ≡ self.old ++ id.now ∷ []) }
         ensures err { OnErr result (self.new ≡ self.old) }
     {
-        self.set.insert(id)?;
+        let key = String::from_str(alloc, id)?;
+        self.set.insert(key)?;
         Ok(())
     }
 }

@@ -17,12 +17,12 @@ pub trait HasId {
 
 /// Objects in their order, found by their ids. Contracts see the list of objects.
 #[derive(Drop)]
-pub struct Listed<'a, T: HasId> {
+pub struct Listed<T: HasId> {
     items: Vec<T>,
-    ids: Ids<'a>,
+    ids: Ids,
 }
 
-impl<'a, T: HasId> Model for Listed<'a, T> {
+impl<T: HasId> Model for Listed<T> {
     ghost use Rattle.std.specs.Prelude.{List as list_of, ◌≡◌, map};
 
     ghost Value = { list_of T };
@@ -32,7 +32,7 @@ impl<'a, T: HasId> Model for Listed<'a, T> {
     ghost invariant = { λ a. a.ids ≡ map T.id a.items.items };
 }
 
-impl<'a, T: HasId> Listed<'a, T> {
+impl<T: HasId> Listed<T> {
     /// No objects.
     pub fn new(alloc: Global) -> Self
         ensures { result ≡ [] }
@@ -59,7 +59,7 @@ impl<'a, T: HasId> Listed<'a, T> {
     }
 
     /// Puts an object with a new id behind the others.
-    pub fn push(&mut self, item: T, id: &'a str) -> Result<(), NoMemory>
+    pub fn push(&mut self, alloc: Global, item: T, id: &str) -> Result<(), NoMemory>
     where
         T: Drop,
         requires id { T.id item ≡ id.now }
@@ -68,7 +68,7 @@ impl<'a, T: HasId> Listed<'a, T> {
         ensures ok { OnOk result (self.new ≡ self.old ++ item ∷ []) }
     {
         self.items.reserve(1)?;
-        self.ids.push(id)?;
+        self.ids.push(alloc, id)?;
         self.items.push_reserved(item);
         Ok(())
     }
@@ -89,7 +89,7 @@ impl<'a, T: HasId> Listed<'a, T> {
 
     /// The objects alone.
     pub fn into_items(self) -> Vec<T>
-        ensures { result.items ≡ self.entry }
+        ensures { result.items ≡ self }
     {
         let Listed { items, ids: _ids } = self;
         items

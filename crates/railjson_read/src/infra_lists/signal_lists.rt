@@ -24,11 +24,11 @@ use std::alloc::Global;
 
 /// The signals of a file.
 #[tactic(auto, unfolding(crate::specs::Signals::signals_in))]
-pub fn signals_of<'a>(
+pub fn signals_of(
     alloc: Global,
-    file: &'a Value,
+    file: &Value,
     tracks: &Listed<Track>,
-) -> Result<Listed<'a, Signal>, InfraFault>
+) -> Result<Listed<Signal>, InfraFault>
     ensures read { Gives (λ signals. signals) result (signals_in tracks.now (view file.now)) }
     ensures few { IfOk result (λ signals. length signals ≤ MAX_OBJECTS) }
     ensures within { IfOk result (λ signals. All (IsSignal (length tracks.now)) signals) }
@@ -39,11 +39,11 @@ pub fn signals_of<'a>(
 }
 
 /// The signals of a list.
-fn read_signals<'a>(
+fn read_signals(
     alloc: Global,
-    list: &'a [Value],
+    list: &[Value],
     tracks: &Listed<Track>,
-) -> Result<Listed<'a, Signal>, InfraFault>
+) -> Result<Listed<Signal>, InfraFault>
     requires { length list.now ≤ MAX_OBJECTS }
     ensures read { Gives (λ signals. signals) result
         (read_each id_of_signal (signal_at (map id_of_track tracks.now)) [] (map view list.now)) }
@@ -57,12 +57,12 @@ fn read_signals<'a>(
     Ok(signals)
 }
 
-fn read_signal<'a>(
+fn read_signal(
     alloc: Global,
     index: u32,
-    value: &'a Value,
+    value: &Value,
     tracks: &Listed<Track>,
-    signals: &mut Listed<'a, Signal>,
+    signals: &mut Listed<Signal>,
 ) -> Result<(), InfraFault>
     requires room { length signals.old < MAX_OBJECTS }
     requires within { All (IsSignal (length tracks.now)) signals.old }
@@ -75,12 +75,12 @@ fn read_signal<'a>(
     push_signal(alloc, &place, value, tracks, signals)
 }
 
-fn push_signal<'a>(
+fn push_signal(
     alloc: Global,
     place: &Place,
-    value: &'a Value,
+    value: &Value,
     tracks: &Listed<Track>,
-    signals: &mut Listed<'a, Signal>,
+    signals: &mut Listed<Signal>,
 ) -> Result<(), InfraFault>
     requires room { length signals.old < MAX_OBJECTS }
     requires within { All (IsSignal (length tracks.now)) signals.old }
@@ -92,7 +92,7 @@ fn push_signal<'a>(
     object(alloc, place, value)?;
     let id = new_id(alloc, place, value, signals)?;
     let signal = signal(alloc, place, value, id, tracks)?;
-    signals.push(signal, id)?;
+    signals.push(alloc, signal, id)?;
     Ok(())
 }
 

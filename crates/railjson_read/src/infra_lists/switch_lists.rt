@@ -24,11 +24,11 @@ use std::alloc::Global;
 
 /// The switches of a file.
 #[tactic(auto, unfolding(crate::specs::Objects::switches_in))]
-pub fn switches_of<'a>(
+pub fn switches_of(
     alloc: Global,
-    file: &'a Value,
+    file: &Value,
     tracks: &Listed<Track>,
-) -> Result<Listed<'a, Switch>, InfraFault>
+) -> Result<Listed<Switch>, InfraFault>
     ensures read { Gives (λ switches. switches) result (switches_in tracks.now (view file.now)) }
     ensures few { IfOk result (λ switches. length switches ≤ MAX_OBJECTS) }
     ensures within { IfOk result (λ switches. All (IsSwitch (length tracks.now)) switches) }
@@ -39,11 +39,11 @@ pub fn switches_of<'a>(
 }
 
 /// The switches of a list.
-fn read_switches<'a>(
+fn read_switches(
     alloc: Global,
-    list: &'a [Value],
+    list: &[Value],
     tracks: &Listed<Track>,
-) -> Result<Listed<'a, Switch>, InfraFault>
+) -> Result<Listed<Switch>, InfraFault>
     requires { length list.now ≤ MAX_OBJECTS }
     ensures read { Gives (λ switches. switches) result
         (read_each id_of_switch (switch_at (map id_of_track tracks.now)) [] (map view list.now)) }
@@ -57,12 +57,12 @@ fn read_switches<'a>(
     Ok(switches)
 }
 
-fn read_switch<'a>(
+fn read_switch(
     alloc: Global,
     index: u32,
-    value: &'a Value,
+    value: &Value,
     tracks: &Listed<Track>,
-    switches: &mut Listed<'a, Switch>,
+    switches: &mut Listed<Switch>,
 ) -> Result<(), InfraFault>
     requires room { length switches.old < MAX_OBJECTS }
     requires within { All (IsSwitch (length tracks.now)) switches.old }
@@ -75,12 +75,12 @@ fn read_switch<'a>(
     push_switch(alloc, &place, value, tracks, switches)
 }
 
-fn push_switch<'a>(
+fn push_switch(
     alloc: Global,
     place: &Place,
-    value: &'a Value,
+    value: &Value,
     tracks: &Listed<Track>,
-    switches: &mut Listed<'a, Switch>,
+    switches: &mut Listed<Switch>,
 ) -> Result<(), InfraFault>
     requires room { length switches.old < MAX_OBJECTS }
     requires within { All (IsSwitch (length tracks.now)) switches.old }
@@ -92,7 +92,7 @@ fn push_switch<'a>(
     object(alloc, place, value)?;
     let id = new_id(alloc, place, value, switches)?;
     let switch = switch(alloc, place, value, id, tracks)?;
-    switches.push(switch, id)?;
+    switches.push(alloc, switch, id)?;
     Ok(())
 }
 

@@ -22,7 +22,7 @@ use std::alloc::Global;
 
 /// The tracks of a file.
 #[tactic(auto, unfolding(crate::specs::Objects::tracks_in))]
-pub fn tracks_of<'a>(alloc: Global, file: &'a Value) -> Result<Listed<'a, Track>, InfraFault>
+pub fn tracks_of(alloc: Global, file: &Value) -> Result<Listed<Track>, InfraFault>
     ensures read { Gives (λ tracks. tracks) result (tracks_in (view file.now)) }
     ensures few { IfOk result (λ tracks. length tracks ≤ MAX_OBJECTS) }
     ensures within { IfOk result (λ tracks. All IsTrack tracks) }
@@ -34,7 +34,7 @@ pub fn tracks_of<'a>(alloc: Global, file: &'a Value) -> Result<Listed<'a, Track>
 }
 
 /// The tracks of a list.
-fn read_tracks<'a>(alloc: Global, list: &'a [Value]) -> Result<Listed<'a, Track>, InfraFault>
+fn read_tracks(alloc: Global, list: &[Value]) -> Result<Listed<Track>, InfraFault>
     requires { length list.now ≤ MAX_OBJECTS }
     ensures read { Gives (λ tracks. tracks) result
         (read_each id_of_track track_at [] (map view list.now)) }
@@ -49,11 +49,11 @@ fn read_tracks<'a>(alloc: Global, list: &'a [Value]) -> Result<Listed<'a, Track>
     Ok(tracks)
 }
 
-fn read_track<'a>(
+fn read_track(
     alloc: Global,
     index: u32,
-    value: &'a Value,
-    tracks: &mut Listed<'a, Track>,
+    value: &Value,
+    tracks: &mut Listed<Track>,
 ) -> Result<(), InfraFault>
     requires room { length tracks.old < MAX_OBJECTS }
     requires within { All IsTrack tracks.old }
@@ -67,11 +67,11 @@ fn read_track<'a>(
     push_track(alloc, &place, value, tracks)
 }
 
-fn push_track<'a>(
+fn push_track(
     alloc: Global,
     place: &Place,
-    value: &'a Value,
-    tracks: &mut Listed<'a, Track>,
+    value: &Value,
+    tracks: &mut Listed<Track>,
 ) -> Result<(), InfraFault>
     requires room { length tracks.old < MAX_OBJECTS }
     requires within { All IsTrack tracks.old }
@@ -84,7 +84,7 @@ fn push_track<'a>(
     object(alloc, place, value)?;
     let id = new_id(alloc, place, value, tracks)?;
     let track = track(alloc, place, value, id)?;
-    tracks.push(track, id)?;
+    tracks.push(alloc, track, id)?;
     Ok(())
 }
 
@@ -113,12 +113,12 @@ fn length_m(alloc: Global, place: &Place, value: &Value) -> Result<u32, InfraFau
 
 /// The detectors or the buffer stops of a file, by the name of their list.
 #[tactic(auto, unfolding(crate::specs::Objects::all_placed_in))]
-pub fn placed_of<'a>(
+pub fn placed_of(
     alloc: Global,
-    file: &'a Value,
+    file: &Value,
     name: &str,
     tracks: &Listed<Track>,
-) -> Result<Listed<'a, Placed>, InfraFault>
+) -> Result<Listed<Placed>, InfraFault>
     ensures read { Gives (λ found. found) result
         (all_placed_in name.now tracks.now (view file.now)) }
     ensures few { IfOk result (λ found. length found ≤ MAX_OBJECTS) }
@@ -130,12 +130,12 @@ pub fn placed_of<'a>(
 }
 
 /// The detectors or the buffer stops of a list.
-fn read_all_placed<'a>(
+fn read_all_placed(
     alloc: Global,
     name: &str,
-    list: &'a [Value],
+    list: &[Value],
     tracks: &Listed<Track>,
-) -> Result<Listed<'a, Placed>, InfraFault>
+) -> Result<Listed<Placed>, InfraFault>
     requires { length list.now ≤ MAX_OBJECTS }
     ensures read { Gives (λ found. found) result
         (read_each id_of_placed (placed_at name.now (map id_of_track tracks.now)) []
@@ -150,13 +150,13 @@ fn read_all_placed<'a>(
     Ok(found)
 }
 
-fn read_placed<'a>(
+fn read_placed(
     alloc: Global,
     index: u32,
     name: &str,
-    value: &'a Value,
+    value: &Value,
     tracks: &Listed<Track>,
-    found: &mut Listed<'a, Placed>,
+    found: &mut Listed<Placed>,
 ) -> Result<(), InfraFault>
     requires room { length found.old < MAX_OBJECTS }
     requires within { All (IsPlaced (length tracks.now)) found.old }
@@ -169,12 +169,12 @@ fn read_placed<'a>(
     push_placed(alloc, &place, value, tracks, found)
 }
 
-fn push_placed<'a>(
+fn push_placed(
     alloc: Global,
     place: &Place,
-    value: &'a Value,
+    value: &Value,
     tracks: &Listed<Track>,
-    found: &mut Listed<'a, Placed>,
+    found: &mut Listed<Placed>,
 ) -> Result<(), InfraFault>
     requires room { length found.old < MAX_OBJECTS }
     requires within { All (IsPlaced (length tracks.now)) found.old }
@@ -186,7 +186,7 @@ fn push_placed<'a>(
     object(alloc, place, value)?;
     let id = new_id(alloc, place, value, found)?;
     let placed = placed(alloc, place, value, id, tracks)?;
-    found.push(placed, id)?;
+    found.push(alloc, placed, id)?;
     Ok(())
 }
 

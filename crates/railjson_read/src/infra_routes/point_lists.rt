@@ -21,11 +21,11 @@ use std::alloc::Global;
 
 /// The operational points of a file.
 #[tactic(auto, unfolding(crate::specs::Points::points_in))]
-pub fn points_of<'a>(
+pub fn points_of(
     alloc: Global,
-    file: &'a Value,
+    file: &Value,
     tracks: &Listed<Track>,
-) -> Result<Listed<'a, OperationalPoint>, InfraFault>
+) -> Result<Listed<OperationalPoint>, InfraFault>
     ensures read { Gives (λ points. points) result (points_in tracks.now (view file.now)) }
     ensures few { IfOk result (λ points. length points ≤ MAX_OBJECTS) }
     ensures within { IfOk result (λ points. All (IsPoint (length tracks.now)) points) }
@@ -37,11 +37,11 @@ pub fn points_of<'a>(
 }
 
 /// The operational points of a list.
-fn read_points<'a>(
+fn read_points(
     alloc: Global,
-    list: &'a [Value],
+    list: &[Value],
     tracks: &Listed<Track>,
-) -> Result<Listed<'a, OperationalPoint>, InfraFault>
+) -> Result<Listed<OperationalPoint>, InfraFault>
     requires { length list.now ≤ MAX_OBJECTS }
     ensures read { Gives (λ points. points) result
         (read_each id_of_point (point_at (map id_of_track tracks.now)) [] (map view list.now)) }
@@ -56,12 +56,12 @@ fn read_points<'a>(
     Ok(points)
 }
 
-fn read_point<'a>(
+fn read_point(
     alloc: Global,
     index: u32,
-    value: &'a Value,
+    value: &Value,
     tracks: &Listed<Track>,
-    points: &mut Listed<'a, OperationalPoint>,
+    points: &mut Listed<OperationalPoint>,
 ) -> Result<(), InfraFault>
     requires room { length points.old < MAX_OBJECTS }
     requires within { All (IsPoint (length tracks.now)) points.old }
@@ -76,12 +76,12 @@ fn read_point<'a>(
     push_point(alloc, &place, value, tracks, points)
 }
 
-fn push_point<'a>(
+fn push_point(
     alloc: Global,
     place: &Place,
-    value: &'a Value,
+    value: &Value,
     tracks: &Listed<Track>,
-    points: &mut Listed<'a, OperationalPoint>,
+    points: &mut Listed<OperationalPoint>,
 ) -> Result<(), InfraFault>
     requires room { length points.old < MAX_OBJECTS }
     requires within { All (IsPoint (length tracks.now)) points.old }
@@ -95,7 +95,7 @@ fn push_point<'a>(
     object(alloc, place, value)?;
     let id = new_id(alloc, place, value, points)?;
     let point = point(alloc, place, value, id, tracks)?;
-    points.push(point, id)?;
+    points.push(alloc, point, id)?;
     Ok(())
 }
 

@@ -23,13 +23,13 @@ use std::alloc::Global;
 
 /// The routes of a file.
 #[tactic(auto, unfolding(crate::specs::Routes::routes_in))]
-pub fn routes_of<'a>(
+pub fn routes_of(
     alloc: Global,
-    file: &'a Value,
+    file: &Value,
     switches: &Listed<Switch>,
     detectors: &Listed<Placed>,
     buffer_stops: &Listed<Placed>,
-) -> Result<Listed<'a, Route>, InfraFault>
+) -> Result<Listed<Route>, InfraFault>
     ensures read { Gives (λ routes. routes) result
         (routes_in switches.now detectors.now buffer_stops.now (view file.now)) }
     ensures few { IfOk result (λ routes. length routes ≤ MAX_OBJECTS) }
@@ -44,13 +44,13 @@ pub fn routes_of<'a>(
 }
 
 /// The routes of a list.
-fn read_routes<'a>(
+fn read_routes(
     alloc: Global,
-    list: &'a [Value],
+    list: &[Value],
     switches: &Listed<Switch>,
     detectors: &Listed<Placed>,
     buffer_stops: &Listed<Placed>,
-) -> Result<Listed<'a, Route>, InfraFault>
+) -> Result<Listed<Route>, InfraFault>
     requires { length list.now ≤ MAX_OBJECTS }
     ensures read { Gives (λ routes. routes) result
         (read_each id_of_route
@@ -78,14 +78,14 @@ fn read_routes<'a>(
     Ok(routes)
 }
 
-fn read_route<'a>(
+fn read_route(
     alloc: Global,
     index: u32,
-    value: &'a Value,
+    value: &Value,
     switches: &Listed<Switch>,
     detectors: &Listed<Placed>,
     buffer_stops: &Listed<Placed>,
-    routes: &mut Listed<'a, Route>,
+    routes: &mut Listed<Route>,
 ) -> Result<(), InfraFault>
     requires room { length routes.old < MAX_OBJECTS }
     requires within { All (IsRoute (length switches.now) (length detectors.now)
@@ -112,14 +112,14 @@ fn read_route<'a>(
     )
 }
 
-fn push_route<'a>(
+fn push_route(
     alloc: Global,
     place: &Place,
-    value: &'a Value,
+    value: &Value,
     switches: &Listed<Switch>,
     detectors: &Listed<Placed>,
     buffer_stops: &Listed<Placed>,
-    routes: &mut Listed<'a, Route>,
+    routes: &mut Listed<Route>,
 ) -> Result<(), InfraFault>
     requires room { length routes.old < MAX_OBJECTS }
     requires within { All (IsRoute (length switches.now) (length detectors.now)
@@ -137,7 +137,7 @@ fn push_route<'a>(
     object(alloc, place, value)?;
     let id = new_id(alloc, place, value, routes)?;
     let route = route(alloc, place, value, id, switches, detectors, buffer_stops)?;
-    routes.push(route, id)?;
+    routes.push(alloc, route, id)?;
     Ok(())
 }
 

@@ -25,11 +25,11 @@ use std::alloc::Global;
 
 /// The speed sections of a file.
 #[tactic(auto, unfolding(crate::specs::Speeds::speeds_in))]
-pub fn speeds_of<'a>(
+pub fn speeds_of(
     alloc: Global,
-    file: &'a Value,
+    file: &Value,
     tracks: &Listed<Track>,
-) -> Result<Listed<'a, SpeedSection>, InfraFault>
+) -> Result<Listed<SpeedSection>, InfraFault>
     ensures read { Gives (λ speeds. speeds) result (speeds_in tracks.now (view file.now)) }
     ensures few { IfOk result (λ speeds. length speeds ≤ MAX_OBJECTS) }
     ensures within { IfOk result (λ speeds. All (IsSpeed (lengths_of tracks.now)) speeds) }
@@ -40,11 +40,11 @@ pub fn speeds_of<'a>(
 }
 
 /// The speed sections of a list.
-fn read_speeds<'a>(
+fn read_speeds(
     alloc: Global,
-    list: &'a [Value],
+    list: &[Value],
     tracks: &Listed<Track>,
-) -> Result<Listed<'a, SpeedSection>, InfraFault>
+) -> Result<Listed<SpeedSection>, InfraFault>
     requires { length list.now ≤ MAX_OBJECTS }
     ensures read { Gives (λ speeds. speeds) result
         (read_each id_of_speed (speed_at tracks.now) [] (map view list.now)) }
@@ -58,12 +58,12 @@ fn read_speeds<'a>(
     Ok(speeds)
 }
 
-fn read_speed<'a>(
+fn read_speed(
     alloc: Global,
     index: u32,
-    value: &'a Value,
+    value: &Value,
     tracks: &Listed<Track>,
-    speeds: &mut Listed<'a, SpeedSection>,
+    speeds: &mut Listed<SpeedSection>,
 ) -> Result<(), InfraFault>
     requires room { length speeds.old < MAX_OBJECTS }
     requires within { All (IsSpeed (lengths_of tracks.now)) speeds.old }
@@ -75,12 +75,12 @@ fn read_speed<'a>(
     push_speed(alloc, &place, value, tracks, speeds)
 }
 
-fn push_speed<'a>(
+fn push_speed(
     alloc: Global,
     place: &Place,
-    value: &'a Value,
+    value: &Value,
     tracks: &Listed<Track>,
-    speeds: &mut Listed<'a, SpeedSection>,
+    speeds: &mut Listed<SpeedSection>,
 ) -> Result<(), InfraFault>
     requires room { length speeds.old < MAX_OBJECTS }
     requires within { All (IsSpeed (lengths_of tracks.now)) speeds.old }
@@ -91,7 +91,7 @@ fn push_speed<'a>(
     object(alloc, place, value)?;
     let id = new_id(alloc, place, value, speeds)?;
     let section = section(alloc, place, value, id, tracks)?;
-    speeds.push(section, id)?;
+    speeds.push(alloc, section, id)?;
     Ok(())
 }
 

@@ -1,14 +1,13 @@
-use Rattle.std.proofs.Common.{Err, sym, ap, ◌∙◌, rules}
-use Rattle.serde_json.specs.View.{view}
-use Rattle.railjson_read.proofs.Kept.{text_refused, text_same}
+use Rattle.std.proofs.Common.{rules}
+use Rattle.railjson_read.specs.Files.{joined, others_at}
+use Rattle.railjson_read.proofs.Kept.{behind_first, by_halves, made}
 use Rattle.railjson_read.proofs.files.read_text.Goals as goal
 
-pub returns-in-Err-clause-read : goal.returns-in-Err-clause-read
-returns-in-Err-clause-read c = λ quoted h some.
-    let none = c.in-Err.ensures quoted h some in
-    text_refused quoted none.1 ∙ ap Err (sym none.0)
+pub returns-in_err-first-clause-read : goal.returns-in_err-first-clause-read
+returns-in_err-first-clause-read c = λ quoted h. rw (c.in_ok-file.ensures quoted h, by_halves c.in_ok-file.file) (search (rules, c.from_residual-in_err-first.ensures, c.in_err-first.ensures.read))
 
 pub returns-clause-read : goal.returns-clause-read
-returns-clause-read c = λ quoted h.
-    let kept = c.in-Ok.ensures quoted h in
-    rw (text_same quoted kept.0 (view c.in-Ok.file) kept.1 kept.2) c.read_object.ensures.read
+returns-clause-read c =
+    let first = c.in_ok-first.first in
+    λ quoted h. rw (c.in_ok-file.ensures quoted h, behind_first c.in_ok-file.file first c.in_ok-first.ensures.read, c.infra_of.ensures.read)
+    (made (joined first) c.read_others-others.result (others_at first.landmarks c.in_ok-file.file) (rw c.in_ok-first.ensures.same at c.read_others-others.ensures.read))

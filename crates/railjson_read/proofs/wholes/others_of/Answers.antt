@@ -1,12 +1,10 @@
 use Rattle.railjson_read.proofs.wholes.others_of.Goals as goal
 
 pub returns-clause-sound : goal.returns-clause-sound
-returns-clause-sound c = rw (c.alone-signals.ensures, c.alone-routes.ensures, c.alone-points.ensures, c.alone-speeds.ensures) (record {
-  few_signals = c.in_ok-signals_of.ensures.few;
+returns-clause-sound c = rw (c.alone-routes.ensures, c.alone-points.ensures, c.alone-speeds.ensures) (record {
   few_routes = c.in_ok-routes_of.ensures.few;
   few_points = c.in_ok-points_of.ensures.few;
   few_speeds = c.in_ok-speeds_of.ensures.few;
-  signals = c.in_ok-signals_of.ensures.within;
   routes = c.in_ok-routes_of.ensures.within;
   route_ids = c.in_ok-routes_of.ensures.named;
   points = c.in_ok-points_of.ensures.within;

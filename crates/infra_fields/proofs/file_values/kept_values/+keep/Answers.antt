@@ -45,7 +45,7 @@ keep-returns-clause-ok t c =
 -- ---- members
 
 pub keep_members-members-init : goal.keep_members-members-init
-keep_members-members-init t c = (no_members, members_first c.args.depth c.args.reader.now, rw c.new-kept.ensures.empty (none_kept (Keeps c.args.levels)), omega arith)
+keep_members-members-init t c = (no_members, members_first c.args.depth c.args.reader.now, rw c.new-kept.ensures.empty (none_kept is_read is_list (Keeps c.args.levels)), omega arith)
 
 pub keep_members-returns-in_err-name-clause-err : goal.keep_members-returns-in_err-name-clause-err
 keep_members-returns-in_err-name-clause-err t c refused =
@@ -85,12 +85,12 @@ pub take_member-returns-then-not-is_read-clause-ok : goal.take_member-returns-th
 take_member-returns-then-not-is_read-clause-ok t c =
     let unread : is_read c.args.name.now ≡ false = grind arith in
     let passed = c.in_ok-pass.ensures.ok in
-    (passed.0, passed.1, λ all h. passed_put (Keeps c.args.levels) c.args.name.now passed.0 all (members_view c.args.kept.now.entries) unread h)
+    (passed.0, passed.1, λ all h. passed_put is_read is_list (Keeps c.args.levels) c.args.name.now passed.0 all (members_view c.args.kept.now.entries) unread h)
 
 pub take_member-returns-clause-ok : goal.take_member-returns-clause-ok
 take_member-returns-clause-ok t c =
     let it = c.in_ok-member.ensures.ok in
-    (it.0, it.1, λ all h. rw c.in-Ok.ensures.ok (kept_put (Keeps c.args.levels) c.args.name.now it.0 (view c.in_ok-member.member) all (members_view c.args.kept.now.entries) it.2 h))
+    (it.0, it.1, λ all h. rw c.in-Ok.ensures.ok (kept_put is_read is_list (Keeps c.args.levels) c.args.name.now it.0 (view c.in_ok-member.member) all (members_view c.args.kept.now.entries) it.2 h))
 
 pub member_value-returns-then-is_list-clause-ok : goal.member_value-returns-then-is_list-clause-ok
 member_value-returns-then-is_list-clause-ok t c =

@@ -1,7 +1,7 @@
-use Rattle.std.proofs.Common.{ℕ, ◌+◌, ◌*◌, ◌≤◌, List, length, map}
+use Rattle.std.proofs.Common.{◌+◌, ◌*◌, ◌≤◌, List, length, map}
 use Rattle.serde_json.specs.Data.{Data, Members}
 use Rattle.serde_json.specs.View.{view, members_view}
-use Rattle.infra_fields.specs.Kept.{Each, Keeps, KeepsMembers}
+use Rattle.infra_fields.specs.Kept.{Each, Keeps, KeepsFields}
 use Rattle.infra_fields.proofs.Turns.{ItemsSoFar, MembersSoFar}
 use Rattle.infra_fields.proofs.file_values.kept_values.+keep.Given as goal
 
@@ -37,7 +37,7 @@ abbrev pub invariant-keep_members-members : goal.invariant-keep_members-members
 invariant-keep_members-members l =
     (all : Members)
     × MembersSoFar l.depth l.initial.reader l.reader all
-    × KeepsMembers (Keeps l.levels) all (members_view l.kept.entries)
+    × KeepsFields l.levels all (members_view l.kept.entries)
     × (length l.reader ≤ length l.initial.reader)
 
 abbrev pub decreases-keep_members-members : goal.decreases-keep_members-members

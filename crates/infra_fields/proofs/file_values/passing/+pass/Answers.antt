@@ -1,5 +1,5 @@
-use Rattle.std.proofs.Common.{◌≡◌, ◌<◌, [], ◌∷◌, ◌++◌, length, true, false, is_some, Option, Some, None, refl, sym, ap, ◌∙◌, true≢false, arith}
-use Rattle.json.specs.Json.{after_end_array, read_key, value}
+use Rattle.std.proofs.Common.{◌≡◌, ◌<◌, [], ◌∷◌, ◌++◌, length, true, false, is_some, Option, Some, None, refl, sym, true≢false, arith}
+use Rattle.json.specs.Json.{after_end_array, read_key}
 use Rattle.json.specs.Reads.{token_of}
 use Rattle.json.proofs.Grammar.{read_key-shorter}
 use Rattle.serde_json.specs.Data.{array, object, no_items, no_members, put}

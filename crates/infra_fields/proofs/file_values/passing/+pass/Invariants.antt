@@ -1,4 +1,4 @@
-use Rattle.std.proofs.Common.{ℕ, ◌+◌, ◌*◌, ◌≤◌, List, length}
+use Rattle.std.proofs.Common.{◌+◌, ◌*◌, ◌≤◌, List, length}
 use Rattle.serde_json.specs.Data.{Data, Members}
 use Rattle.infra_fields.proofs.Turns.{ItemsSoFar, MembersSoFar}
 use Rattle.infra_fields.proofs.file_values.passing.+pass.Given as goal

@@ -3,7 +3,6 @@ use Rattle.std.proofs.lemmas.List.{map-append}
 use Rattle.json.specs.Json.{after_end_array, read_key, value}
 use Rattle.json.specs.Reads.{token_of}
 use Rattle.json.proofs.Grammar.{read_key-shorter}
-use Rattle.serde_json.specs.Data.{array, object}
 use Rattle.serde_json.specs.Read.{of_json, converted}
 use Rattle.serde_json.specs.View.{view, items_view, members_view}
 use Rattle.infra_fields.specs.Tokens.{opens_array, opens_object}

@@ -1,4 +1,4 @@
-use Rattle.std.proofs.Common.{ℕ, ◌+◌, ◌*◌, ◌≤◌, length, map}
+use Rattle.std.proofs.Common.{◌+◌, ◌*◌, ◌≤◌, length, map}
 use Rattle.serde_json.specs.View.{view, members_view}
 use Rattle.infra_fields.proofs.Turns.{ItemsSoFar, MembersSoFar}
 use Rattle.infra_fields.proofs.file_values.whole_values.+read.Given as goal

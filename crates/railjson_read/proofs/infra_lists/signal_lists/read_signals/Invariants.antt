@@ -1,8 +1,8 @@
 use Rattle.rail_types.specs.InfraIds.{id_of_signal, id_of_track}
 use Rattle.std.proofs.Common.{◌≡◌, length, map, drop, []}
-use Rattle.std.specs.Prelude.{All, ◌<◌}
+use Rattle.std.specs.Prelude.{All}
 use Rattle.serde_json.specs.View.{view}
-use Rattle.infra_fields.specs.Fields.{read_each, read_items}
+use Rattle.infra_fields.specs.Fields.{read_each}
 use Rattle.rail_types.specs.Infras.{IsSignal}
 use Rattle.railjson_read.specs.Signals.{signal_at}
 use Rattle.railjson_read.proofs.infra_lists.signal_lists.read_signals.Given as goal

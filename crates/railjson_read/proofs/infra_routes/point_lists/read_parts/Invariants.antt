@@ -2,8 +2,7 @@ use Rattle.rail_types.specs.InfraIds.{id_of_track}
 use Rattle.std.proofs.Common.{◌≡◌, length, map, drop, []}
 use Rattle.std.specs.Prelude.{All, ◌<◌}
 use Rattle.serde_json.specs.View.{view}
-use Rattle.infra_fields.specs.Fields.{read_each, read_items}
-use Rattle.rail_types.specs.Infras.{IsPoint}
+use Rattle.infra_fields.specs.Fields.{read_items}
 use Rattle.railjson_read.specs.Points.{part_at}
 use Rattle.railjson_read.proofs.infra_routes.point_lists.read_parts.Given as goal
 

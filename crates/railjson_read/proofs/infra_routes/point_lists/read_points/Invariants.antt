@@ -1,9 +1,9 @@
 use Rattle.rail_types.specs.InfraIds.{id_of_point, id_of_track}
 use Rattle.std.proofs.Common.{◌≡◌, length, map, drop, []}
-use Rattle.std.specs.Prelude.{All, ◌<◌}
+use Rattle.std.specs.Prelude.{All}
 use Rattle.serde_json.specs.View.{view}
 use Rattle.rail_types.specs.Named.{IsId}
-use Rattle.infra_fields.specs.Fields.{read_each, read_items}
+use Rattle.infra_fields.specs.Fields.{read_each}
 use Rattle.rail_types.specs.Infras.{IsPoint}
 use Rattle.railjson_read.specs.Points.{point_at}
 use Rattle.railjson_read.proofs.infra_routes.point_lists.read_points.Given as goal

@@ -1,9 +1,9 @@
 use Rattle.rail_types.specs.InfraIds.{id_of_placed, id_of_route, id_of_switch}
 use Rattle.std.proofs.Common.{◌≡◌, length, map, drop, []}
-use Rattle.std.specs.Prelude.{All, ◌<◌}
+use Rattle.std.specs.Prelude.{All}
 use Rattle.serde_json.specs.View.{view}
 use Rattle.rail_types.specs.Named.{IsId}
-use Rattle.infra_fields.specs.Fields.{read_each, read_items}
+use Rattle.infra_fields.specs.Fields.{read_each}
 use Rattle.rail_types.specs.Infras.{IsRoute}
 use Rattle.railjson_read.specs.Routes.{route_at}
 use Rattle.railjson_read.proofs.infra_routes.route_lists.read_routes.Given as goal

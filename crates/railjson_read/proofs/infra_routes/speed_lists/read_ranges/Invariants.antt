@@ -1,7 +1,7 @@
 use Rattle.std.proofs.Common.{◌≡◌, length, map, drop, []}
-use Rattle.std.specs.Prelude.{All, ◌<◌}
+use Rattle.std.specs.Prelude.{All}
 use Rattle.serde_json.specs.View.{view}
-use Rattle.infra_fields.specs.Fields.{read_each, read_items}
+use Rattle.infra_fields.specs.Fields.{read_items}
 use Rattle.rail_types.specs.Infras.{IsRange, lengths_of}
 use Rattle.railjson_read.specs.Speeds.{range_at}
 use Rattle.railjson_read.proofs.infra_routes.speed_lists.read_ranges.Given as goal

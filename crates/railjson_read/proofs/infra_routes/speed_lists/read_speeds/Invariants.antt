@@ -1,8 +1,8 @@
 use Rattle.rail_types.specs.InfraIds.{id_of_speed}
 use Rattle.std.proofs.Common.{◌≡◌, length, map, drop, []}
-use Rattle.std.specs.Prelude.{All, ◌<◌}
+use Rattle.std.specs.Prelude.{All}
 use Rattle.serde_json.specs.View.{view}
-use Rattle.infra_fields.specs.Fields.{read_each, read_items}
+use Rattle.infra_fields.specs.Fields.{read_each}
 use Rattle.rail_types.specs.Infras.{IsSpeed, lengths_of}
 use Rattle.railjson_read.specs.Speeds.{speed_at}
 use Rattle.railjson_read.proofs.infra_routes.speed_lists.read_speeds.Given as goal
