@@ -7,3 +7,4 @@ pub mod Stepping
 pub mod Ending
 pub mod Naming
 pub mod Judgement
+pub mod TrainCounts

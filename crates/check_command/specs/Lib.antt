@@ -4,3 +4,4 @@ pub mod Files
 pub mod Works
 pub mod Runs
 pub mod Replays
+pub mod Counts

@@ -7,9 +7,11 @@ ghost use Rattle.proof_texts.specs.declared.reading.TheConstants.{MAX_PROOF_FILE
 ghost use Rattle.rail_types.specs.Flaws.{first_flaw};
 ghost use Rattle.refusal_proof.specs.tails.Following.{AreFollowers};
 ghost use Rattle.check_command.specs.Checks.{TellsProofs};
+ghost use Rattle.check_command.specs.Counts.{AreCounted};
 ghost use Rattle.check_command.specs.Doubts.{BeginsWell, HasGood, IsDoubtIn, Refutes};
 ghost use Rattle.check_command.specs.Replays.{IsUp, entries_of};
 
+use crate::counts::SpotCounts;
 use crate::doubts::{Doubt, Why, done_told, refusal_of};
 use crate::judging::{Judged, followers_of, judge};
 use crate::replays::{Replay, begin, go_to};
@@ -27,6 +29,7 @@ fn check_first(
     alloc: Global,
     known: &Known,
     followers: &Followers,
+    counts: &mut SpotCounts,
     replay: &mut Replay,
     front: u64,
     text: &[u8],
@@ -36,9 +39,12 @@ fn check_first(
     requires sound { AreSound known.now }
     requires network { known.now.railway.network ≡ replay.old.history.timetable.net }
     requires followers { AreFollowers replay.old.history.timetable.net followers.now }
+    requires counts { AreCounted replay.old.history.timetable.net counts.old.kept.items }
     requires legal { IsLegal replay.old.history.timetable (entries_of replay.old) }
     requires front { front ≡ length (entries_of replay.old) }
     requires up { IsUp replay.old }
+    ensures counts { OnOk result
+        (AreCounted replay.old.history.timetable.net counts.new.kept.items) }
     ensures timetable { OnOk result
         (replay.new.history.timetable ≡ replay.old.history.timetable) }
     ensures all { OnOk result (entries_of replay.new ≡ entries_of replay.old) }
@@ -68,6 +74,7 @@ fn check_first(
         settings,
         &replay.book,
         followers,
+        counts,
         &proof,
     )? {
         Judged::Good => Ok(count),
@@ -98,11 +105,12 @@ fn check_all(
     ensures doubt { IfErr result (IsDoubtIn known.now replay.old.history.timetable
         (entries_of replay.old) bytes.now) }
 {
+    let mut counts = SpotCounts::new(alloc);
     let mut at = 0usize;
     let mut position = 0u64;
     while at < bytes.len() {
         let (_, text) = bytes.split_at(at);
-        match check_first(alloc, known, followers, replay, front, text) {
+        match check_first(alloc, known, followers, &mut counts, replay, front, text) {
             Ok(count) => {
                 at += count;
                 position += 1;

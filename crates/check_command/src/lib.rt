@@ -3,6 +3,7 @@
 #![tactic(auto)]
 
 mod checks;
+mod counts;
 mod doubts;
 mod files;
 mod journals;

@@ -1,6 +1,7 @@
 -- A move that leads to what is covered whenever it is free, and the members that labels stand for.
 use Rattle.std.proofs.Common.{◌≡◌, ◌∙◌, sym, ap, refl, subst, ℕ, ◌+◌, ◌^◌, ◌<◌, ◌≤◌, ℤ, pos, ◌+ℤ◌, ◌-ℤ◌, ◌<ℤ◌, ◌≤ℤ◌, List, [], ◌∷◌, ◌++◌, take, length, get_or, All, None, Some, arith, inl, inr}
-use Rattle.std.specs.Prelude.{slice_get, ◌↔◌, Contains}
+use Rattle.std.specs.Prelude.{slice_get, ◌↔◌, Contains, IfSome, IsNone, Option, Vec}
+use Rattle.std.specs.Global.{Global}
 use Rattle.std.specs.Int.{int_max, int_min}
 use Rattle.std.proofs.lemmas.Int.{ints, clamps}
 use Rattle.std.proofs.lemmas.Bool.{cases_order}
@@ -31,12 +32,12 @@ use Rattle.tail_states.specs.declared.moves.Move.{Move}
 use Rattle.tail_states.specs.declared.moves.Next.{Next}
 use Rattle.tail_states.specs.declared.moves.Next.TheVariants.{End, At}
 use Rattle.tail_states.specs.declared.certificates.Closed.{Closed}
-use Rattle.tail_states.specs.Listed.{AreMovesFrom, AreThePlaces, HasNoneTwice, LeadsTo}
+use Rattle.tail_states.specs.Listed.{AreMovesFrom, AreSomePlaces, HasNoneTwice, HaveWantedMoves, IsWanted, LeadsTo, Listed}
 use Rattle.tail_states.specs.Closing.{IsAdmitted, IsClosed, IsHeld, leaves_at}
 use Rattle.refusal_proof.specs.declared.labels.Label.{Label}
 use Rattle.refusal_proof.specs.declared.goings.Going.{Going}
 use Rattle.refusal_proof.specs.Proofs.{IsProof, claims_held}
-use Rattle.refusal_proof.specs.Inside.{AreFreeAt, AreGoings, AreGrown, AreLabels, AreLabelsOf, CanGoOn, CoverAlike, Goes, HoldAlike, IsClaimIn, IsCovered, LabelPasses, Leads, MovePasses, PassesIn, ReachesLess, StepsPass, claims_of, kept_behind, later, member_of, members_of, ticks_of_step}
+use Rattle.refusal_proof.specs.Inside.{AreFreeAt, AreGoings, AreGrown, AreLabels, AreLabelsOf, CanGoOn, CoverAlike, Goes, HaveLabelMoves, HoldAlike, IsClaimIn, IsCovered, LabelPasses, Leads, MovePasses, PassesIn, ReachesLess, StepsPass, claims_of, kept_behind, later, member_of, members_of, ticks_of_step}
 use Rattle.refusal_proof.proofs.Numbering.{grown_numbers, grown_some, moved_alike}
 use Rattle.refusal_proof.proofs.Staying.{AreFreeOver, at_of_over, fits_at, free_at, kept_far, kept_of_over, over_of_at, over_of_kept, unmap}
 
@@ -182,6 +183,38 @@ module _ (places : List Place) (labels : List Label) where
           | inr more ↦ absurd (distinct number there.0 start_place more in_range (here ∙ sym there.1.at))
         ]
       ]
+
+-- there are members at the places of the labels that stand for them
+labels_wanted : (places : List Place) (members : List Member) (labels : List Label) → AreLabelsOf places members labels → (k : ℕ) (d : Label) → k < length labels → IsWanted members (get_or places (get_or labels k d).number start_place)
+labels_wanted places members labels are k d within =
+    let label = get_or labels k d in
+    let place = get_or places label.number start_place in
+    let from = label.window.from in
+    let inside : IsInside label.window from = (omega (arith, ints), are.all.some k d within) in
+    let held : IsHeld members place from = (are.alike place from).1 (held_of places labels label.number place from refl (k, label, within, get_or_default labels k label d within, (refl, inside))) in
+    (held.0, held.1, held.2, held.3, held.4.0)
+
+-- what is told of labels and members that are handed on
+pub labels_told : (places : List Place) (handed members : List Member) (told : Option (Vec Label Global)) (labels : Vec Label Global) (slice : List Label) → handed ≡ members → told ≡ Some labels → slice ≡ labels.items → IfSome told (λ ls. AreLabelsOf places handed ls.items) → AreLabelsOf places members slice
+labels_told places handed members told labels slice same is sliced found = subst (λ ms. AreLabelsOf places ms slice) same
+    (subst (λ ls. AreLabelsOf places handed ls) (sym sliced) (subst (λ o. IfSome o (λ ls. AreLabelsOf places handed ls.items)) is found))
+
+pub places_told : (places : List Place) (handed members : List Member) (told : Option (Vec Label Global)) (labels : Vec Label Global) → handed ≡ members → told ≡ Some labels → IfSome told (λ _. All (λ (member : Member). Contains places member.place) handed) → All (λ (member : Member). Contains places member.place) members
+places_told places handed members told labels same is among = subst (All (λ (member : Member). Contains places member.place)) same
+    (subst (λ o. IfSome o (λ _. All (λ (member : Member). Contains places member.place) handed)) is among)
+
+pub none_told : (places : List Place) (handed members : List Member) (told : Option (Vec Label Global)) → handed ≡ members → told ≡ None → (IsNone told → ¬ All (λ (member : Member). Contains places member.place) handed) → ¬ All (λ (member : Member). Contains places member.place) members
+none_told places handed members told same is none all = subst (λ o. IsNone o → ¬ All (λ (member : Member). Contains places member.place) handed) is none refl
+    (subst (All (λ (member : Member). Contains places member.place)) (sym same) all)
+
+-- so the moves from each of these are listed
+pub label_moves : (net : Network) (request : Request) (listed : Listed) (members : List Member) (labels : List Label) → HaveWantedMoves net request members listed → AreLabelsOf listed.members members labels → HaveLabelMoves net request listed labels
+label_moves net request listed members labels have are = record {
+  starts = have.starts;
+  count = have.count;
+  moves = λ k d within place moves at got. have.moves (get_or labels k d).number place moves
+      (subst (IsWanted members) (get_or_from_slice_get listed.members (get_or labels k d).number place start_place at) (labels_wanted listed.members members labels are k d within)) at got;
+}
 
 -- labels that cover alike stand for members that hold alike
 held_alike_one : (places : List Place) (one other : List Label) → CoverAlike one other → (place : Place) (tick : ℤ) → IsHeld (members_of places one) place tick → IsHeld (members_of places other) place tick
@@ -352,7 +385,7 @@ module _ (net : Network) (settings : Settings) (request : Request) (book : List 
         admitted_here place step (leaves_at net settings request place step enter) (closed.moves place step tick enter is on free (below_all (leaves_at net settings request place step enter) free.ends))
 
     -- with members at places of the request that is a proof
-    module _ (the : AreThePlaces net request places) where
+    module _ (the : AreSomePlaces net request places) where
       pub proof_by_passing : (proof : Closed) → proof.members ≡ members → All (λ (member : Member). Contains places member.place) members → StartsPass → LabelsPass → IsProof net settings (claims_held book) request proof
       proof_by_passing proof same among starts pass = record {
         places = subst (All (λ (member : Member). IsPlace net request member.place)) (sym same) (λ k d within. is_place (get_or members k d).place (among k d within));

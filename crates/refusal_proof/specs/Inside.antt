@@ -1,6 +1,6 @@
 -- Inside the check: labels, the ticks at which a train may go on, and what a move leads to.
 use Rattle.std.specs.Prelude.{◌≡◌, ◌⊎◌, ◌↔◌, ℕ, ◌+◌, ◌^◌, ◌<◌, ℤ, pos, neg_ℤ, ◌+ℤ◌, ◌<ℤ◌, ◌≤ℤ◌}
-use Rattle.std.specs.Prelude.{List, [], ◌++◌, length, map, All, AllPairs, Any}
+use Rattle.std.specs.Prelude.{List, [], ◌++◌, length, map, All, AllPairs, Any, Some, slice_get}
 use Rattle.std.specs.List.{slice_index_or}
 use Rattle.rail_types.specs.declared.tracks.Network.{Network}
 use Rattle.rail_types.specs.declared.trains.Request.{Request}
@@ -21,6 +21,7 @@ use Rattle.tail_states.specs.declared.certificates.Member.{Member}
 use Rattle.tail_states.specs.declared.moves.Move.{Move}
 use Rattle.tail_states.specs.declared.moves.Next.{Next}
 use Rattle.tail_states.specs.declared.moves.Next.TheVariants.{End, At}
+use Rattle.tail_states.specs.Listed.{AreMovesFrom, Listed}
 use Rattle.tail_states.specs.Closing.{GoesOn, IsAdmitted, IsFreeMove, IsHeld, leaves_at}
 use Rattle.refusal_proof.specs.declared.labels.Label.{Label}
 use Rattle.refusal_proof.specs.declared.goings.Going.{Going}
@@ -91,6 +92,20 @@ pub record AreLabels (places : List Place) (labels : List Label) : Type 0 where
   pub numbers : All (λ label. label.number < length places) labels
   pub some : All (λ label. label.window.from ≤ℤ label.window.to) labels
   pub order : AllPairs ReachesLess labels
+
+-- at a number stand the moves from its place
+abbrev pub HasMovesAt : Network → Request → Listed → ℕ → Type 0
+HasMovesAt net request listed number =
+    (place : Place) (moves : List Move) → slice_get listed.members number ≡ Some place
+    → slice_get listed.moves number ≡ Some moves
+    → AreMovesFrom net request listed.members place moves
+
+-- the moves from the start place, and at the number of each label those from its place
+pub record HaveLabelMoves (net : Network) (request : Request) (listed : Listed)
+    (labels : List Label) : Type 0 where
+  pub starts : AreMovesFrom net request listed.members start_place listed.starts
+  pub count : length listed.moves ≡ length listed.members
+  pub moves : All (λ label. HasMovesAt net request listed label.number) labels
 
 -- the members that labels stand for
 abbrev pub member_of : List Place → Label → Member

@@ -1,7 +1,7 @@
 //! Whether members show that no path of a request can be granted.
 
 ghost use Rattle.std.specs.Prelude.{◌≡◌, ◌↔◌, ◌<◌, ◌≤◌, ◌^◌, ◌≤ℤ◌, length, None, Some, All};
-ghost use Rattle.std.specs.Prelude.{AllPairs, IfOk, IsTrue, slice_get};
+ghost use Rattle.std.specs.Prelude.{AllPairs, Contains, IfOk, IfSome, IsNone, IsTrue, slice_get};
 ghost use Rattle.rail_types.specs.declared.limits.TheConstants.{MAX_PLACES};
 ghost use Rattle.rail_types.specs.Flaws.{first_flaw};
 ghost use Rattle.rail_types.specs.Limits.{IsRequestWithinLimits, IsSettingsWithinLimits};
@@ -10,10 +10,13 @@ ghost use Rattle.blocking_time.specs.Possible.{IsPossible};
 ghost use Rattle.stair_pieces.specs.Moves.{IsInside};
 ghost use Rattle.stair_pieces.specs.Places.{start_place};
 ghost use Rattle.stair_pieces.specs.Steps.{IsPlaceIn};
-ghost use Rattle.tail_states.specs.Listed.{AreTheMoves, AreThePlaces};
+ghost use Rattle.tail_states.specs.Listed.{AreSomePlaces, AreTheMoves, AreThePlaces};
+ghost use Rattle.tail_states.specs.Listed.{HaveWantedMoves};
 ghost use Rattle.refusal_proof.specs.Proofs.{IsProof, claims_held};
 ghost use Rattle.refusal_proof.specs.Inside.{
   AreLabels,
+  HasMovesAt,
+  HaveLabelMoves,
   IsClaimIn,
   LabelPasses,
   MovePasses,
@@ -79,8 +82,8 @@ fn starts_pass(
     requires settings { IsSettingsWithinLimits settings.now }
     requires zones { length book.now ≡ net.now.zones }
     requires request { IsRequestWithinLimits request.now }
-    requires places { AreThePlaces net.now request.now places.now.members }
-    requires moves { AreTheMoves net.now request.now places.now }
+    requires places { AreSomePlaces net.now request.now places.now.members }
+    requires moves { HaveLabelMoves net.now request.now places.now labels.now }
     requires labels { AreLabels places.now.members labels.now }
     ensures { IfOk result (λ yes. IsTrue yes ↔ StepsPass net.now settings.now request.now
         (claims_held book.now) (members_of places.now.members labels.now)
@@ -114,10 +117,11 @@ fn label_passes(
     requires settings { IsSettingsWithinLimits settings.now }
     requires zones { length book.now ≡ net.now.zones }
     requires request { IsRequestWithinLimits request.now }
-    requires places { AreThePlaces net.now request.now places.now.members }
-    requires moves { AreTheMoves net.now request.now places.now }
+    requires places { AreSomePlaces net.now request.now places.now.members }
+    requires moves { HaveLabelMoves net.now request.now places.now labels.now }
     requires labels { AreLabels places.now.members labels.now }
     requires number { label.now.number < length places.now.members }
+    requires here { HasMovesAt net.now request.now places.now label.now.number }
     requires some { label.now.window.from ≤ℤ label.now.window.to }
     ensures { IfOk result (λ yes. IsTrue yes ↔ LabelPasses net.now settings.now request.now
         (claims_held book.now) places.now.members labels.now label.now) }
@@ -148,8 +152,8 @@ fn labels_pass(
     requires settings { IsSettingsWithinLimits settings.now }
     requires zones { length book.now ≡ net.now.zones }
     requires request { IsRequestWithinLimits request.now }
-    requires places { AreThePlaces net.now request.now places.now.members }
-    requires moves { AreTheMoves net.now request.now places.now }
+    requires places { AreSomePlaces net.now request.now places.now.members }
+    requires moves { HaveLabelMoves net.now request.now places.now labels.now }
     requires labels { AreLabels places.now.members labels.now }
     ensures { IfOk result (λ yes. IsTrue yes ↔ All (LabelPasses net.now settings.now request.now
         (claims_held book.now) places.now.members labels.now) labels.now) }
@@ -160,6 +164,50 @@ fn labels_pass(
         }
     }
     Ok(true)
+}
+
+/// What `check` tells, by places of the request that are listed for these members with the moves
+/// from them alone (`places_for`); None exactly where the place of a member is not listed. That is
+/// enough: a move to a place without a member may not be free, whatever leads on from there.
+pub fn check_listed(
+    alloc: Global,
+    net: &Network,
+    settings: &Settings,
+    book: &Occupations,
+    request: &Request,
+    places: &Places,
+    proof: &Closed,
+) -> Result<Option<bool>, NoMemory>
+    requires flawless { first_flaw net.now ≡ None }
+    requires settings { IsSettingsWithinLimits settings.now }
+    requires zones { length book.now ≡ net.now.zones }
+    requires request { IsRequestWithinLimits request.now }
+    requires places { AreSomePlaces net.now request.now places.now.members }
+    requires moves { HaveWantedMoves net.now request.now proof.now.members places.now }
+    requires few { length places.now.members ≤ MAX_PLACES }
+    requires windows { All (λ member. member.window.from ≤ℤ member.window.to) proof.now.members }
+    ensures exact { IfOk result (λ told. IfSome told (λ yes. IsTrue yes
+        ↔ IsProof net.now settings.now (claims_held book.now) request.now proof.now)) }
+    ensures sound { IfOk result (λ told. IfSome told (λ yes. IsTrue yes
+        → ¬ IsPossible net.now settings.now (claims_held book.now) request.now)) }
+    ensures listed { IfOk result (λ told. IfSome told (λ _.
+        All (λ member. Contains places.now.members member.place) proof.now.members)) }
+    ensures none { IfOk result (λ told. IsNone told
+        → ¬ All (λ member. Contains places.now.members member.place) proof.now.members) }
+{
+    // These laws say that closed members exclude all paths, and that the
+    // claims of a book have ticks.
+    closed_members_exclude_paths();
+    book.zones();
+    let Some(labels) = labels_of(alloc, places, proof.members.as_slice())? else {
+        return Ok(None);
+    };
+    let labels = labels.as_slice();
+    if !starts_pass(alloc, net, settings, book, request, places, labels)? {
+        return Ok(Some(false));
+    }
+    let passes = labels_pass(alloc, net, settings, book, request, places, labels)?;
+    Ok(Some(passes))
 }
 
 /// Whether these members show that no path of a request can be granted beside what the book
@@ -190,17 +238,9 @@ pub fn check(
     ensures sound { IfOk result (λ yes. IsTrue yes
         → ¬ IsPossible net.now settings.now (claims_held book.now) request.now) }
 {
-    // These laws say that closed members exclude all paths, and that the
-    // claims of a book have ticks.
-    closed_members_exclude_paths();
-    book.zones();
-    let Some(labels) = labels_of(alloc, places, proof.members.as_slice())? else {
-        return Ok(false);
-    };
-    let labels = labels.as_slice();
-    if !starts_pass(alloc, net, settings, book, request, places, labels)? {
-        return Ok(false);
+    // All places are listed: one that is not is none of the request's.
+    match check_listed(alloc, net, settings, book, request, places, proof)? {
+        Some(yes) => Ok(yes),
+        None => Ok(false),
     }
-    let passes = labels_pass(alloc, net, settings, book, request, places, labels)?;
-    Ok(passes)
 }

@@ -7,5 +7,5 @@ mod goings;
 mod labels;
 mod moves;
 
-pub use checks::check;
+pub use checks::{check, check_listed};
 pub use tail_states as tails;

@@ -13,11 +13,12 @@ use Rattle.stair_pieces.specs.declared.places.Place.{Place}
 use Rattle.stair_pieces.specs.declared.places.Step.{Step}
 use Rattle.stair_pieces.specs.Places.{start_place, place_after}
 use Rattle.stair_pieces.specs.Moves.{IsMove, IsEnd, IsPlace, begun, gone_on, MayLeave}
+use Rattle.tail_states.specs.declared.certificates.Member.{Member}
 use Rattle.tail_states.specs.declared.moves.Move.{Move}
 use Rattle.tail_states.specs.declared.moves.Next.{Next}
 use Rattle.tail_states.specs.declared.moves.Next.TheVariants.{End, At}
-use Rattle.tail_states.specs.Listed.{LeadsTo, IsListedMove, HasStep, AreMovesFrom, AreThePlaces, AreTheMoves}
-use Rattle.tail_states.specs.Inside.{AreFound, Grows, AddsMove, AddsMoves, AreMovesOver, AreNextBlocks, AreFirstMoves, AreMovesAt}
+use Rattle.tail_states.specs.Listed.{LeadsTo, IsListedMove, HasStep, AreMovesFrom, AreThePlaces, AreTheMoves, AreSomePlaces, HaveWantedMoves, Interns, IsWanted}
+use Rattle.tail_states.specs.Inside.{AreFound, Grows, AddsMove, AddsMoves, AreMovesOver, AreNextBlocks, AreFirstMoves, AreWantedAmong, IsAnyPlace}
 use Rattle.tail_states.proofs.Numbers.{get_before, contains_at}
 
 pub grows_twice : (a b c : List Place) → Grows a b → Grows b c → Grows a c
@@ -133,34 +134,34 @@ pub has_number : {X : Type 0} (xs : List X) (x : X) → Contains xs x → (numbe
 has_number xs x (k, within, is) = (k, within, slice_get-get_or xs k x within ∙ ap Some is)
 
 module _ (net : Network) (request : Request) where
-  pub firsts_none : (members : List Place) → AreFirstMoves net request members []
-  firsts_none members = record { count = omega arith; moves_are = λ number place own is got. absurd (omega (arith, slice_get_within [] number own got)) }
+  pub firsts_none : (IsListed : Place → Type 0) (members : List Place) → AreFirstMoves net request IsListed members []
+  firsts_none IsListed members = record { count = omega arith; moves_are = λ number place own listed is got. absurd (omega (arith, slice_get_within [] number own got)) }
 
   -- the moves from one place more
-  pub firsts_more : (old new : List Place) (moves : List (List Move)) (place : Place) (own : List Move) → AreFirstMoves net request old moves → slice_get old (length moves) ≡ Some place → Grows old new
-      → AreMovesFrom net request new place own → AreFirstMoves net request new (moves ++ own ∷ [])
-  firsts_more old new moves place own firsts here grows from = record {
+  pub firsts_more : (IsListed : Place → Type 0) (old new : List Place) (moves : List (List Move)) (place : Place) (own : List Move) → AreFirstMoves net request IsListed old moves → slice_get old (length moves) ≡ Some place → Grows old new
+      → (IsListed place → AreMovesFrom net request new place own) → AreFirstMoves net request IsListed new (moves ++ own ∷ [])
+  firsts_more IsListed old new moves place own firsts here grows from = record {
     count = omega (arith, slice_get_within old (length moves) place here, length-append moves (own ∷ []), ap length grows.1 ∙ length-append old grows.0);
-    moves_are = λ number other its is got. elim (get_push moves own number its got) [
+    moves_are = λ number other its listed is got. elim (get_push moves own number its got) [
       | inl before ↦
           let within = slice_get_within moves number its before in
           let was = sym (get_same old grows.0 number (omega (arith, within, firsts.count))) ∙ (ap (λ l. slice_get l number) (sym grows.1) ∙ is) in
-          moves_still net request other old new grows its (firsts.moves_are number other its was before)
+          moves_still net request other old new grows its (firsts.moves_are number other its listed was before)
       | inr last ↦
           let there : slice_get new (length moves) ≡ Some place = subst (λ l. slice_get l (length moves) ≡ Some place) (sym grows.1) (get_before old grows.0 (length moves) place here) in
           let same : place ≡ other = same_some (sym there ∙ (ap (slice_get new) (sym last.0) ∙ is)) in
-          subst (λ p. AreMovesFrom net request new p its) same (subst (AreMovesFrom net request new place) (sym last.1) from)
+          subst (λ p. AreMovesFrom net request new p its) same (subst (AreMovesFrom net request new place) (sym last.1) (from (subst IsListed (sym same) listed)))
     ];
   }
 
-  pub firsts_next : (old new : List Place) (moves : List (List Move)) (own : List Move) (number : ℕ) → AreFirstMoves net request old moves → number ≡ length moves → number < length old → Grows old new
-      → AreMovesAt net request old number new own → AreFirstMoves net request new (moves ++ own ∷ [])
-  firsts_next old new moves own number firsts is within grows from =
+  pub firsts_next : (IsListed : Place → Type 0) (old new : List Place) (moves : List (List Move)) (own : List Move) (number : ℕ) → AreFirstMoves net request IsListed old moves → number ≡ length moves → number < length old → Grows old new
+      → ((place : Place) → IsListed place → slice_get old number ≡ Some place → AreMovesFrom net request new place own) → AreFirstMoves net request IsListed new (moves ++ own ∷ [])
+  firsts_next IsListed old new moves own number firsts is within grows from =
       let at : slice_get old number ≡ Some (get_or old number start_place) = slice_get-get_or old number start_place within in
-      firsts_more old new moves (get_or old number start_place) own firsts (ap (slice_get old) (sym is) ∙ at) grows (from (get_or old number start_place) at)
+      firsts_more IsListed old new moves (get_or old number start_place) own firsts (ap (slice_get old) (sym is) ∙ at) grows (λ listed. from (get_or old number start_place) listed at)
 
   module _ (members : List Place) (starts : List Move) (moves : List (List Move)) (from_start : AreMovesFrom net request members start_place starts)
-      (firsts : AreFirstMoves net request members moves) (all : length members ≤ length moves) where
+      (firsts : AreFirstMoves net request IsAnyPlace members moves) (all : length members ≤ length moves) where
     leads_in : (place : Place) (own : List Move) (step : Step) → AreMovesFrom net request members place own → IsMove net request place step → ¬ IsEnd request place step → Contains members (place_after net request.train place step)
     leads_in place own step from move no_end =
         let has = from.whole step move in
@@ -177,10 +178,31 @@ module _ (net : Network) (request : Request) where
         let at = has_number members before (in_members before among) in
         let own = get_or moves at.0 [] in
         let got : slice_get moves at.0 ≡ Some (get_or moves at.0 []) = slice_get-get_or moves at.0 [] (omega (arith, at.1, all)) in
-        leads_in before own step (firsts.moves_are at.0 before own at.2 got) move no_end
+        leads_in before own step (firsts.moves_are at.0 before own tt at.2 got) move no_end
 
     pub the_places : AreFound net request members → AreThePlaces net request members
     the_places found = record { sound = found.sound; whole = in_members; distinct = found.distinct }
 
     pub the_moves : AreTheMoves net request (record { members = members; starts = starts; moves = moves })
-    the_moves = record { starts = from_start; count = omega (arith, all, firsts.count); moves = λ number place own is got. firsts.moves_are number place own is got }
+    the_moves = record { starts = from_start; count = omega (arith, all, firsts.count); moves = λ number place own is got. firsts.moves_are number place own tt is got }
+
+-- what is listed of places that are wanted
+module _ (net : Network) (request : Request) where
+  pub some_places : (members : List Place) → AreFound net request members → AreSomePlaces net request members
+  some_places members found = record { sound = found.sound; distinct = found.distinct }
+
+  among_wanted : (wanted : List Member) (places : List Place) → AreWantedAmong wanted places → (place : Place) → IsWanted wanted place → Contains places place
+  among_wanted wanted places all place (k, member, within, is, at) = subst (Contains places) (ap (λ (m : Member). m.place) is ∙ at) (all k member within)
+
+  pub wanted_moves : (wanted : List Member) (places members : List Place) (starts : List Move) (moves : List (List Move)) → AreWantedAmong wanted places → AreMovesFrom net request members start_place starts
+      → AreFirstMoves net request (Contains places) members moves → length members ≤ length moves → HaveWantedMoves net request wanted (record { members = members; starts = starts; moves = moves })
+  wanted_moves wanted places members starts moves among from_start firsts all = record {
+    starts = from_start;
+    count = omega (arith, all, firsts.count);
+    moves = λ number place own is at got. firsts.moves_are number place own (among_wanted wanted places among place is) at got;
+  }
+
+-- a place stays among those that are interned
+pub interned_still : (old new : List Place) (more place : Place) → Interns old new more → Contains old place → Contains new place
+interned_still old new more place (inl same) has = subst (λ l. Contains l place) (sym same) has
+interned_still old new more place (inr added) has = subst (λ l. Contains l place) (sym added) (Contains-append_left old (more ∷ []) place has)

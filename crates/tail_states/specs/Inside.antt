@@ -11,6 +11,7 @@ use Rattle.stair_pieces.specs.declared.places.Step.{Step}
 use Rattle.stair_pieces.specs.Places.{start_place}
 use Rattle.stair_pieces.specs.Steps.{IsTailIn}
 use Rattle.stair_pieces.specs.Moves.{Reaches, IsMove, IsPlace}
+use Rattle.tail_states.specs.declared.certificates.Member.{Member}
 use Rattle.tail_states.specs.declared.moves.Move.{Move}
 use Rattle.tail_states.specs.Listed.{HasNoneTwice, IsListedMove, HasStep, AreMovesFrom}
 
@@ -64,15 +65,30 @@ pub record AreMovesOver (net : Network) (request : Request) (members : List Plac
   pub whole : (step : Step) → IsMove net request place step → Contains blocks step.block
       → HasStep moves step
 
--- the moves from the first places, so many
-pub record AreFirstMoves (net : Network) (request : Request) (members : List Place)
-    (moves : List (List Move)) : Type 0 where
+-- of the first places, so many, the moves from those of which moves are listed
+pub record AreFirstMoves (net : Network) (request : Request) (IsListed : Place → Type 0)
+    (members : List Place) (moves : List (List Move)) : Type 0 where
   pub count : length moves ≤ length members
-  pub moves_are : (number : ℕ) (place : Place) (own : List Move)
+  pub moves_are : (number : ℕ) (place : Place) (own : List Move) → IsListed place
       → slice_get members number ≡ Some place → slice_get moves number ≡ Some own
       → AreMovesFrom net request members place own
+
+-- each place
+abbrev pub IsAnyPlace : Place → Type 0
+IsAnyPlace place = Unit {0}
 
 -- the moves from the place that has this number among the old places
 abbrev pub AreMovesAt : Network → Request → List Place → ℕ → List Place → List Move → Type 0
 AreMovesAt net request old number new moves =
     (place : Place) → slice_get old number ≡ Some place → AreMovesFrom net request new place moves
+
+-- the same where it is wanted
+abbrev pub AreMovesIfWanted : Network → Request → List Place → List Place → ℕ → List Place
+    → List Move → Type 0
+AreMovesIfWanted net request wanted old number new moves =
+    (place : Place) → Contains wanted place → slice_get old number ≡ Some place
+    → AreMovesFrom net request new place moves
+
+-- the members are at these places
+abbrev pub AreWantedAmong : List Member → List Place → Type 0
+AreWantedAmong wanted places = All (λ member. Contains places member.place) wanted

@@ -1,6 +1,6 @@
 -- The places of a request by number, with the moves from each.
 use Rattle.std.specs.Prelude.{◌≡◌, ◌≢◌, ◌⊎◌, ℕ, ◌+◌, ◌<◌, List, [], ◌∷◌, ◌++◌, length, All}
-use Rattle.std.specs.Prelude.{AllPairs, Contains, Some, slice_get}
+use Rattle.std.specs.Prelude.{AllPairs, Any, Contains, Some, slice_get}
 use Rattle.rail_types.specs.declared.tracks.Network.{Network}
 use Rattle.rail_types.specs.declared.trains.Request.{Request}
 use Rattle.rail_types.specs.declared.limits.TheConstants.{MAX_PLACES}
@@ -8,6 +8,7 @@ use Rattle.stair_pieces.specs.declared.places.Place.{Place}
 use Rattle.stair_pieces.specs.declared.places.Step.{Step}
 use Rattle.stair_pieces.specs.Places.{start_place, place_after}
 use Rattle.stair_pieces.specs.Moves.{IsMove, IsEnd, IsPlace}
+use Rattle.tail_states.specs.declared.certificates.Member.{Member}
 use Rattle.tail_states.specs.declared.moves.Move.{Move}
 use Rattle.tail_states.specs.declared.moves.Next.{Next}
 use Rattle.tail_states.specs.declared.moves.Next.TheVariants.{End, At}
@@ -59,6 +60,24 @@ pub record AreTheMoves (net : Network) (request : Request) (listed : Listed) : T
   pub starts : AreMovesFrom net request listed.members start_place listed.starts
   pub count : length listed.moves ≡ length listed.members
   pub moves : (number : ℕ) (place : Place) (moves : List Move)
+      → slice_get listed.members number ≡ Some place → slice_get listed.moves number ≡ Some moves
+      → AreMovesFrom net request listed.members place moves
+
+-- a member is at the place
+abbrev pub IsWanted : List Member → Place → Type 0
+IsWanted wanted place = Any (λ member. member.place ≡ place) wanted
+
+-- places of the request, each once; there may be others
+pub record AreSomePlaces (net : Network) (request : Request) (members : List Place) : Type 0 where
+  pub sound : All (IsPlace net request) members
+  pub distinct : HasNoneTwice members
+
+-- the moves from the start place, and those from each listed place that is wanted at its number
+pub record HaveWantedMoves (net : Network) (request : Request) (wanted : List Member)
+    (listed : Listed) : Type 0 where
+  pub starts : AreMovesFrom net request listed.members start_place listed.starts
+  pub count : length listed.moves ≡ length listed.members
+  pub moves : (number : ℕ) (place : Place) (moves : List Move) → IsWanted wanted place
       → slice_get listed.members number ≡ Some place → slice_get listed.moves number ≡ Some moves
       → AreMovesFrom net request listed.members place moves
 

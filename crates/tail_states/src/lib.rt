@@ -10,6 +10,7 @@ mod listed_spots;
 mod listings;
 mod moves;
 mod searches;
+mod wanted;
 mod ways;
 
 pub use adjacency::Followers;
@@ -23,4 +24,5 @@ pub use listed_spots::{MAX_SPOTS, Spots, list_spots};
 pub use listings::Places;
 pub use moves::{Move, Next};
 pub use searches::{places, stop_ahead};
+pub use wanted::places_for;
 pub use ways::Way;

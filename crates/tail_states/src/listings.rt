@@ -43,14 +43,10 @@ impl Places {
     }
 
     /// Whether this is one of the places. It takes no memory.
-    #[tactic(auto, using(crate::proofs::Numbers::contains_at))]
     pub fn holds(&self, place: &Place) -> bool
         ensures { IsTrue result ↔ Contains self.now.members place.now }
     {
-        match self.members.find(place) {
-            Some(_) => true,
-            None => false,
-        }
+        self.members.holds(place)
     }
 
     /// The number of a place, None where it is none of them.

@@ -38,6 +38,7 @@ ghost use Rattle.tail_states.specs.Inside.{
   AreMovesAt,
   AreNextBlocks,
   Grows,
+  IsAnyPlace,
   IsPlaceFrom,
 };
 
@@ -199,8 +200,8 @@ fn add_moves(
     Ok(())
 }
 
-// The moves of the request from a place onto the blocks that its train may enter.
-fn moves_onto(
+/// The moves of the request from a place onto the blocks that its train may enter.
+pub(crate) fn moves_onto(
     alloc: Global,
     net: &Network,
     request: &Request,
@@ -225,8 +226,12 @@ fn moves_onto(
     Ok(moves)
 }
 
-// The blocks that serve the origin.
-fn first_blocks<'a>(net: &Network, request: &Request, followers: &'a Followers) -> &'a [u32]
+/// The blocks that serve the origin.
+pub(crate) fn first_blocks<'a>(
+    net: &Network,
+    request: &Request,
+    followers: &'a Followers,
+) -> &'a [u32]
     requires asked { IsAsked net.now request.now }
     requires followers { AreFollowers net.now followers.now }
     ensures { AreNextBlocks net.now request.now [] result.now }
@@ -252,8 +257,8 @@ fn next_blocks<'a>(
     followers.beginning_at(head.to_point)
 }
 
-// The moves from the place of a number.
-fn moves_of(
+/// The moves from the place of a number.
+pub(crate) fn moves_of(
     alloc: Global,
     net: &Network,
     followers: &Followers,
@@ -289,7 +294,7 @@ fn moves_of_all(
     requires followers { AreFollowers net.now followers.now }
     requires found { AreFound net.now request.now members.old }
     ensures moves { IfOk result (λ moves.
-        AreFirstMoves net.now request.now members.new moves.items) }
+        AreFirstMoves net.now request.now IsAnyPlace members.new moves.items) }
     ensures all { IfOk result (λ moves. length members.new ≤ length moves.items) }
     ensures found { OnOk result (AreFound net.now request.now members.new) }
     ensures grown { OnOk result (Grows members.old members.new) }

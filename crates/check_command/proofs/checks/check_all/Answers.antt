@@ -1,4 +1,6 @@
-use Rattle.std.proofs.Common.{◌∙◌, drop, arith}
+use Rattle.std.proofs.Common.{◌∙◌, drop, arith, subst}
+use Rattle.rail_types.specs.Timetables.{Timetable}
+use Rattle.check_command.specs.Counts.{AreCounted}
 use Rattle.check_command.specs.Replays.{entries_of}
 use Rattle.check_command.proofs.Counting.{good_more, proof_within}
 use Rattle.check_command.proofs.Judgement.{begins_same}
@@ -22,6 +24,7 @@ loop-at-preserved c =
       timetable = c.in-Ok.ensures.timetable ∙ c.loop-at.invariant.timetable;
       all = c.in-Ok.ensures.all ∙ c.loop-at.invariant.all;
       up = c.in-Ok.ensures.up;
+      counts = subst (λ (t : Timetable). AreCounted t.net c.check_first.new.counts.kept.items) c.loop-at.invariant.timetable c.in-Ok.ensures.counts;
       within = within.1;
       few = omega (arith, within.0, c.loop-at.invariant.few);
       good = good_more known timetable entries bytes at c.in-Ok.count c.loop-at.position c.loop-at.invariant.within c.loop-at.invariant.good begins;

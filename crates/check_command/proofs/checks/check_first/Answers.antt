@@ -22,7 +22,7 @@ pub returns-in-Good-clause-good : goal.returns-in-Good-clause-good
 returns-in-Good-clause-good c =
     let entries = entries_of c.args.replay.now in
     let timetable = c.args.replay.now.history.timetable in
-    let is = judged_at timetable entries c.go_to.new.replay c.in-Ok.read.0 c.net-2.result.now c.settings-settings.result.now c.in_ok-judge.field-0 c.in_ok-go_to.ensures.timetable c.in_ok-go_to.ensures.all c.in_ok-go_to.ensures.front c.in_ok-go_to.ensures.up c.net-2.ensures.net c.settings-settings.ensures.settings c.in_ok-judge.ensures in
+    let is = judged_at timetable entries c.go_to.new.replay c.in-Ok.read.0 c.net-2.result.now c.settings-settings.result.now c.in_ok-judge.field-0 c.in_ok-go_to.ensures.timetable c.in_ok-go_to.ensures.all c.in_ok-go_to.ensures.front c.in_ok-go_to.ensures.up c.net-2.ensures.net c.settings-settings.ensures.settings c.in_ok-judge.ensures.judged in
     begins_well c.args.known.now timetable entries c.args.text.now c.in-Ok.read.0 c.in-Ok.read.1 c.in-Ok.ensures (omega (arith, c.requires.front, c.if-proof-front.false))
     (subst (λ (judged : Judged). IsJudgedAt timetable entries c.in-Ok.read.0 judged) c.in-Good.is is)
 
@@ -30,7 +30,7 @@ pub returns-in-Wide-clause-refuted : goal.returns-in-Wide-clause-refuted
 returns-in-Wide-clause-refuted c =
     let entries = entries_of c.args.replay.now in
     let timetable = c.args.replay.now.history.timetable in
-    let is = judged_at timetable entries c.go_to.new.replay c.in-Ok.read.0 c.net-2.result.now c.settings-settings.result.now c.in_ok-judge.field-0 c.in_ok-go_to.ensures.timetable c.in_ok-go_to.ensures.all c.in_ok-go_to.ensures.front c.in_ok-go_to.ensures.up c.net-2.ensures.net c.settings-settings.ensures.settings c.in_ok-judge.ensures in
+    let is = judged_at timetable entries c.go_to.new.replay c.in-Ok.read.0 c.net-2.result.now c.settings-settings.result.now c.in_ok-judge.field-0 c.in_ok-go_to.ensures.timetable c.in_ok-go_to.ensures.all c.in_ok-go_to.ensures.front c.in_ok-go_to.ensures.up c.net-2.ensures.net c.settings-settings.ensures.settings c.in_ok-judge.ensures.judged in
     too_wide c.args.known.now timetable entries c.args.text.now c.in-Ok.read.0 c.in-Ok.read.1 c.in-Ok.ensures (omega (arith, c.requires.front, c.if-proof-front.false))
     (subst (λ (judged : Judged). IsJudgedAt timetable entries c.in-Ok.read.0 judged) c.in-Wide.is is)
 
@@ -38,6 +38,6 @@ pub returns-clause-refuted : goal.returns-clause-refuted
 returns-clause-refuted c =
     let entries = entries_of c.args.replay.now in
     let timetable = c.args.replay.now.history.timetable in
-    let is = judged_at timetable entries c.go_to.new.replay c.in-Ok.read.0 c.net-2.result.now c.settings-settings.result.now c.in_ok-judge.field-0 c.in_ok-go_to.ensures.timetable c.in_ok-go_to.ensures.all c.in_ok-go_to.ensures.front c.in_ok-go_to.ensures.up c.net-2.ensures.net c.settings-settings.ensures.settings c.in_ok-judge.ensures in
+    let is = judged_at timetable entries c.go_to.new.replay c.in-Ok.read.0 c.net-2.result.now c.settings-settings.result.now c.in_ok-judge.field-0 c.in_ok-go_to.ensures.timetable c.in_ok-go_to.ensures.all c.in_ok-go_to.ensures.front c.in_ok-go_to.ensures.up c.net-2.ensures.net c.settings-settings.ensures.settings c.in_ok-judge.ensures.judged in
     failing c.args.known.now timetable entries c.args.text.now c.in-Ok.read.0 c.in-Ok.read.1 c.in-Ok.ensures (omega (arith, c.requires.front, c.if-proof-front.false))
     (subst (λ (judged : Judged). IsJudgedAt timetable entries c.in-Ok.read.0 judged) c.in-Fails.is is)

@@ -24,7 +24,7 @@ returns c =
     let place = c.place-place.result.now in
     let window = c.args.label.now.window in
     let law = moves_and_steps c.args.net.now c.args.settings.now c.args.request.now c.args.book.now places labels c.requires.places.distinct c.requires.labels place c.moves-moves.result.now
-    (c.requires.moves.moves c.args.label.now.number place c.moves-moves.result.now c.place-place.ensures c.moves-moves.ensures) c.in_ok-going.going (CanGoOn c.args.net.now c.args.request.now live place window) c.in_ok-going.ensures.goes in
+    (c.requires.here place c.moves-moves.result.now c.place-place.ensures c.moves-moves.ensures) c.in_ok-going.going (CanGoOn c.args.net.now c.args.request.now live place window) c.in_ok-going.ensures.goes in
     subst (λ p. IsTrue c.in_ok-passes.passes ↔ StepsPass c.args.net.now c.args.settings.now c.args.request.now live (members_of places labels) (CanGoOn c.args.net.now c.args.request.now live p window) p)
     (sym (get_or_from_slice_get places c.args.label.now.number place start_place c.place-place.ensures))
     ((λ yes. law.0 (c.in_ok-passes.ensures.0 yes)), (λ steps. c.in_ok-passes.ensures.1 (law.1 steps)))

@@ -6,6 +6,11 @@ use Rattle.refusal_proof.specs.Proofs.{claims_held}
 use Rattle.refusal_proof.specs.Inside.{LabelPasses}
 use Rattle.refusal_proof.proofs.checks.labels_pass.Goals as goal
 
+pub label_passes-requires-clause-here : goal.label_passes-requires-clause-here
+label_passes-requires-clause-here c =
+    let e : Label = record { number = 0; window = record { from = pos 0; to = pos 0 } } in
+    c.requires.moves.moves c.loop-label.label-index e c.loop-label-test.true
+
 pub loop-label-preserved : goal.loop-label-preserved
 loop-label-preserved c =
     let labels = c.args.labels.now in
