@@ -1,6 +1,7 @@
 //! Where a train is at the end of a run, and how it may go on.
 
-ghost use Rattle.std.specs.Prelude.{◌≡◌, ◌≢◌, ◌<◌, ◌≤◌, ◌^◌, [], true, length, drop, IfOk};
+ghost use Rattle.std.specs.Prelude.{◌≡◌, ◌≢◌, ◌<◌, ◌≤◌, ◌^◌, ◌++◌, ◌∷◌, [], true, length, drop};
+ghost use Rattle.std.specs.Prelude.{IfOk};
 ghost use Rattle.std.specs.Cmp.{partial_equiv_from_equiv};
 ghost use Rattle.std.proofs.Common.{ap};
 ghost use Rattle.running_time.specs.Limits.{IsEnterWithinLimits};
@@ -55,6 +56,19 @@ fn first_under(net: &Network, train: &Train, blocks: &[u32]) -> usize
     at
 }
 
+// These blocks without the first ones, so many.
+fn without_first(alloc: Global, blocks: Vec<u32>, count: usize) -> Result<List<u32>, NoMemory>
+    requires { count ≤ length blocks.items }
+    ensures { IfOk result (λ rest. rest ≡ drop count blocks.items) }
+{
+    if count == 0 {
+        return Ok(List::from_vec(blocks));
+    }
+    let (_, rest) = blocks.as_slice().split_at(count);
+    let rest = Vec::from_slice(alloc, rest)?;
+    Ok(List::from_vec(rest))
+}
+
 impl Place {
     /// The place of a train that has not begun its path.
     pub fn start(alloc: Global) -> Place
@@ -105,11 +119,7 @@ impl Place {
             place ≡ place_after net.now train.now self.now step) }
         ensures entered { IfOk result (λ place. IsEnterWithinLimits place.entered) }
     {
-        let mut blocks = self.tail.copy(alloc)?;
-        blocks.push(step.block)?;
-        let blocks = blocks.as_slice();
-        let (_, under) = blocks.split_at(first_under(net, train, blocks));
-        let tail = List::from_vec(Vec::from_slice(alloc, under)?);
+        let tail = self.tail_behind(alloc, net, train, step.block)?;
         let entered = entry(net, train, self);
         let (standing, made) = match step.exit {
             Edge::Still => (true, self.made + 1),
@@ -121,6 +131,28 @@ impl Place {
             standing,
             made,
         })
+    }
+
+    // The blocks under the train where its head is at the end of this one.
+    fn tail_behind(
+        &self,
+        alloc: Global,
+        net: &Network,
+        train: &Train,
+        block: u32,
+    ) -> Result<List<u32>, NoMemory>
+        requires tail { IsTailIn net.now train.now self.now.tail }
+        requires block { block < length net.now.blocks }
+        ensures { IfOk result (λ tail.
+            tail ≡ under_train net.now train.now (self.now.tail ++ block ∷ [])) }
+    {
+        let before = self.tail.as_slice();
+        let mut blocks = Vec::with_capacity(alloc, before.len().saturating_add(1))?;
+        blocks.extend_from_slice(before)?;
+        blocks.push(block)?;
+        let gone = first_under(net, train, blocks.as_slice());
+        let tail = without_first(alloc, blocks, gone)?;
+        Ok(tail)
     }
 
     /// An equal place of its own.
