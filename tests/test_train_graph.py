@@ -5,10 +5,12 @@ Where lines and blocking times must lie is worked out by hand from the examples:
 and ticks. The picture docs/train_graph.svg must be what the tool draws of examples/ now; where it
 ought to change, from the top of the repository
 
-    export stdcm=crates/stdcm/out/stdcm
-    files="--network examples/corridor.json --base examples/corridor_planned.json --journal /tmp/j"
+    export stdcm=crates/stdcm/out/stdcm place=$(mktemp -d)
+    files="--network examples/corridor.json --base examples/corridor_planned.json"
+    files="$files --journal $place/journal"
     $stdcm init $files
-    $stdcm serve $files --trains examples/trains.json --client A=examples/corridor.lines:/tmp/told
+    $stdcm serve $files --trains examples/trains.json \\
+        --client A=examples/corridor.lines:$place/told
     tools/train_graph.py $files --program $stdcm --along West East --width 1000 --height 560 \\
         --out docs/train_graph.svg
 
