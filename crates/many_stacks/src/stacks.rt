@@ -16,7 +16,8 @@ pub(crate) struct Node<T> {
 }
 
 /// Stacks by their numbers. Contracts see the list of them, each with its topmost item behind the
-/// others. A stack takes no room until it has an item; the room of an item is given back with all.
+/// others. An empty stack takes the room of a number; that of items which were taken is given back
+/// with all stacks.
 #[derive(Drop)]
 pub struct Stacks<T: Copy> {
     // Of each stack one more than the number of its topmost item, or 0 where it has none.
@@ -58,6 +59,7 @@ impl<T: Copy> Stacks<T> {
         ensures count { OnOk result (length self.new ≡ max (length self.old) (number + 1)) }
         ensures kept { (one : ℕ) → slice_index_or self.new one []
             ≡ slice_index_or self.old one [] }
+        ensures err { OnErr result (self.new ≡ self.old) }
     {
         if number < self.tops.len() {
             return Ok(());
