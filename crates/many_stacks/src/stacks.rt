@@ -37,13 +37,13 @@ impl<T: Copy> Model for Stacks<T> {
 }
 
 impl<T: Copy> Stacks<T> {
-    /// None yet.
-    pub fn new(alloc: Global) -> Self
+    /// None yet, with room for so many items where there is memory for it.
+    pub fn with_room(alloc: Global, items: usize) -> Self
         ensures { result ≡ [] }
     {
         Stacks {
             tops: Vec::new(alloc),
-            nodes: Vec::new(alloc),
+            nodes: empty_with_room(alloc, items),
         }
     }
 
@@ -100,5 +100,15 @@ impl<T: Copy> Stacks<T> {
         let node = self.nodes[top - 1];
         self.tops[number] = node.below;
         Some(node.item)
+    }
+}
+
+// An empty list, with room for so many items where there is memory for it.
+fn empty_with_room<T>(alloc: Global, items: usize) -> Vec<T>
+    ensures { result.items ≡ [] }
+{
+    match Vec::with_capacity(alloc, items) {
+        Ok(list) => list,
+        Err(_) => Vec::new(alloc),
     }
 }
