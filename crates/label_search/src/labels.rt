@@ -25,10 +25,11 @@ use rail_types::{Tick, Window};
 use std::alloc::Global;
 use std::marker::Model;
 
-// How many labels, and how many places that they reach, room is made for at once.
-const FIRST_LABELS: usize = 512;
+// How many labels, and how many places that they reach, room is made for at once: room that is
+// not used is never touched and costs nothing, where a list that grows is copied.
+const FIRST_LABELS: usize = 32_768;
 
-const FIRST_PLACES: usize = 256;
+const FIRST_PLACES: usize = 8_192;
 
 /// Where the ticks of a label came from.
 #[derive(Clone, Copy, Debug)]
@@ -110,8 +111,8 @@ impl Labels {
         let hints = vec![in alloc; 0u32; places]?;
         Ok(Labels {
             alloc,
-            labels: Vec::with_capacity(alloc, FIRST_LABELS)?,
-            seen: Vec::with_capacity(alloc, FIRST_PLACES)?,
+            labels: empty_with_room(alloc, FIRST_LABELS),
+            seen: empty_with_room(alloc, FIRST_PLACES),
             hints,
         })
     }
@@ -202,6 +203,16 @@ impl Labels {
         let at = place_in(self.alloc, &mut self.seen, &mut self.hints, wanted.place)?;
         let seen = &mut self.seen[at];
         extend_at(&mut self.labels, seen, wanted)
+    }
+}
+
+// An empty list, with room for so many items where there is memory for it.
+fn empty_with_room<T>(alloc: Global, items: usize) -> Vec<T>
+    ensures { result.items ≡ [] }
+{
+    match Vec::with_capacity(alloc, items) {
+        Ok(list) => list,
+        Err(_) => Vec::new(alloc),
     }
 }
 
