@@ -30,3 +30,4 @@ pub mod Calling
 pub mod Resting
 pub mod Summing
 pub mod Shutting
+pub mod Outlooks

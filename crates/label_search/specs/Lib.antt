@@ -13,6 +13,7 @@ pub mod Found
 pub mod Sought
 pub mod Queues
 pub mod Pending
+pub mod Outlooks
 pub mod Charts
 pub mod Lent
 pub mod Nearing

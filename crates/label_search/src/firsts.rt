@@ -3,19 +3,22 @@
 //! that could arrive later is looked at.
 
 ghost use Rattle.std.specs.Prelude.{◌≡◌, ◌⊎◌, ℕ, ◌<◌, ◌≤◌, ℤ, pos, ◌+ℤ◌, ◌-ℤ◌, ◌<ℤ◌, ◌≤ℤ◌, false};
-ghost use Rattle.std.specs.Prelude.{true, length, IfOk, IsTrue, OnOk};
+ghost use Rattle.std.specs.Prelude.{true, length, All, IfOk, IsTrue, List as list_of, OnOk};
 ghost use Rattle.std.specs.Int.{int_max};
 ghost use Rattle.free_windows.specs.Free.{Holds};
 ghost use Rattle.rail_types.specs.Limits.{IsNear};
 ghost use Rattle.label_search.specs.Plans.{IsPlan, IsShort};
 ghost use Rattle.label_search.specs.Paths.{move_at as move_of, place_at as place_of};
 ghost use Rattle.label_search.specs.Limits.{IsAhead, IsConsistent, IsLimits};
+ghost use Rattle.label_search.specs.Limits.{ahead_at as place_ahead};
 ghost use Rattle.label_search.specs.Labels.{as_front, label_at};
 ghost use Rattle.label_search.specs.Search.{IsFrontOf, IsSearch, IsStarted};
 ghost use Rattle.label_search.specs.Queues.{Waits};
 ghost use Rattle.label_search.specs.Pending.{AreInHand, AreLongWaitsInHand, AreToBeLeft};
 ghost use Rattle.label_search.specs.Pending.{AreWaitsInHand, IsAdvanced, IsDone, IsMoveInHand};
 ghost use Rattle.label_search.specs.Pending.{IsSettled, IsToBeLeft, stop_at};
+ghost use Rattle.label_search.specs.Outlooks.{IsOutlook};
+ghost use Rattle.label_search.specs.declared.limits.Ahead.{Ahead as ahead_type};
 ghost use Rattle.label_search.specs.Pending.{waited as waited_there};
 ghost use Rattle.label_search.specs.declared.queues.Due.{Due as due_type};
 
@@ -23,10 +26,10 @@ use crate::labels::Front;
 use crate::lent::{FirstMove, LentMove, LentPlace, LentPlan};
 use crate::lent_limits::LentLimits;
 use crate::limits::Ahead;
-use crate::plans::Trip;
+use crate::plans::{Target, Trip};
 use crate::queues::{Due, Queue, Task, Work};
 use crate::searches::{
-    Search, enters, go_on_at_once, is_known, place_at, reach, ready_ticks, start,
+    Search, enters_by, go_on_at_once, is_known, place_at, reach, ready_ticks, start,
     until_the_horizon, wait,
 };
 use free_windows::next_start_near;
@@ -47,6 +50,13 @@ struct Onward {
 struct OnwardMove<'a> {
     onward: Onward,
     step: LentMove<'a>,
+}
+
+// What is ahead of where a move leads, so that it is not looked at twice.
+#[derive(Clone, Copy)]
+struct Outlook {
+    target: Target,
+    ahead: Ahead,
 }
 
 // What the search has when no work is due before its best end.
@@ -89,7 +99,7 @@ fn explore_due(
 {
     let mut queue = Queue::new(alloc);
     let mut hints = vec![in alloc; 0; book.zones() as usize]?;
-    leave_later(plan, book, trip, search, &mut queue, 0)?;
+    leave_later(plan, book, trip, search, &mut queue, 0, &at_the_end())?;
     take_up_all(plan, book, trip, search, &mut queue, hints.as_mut_slice())
 }
 
@@ -277,7 +287,7 @@ fn leave_waits(
 {
     let known = search.labels.len();
     go_on_at_once(plan, book, trip, search, front)?;
-    leave_later(plan, book, trip, search, queue, known)?;
+    leave_later(plan, book, trip, search, queue, known, &at_the_end())?;
     go_on_waiting(plan, book, trip, search, queue, hints, front, label)?;
     Ok(())
 }
@@ -369,7 +379,8 @@ fn go_on(
         part.now.place tick next.now.onward.number) }
 {
     let step = &next.step;
-    let rest = enters(part, plan, &search.limits, step);
+    let ahead = search.limits.ahead_to(step);
+    let rest = enters_by(part, plan, &search.limits, step, &ahead);
     // A look at the labels costs less than one at the book.
     if is_known(search, step, &rest) {
         return Ok(());
@@ -388,11 +399,14 @@ fn go_on(
         step,
         &free,
     )?;
-    leave_later(plan, book, trip, search, queue, known)?;
+    let outlook = Outlook {
+        target: step.target(),
+        ahead,
+    };
+    leave_later(plan, book, trip, search, queue, known, &outlook)?;
     if free.to >= rest.to {
         return Ok(());
     }
-    let ahead = search.limits.ahead_to(step);
     queue.push(&move_behind(&free, step, &ahead, next.onward))
 }
 
@@ -456,11 +470,15 @@ fn go_on_waiting(
         part,
         &ready_ticks(&free, &place, plan),
     )?;
-    leave_later(plan, book, trip, search, queue, known)?;
+    let ahead = search.limits.ahead_at(part.place as usize);
+    let outlook = Outlook {
+        target: Target::Place(part.place),
+        ahead,
+    };
+    leave_later(plan, book, trip, search, queue, known, &outlook)?;
     if free.to >= part.ticks.to {
         return Ok(());
     }
-    let ahead = search.limits.ahead_at(part.place as usize);
     let due = waits_behind(&free, &ahead, label);
     let below = search.limits.below();
     if due.tick >= below.ticks {
@@ -486,7 +504,8 @@ fn waits_behind(free: &Window, ahead: &Ahead, label: usize) -> Due
     }
 }
 
-// All work of the labels from a number on.
+// All work of the labels from a number on, by an outlook, which spares a look where a label is
+// at its target.
 fn leave_later(
     plan: &LentPlan,
     book: &Occupations,
@@ -494,14 +513,16 @@ fn leave_later(
     search: &Search,
     queue: &mut Queue,
     from: usize,
+    outlook: &Outlook,
 ) -> Result<(), NoMemory>
     requires plan { IsPlan plan.now book.now }
     requires search { IsSearch plan.now trip.now book.now search.now }
+    requires outlook { IsOutlook search.now.limits.ahead outlook.now }
     ensures kept { (due : due_type) → Waits queue.old due → Waits queue.new due }
     ensures left { OnOk result (AreToBeLeft plan.now search.now queue.new from) }
 {
     for label in from..search.labels.len() {
-        leave_one(plan, book, trip, search, queue, label)?;
+        leave_one(plan, book, trip, search, queue, label, outlook)?;
     }
     Ok(())
 }
@@ -514,21 +535,46 @@ fn leave_one(
     search: &Search,
     queue: &mut Queue,
     label: usize,
+    outlook: &Outlook,
 ) -> Result<(), NoMemory>
     requires plan { IsPlan plan.now book.now }
     requires search { IsSearch plan.now trip.now book.now search.now }
     requires label { label < length search.now.labels.labels }
+    requires outlook { IsOutlook search.now.limits.ahead outlook.now }
     ensures kept { (due : due_type) → Waits queue.old due → Waits queue.new due }
     ensures left { OnOk result (IsToBeLeft plan.now search.now queue.new label) }
 {
     let front = search.labels.front(label);
-    let ahead = search.limits.ahead_at(front.place as usize);
+    let ahead = ahead_by(outlook, &search.limits, front.place);
     let due = leaving(&front, &waited_at(plan, book, &front), &ahead, label);
     let below = search.limits.below();
     if due.tick >= below.ticks {
         return Ok(());
     }
     queue.push(&due)
+}
+
+// What is ahead of a place: what the outlook says where it is on that place.
+fn ahead_by(outlook: &Outlook, limits: &LentLimits, place: u32) -> Ahead
+    requires limits { All IsAhead limits.now.ahead }
+    requires outlook { IsOutlook limits.now.ahead outlook.now }
+    ensures value { result ≡ place_ahead limits.now.ahead place }
+    ensures ahead { IsAhead result }
+{
+    match outlook.target {
+        Target::Place(target) if target == place => outlook.ahead,
+        _ => limits.ahead_at(place as usize),
+    }
+}
+
+// The outlook on an end, which tells nothing of places.
+fn at_the_end() -> Outlook
+    ensures { (ahead : list_of ahead_type) → IsOutlook ahead result }
+{
+    Outlook {
+        target: Target::End,
+        ahead: Ahead { ticks: 0 },
+    }
 }
 
 fn leaving(front: &Front, waited: &Ahead, ahead: &Ahead, label: usize) -> Due

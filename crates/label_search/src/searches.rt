@@ -14,6 +14,7 @@ ghost use Rattle.label_search.specs.Paths.{place_at as place_of, move_at as move
 ghost use Rattle.label_search.specs.Paths.{leave_of};
 ghost use Rattle.label_search.specs.Closed.{IsFreeMove};
 ghost use Rattle.label_search.specs.Limits.{IsAhead, IsBelow, IsLimits, last_enter};
+ghost use Rattle.label_search.specs.Limits.{ahead_to as next_ahead};
 ghost use Rattle.label_search.specs.Labels.{IsIn, IsReached};
 ghost use Rattle.label_search.specs.Search.{AreWaitsExplored, IsAdmitted, IsBeaten, IsExplored};
 ghost use Rattle.label_search.specs.Search.{IsExploredTo, IsFrontOf, IsFurther, IsMoveExplored};
@@ -489,7 +490,7 @@ pub(crate) fn move_at<'a>(plan: &LentPlan<'a>, place: u32, number: usize) -> Len
 
 // The ticks of a label at which a move can be entered, leave by the
 // horizon and end below the limit.
-pub(crate) fn enters(front: &Front, plan: &LentPlan, limits: &LentLimits, step: &LentMove) -> Window
+fn enters(front: &Front, plan: &LentPlan, limits: &LentLimits, step: &LentMove) -> Window
     requires horizon { IsShort plan.now.horizon }
     requires run { IsShort step.now.run }
     requires limits { IsLimits limits.now }
@@ -498,8 +499,28 @@ pub(crate) fn enters(front: &Front, plan: &LentPlan, limits: &LentLimits, step: 
         step.now.run)) (last_enter limits.now step.now) }
 {
     let ahead = limits.ahead_to(step);
+    enters_by(front, plan, limits, step, &ahead)
+}
+
+// The same by what is ahead of where the move leads.
+pub(crate) fn enters_by(
+    front: &Front,
+    plan: &LentPlan,
+    limits: &LentLimits,
+    step: &LentMove,
+    ahead: &Ahead,
+) -> Window
+    requires horizon { IsShort plan.now.horizon }
+    requires run { IsShort step.now.run }
+    requires below { IsNear limits.now.below }
+    requires ahead { IsAhead ahead.now }
+    requires value { ahead.now ≡ next_ahead limits.now.ahead step.now.target }
+    ensures from { result.from ≡ front.now.ticks.from }
+    ensures to { result.to ≡ int_min (int_min front.now.ticks.to (plan.now.horizon -ℤ
+        step.now.run)) (last_enter limits.now step.now) }
+{
     let within = enters_within(front, plan, step);
-    until_the_limit(&within, limits, step, &ahead)
+    until_the_limit(&within, limits, step, ahead)
 }
 
 fn enters_within(front: &Front, plan: &LentPlan, step: &LentMove) -> Window

@@ -27,3 +27,6 @@ returns-clause-done c tick held enter dwelt short fits =
     inl (subst (IsReached c.go_on_waiting.new.search.labels.labels c.args.front.now.place true) equal
     (reached_more (λ l. Unit {0}) c.go_on_at_once.new.search.labels.labels c.go_on_waiting.new.search.labels.labels c.args.front.now.place true tick c.in_ok-go_on_waiting.ensures.advanced.further.grown
     (c.in_ok-go_on_at_once.ensures.reached (omega (arith, ints, positive.0)) tick held))))
+
+pub leave_later-requires-clause-outlook : goal.leave_later-requires-clause-outlook
+leave_later-requires-clause-outlook c = c.at_the_end.ensures _
