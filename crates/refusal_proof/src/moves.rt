@@ -30,7 +30,7 @@ use no_memory::NoMemory;
 use occupation_book::Occupations;
 use rail_types::{Claim, List, Network, Request, Settings, Span, Tick, Window};
 use running_time::run;
-use stair_pieces::{Place, pieces, pieces_are_claims, standing};
+use stair_pieces::{Place, entry, pieces, pieces_are_claims, standing};
 use std::alloc::Global;
 use tail_states::{Move, Next};
 
@@ -62,11 +62,11 @@ fn taking_of(
     ensures bound { IfOk result (λ taking. taking.ticks <ℤ pos (2 ^ 43)) }
 {
     let train = &request.train;
-    let after = place.after(alloc, net, train, one.step)?;
     let block = &net.blocks.as_slice()[one.step.block as usize];
-    let ticks = run(block, train, settings, after.entered, one.step.exit);
+    let ticks = run(block, train, settings, entry(net, train, place), one.step.exit);
     let mut claims = pieces(alloc, net, settings, train, place, one.step)?;
     if one.next == Next::End {
+        let after = place.after(alloc, net, train, one.step)?;
         let zones = standing(alloc, net, train, &after)?;
         let release = Span {
             from: ticks,

@@ -99,8 +99,8 @@ fn block_of<'a>(net: &'a Network, number: u32) -> &'a Block
     &net.blocks.as_slice()[number as usize]
 }
 
-// How the next block is entered.
-pub(crate) fn entry(net: &Network, train: &Train, place: &Place) -> Enter
+/// How the next block is entered.
+pub fn entry(net: &Network, train: &Train, place: &Place) -> Enter
     requires tail { IsTailIn net.now train.now place.now.tail }
     requires begins { place.now.tail ≡ [] → place.now.standing ≡ true }
     ensures value { result ≡ entry_of net.now train.now place.now }

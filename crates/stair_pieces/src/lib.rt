@@ -5,7 +5,7 @@ mod claims;
 mod laws;
 mod places;
 
-pub use claims::{pieces, standing};
+pub use claims::{entry, pieces, standing};
 pub use laws::{
     a_path_fits_run_by_run, a_path_is_a_list_of_moves, moves_make_a_path, pieces_are_claims,
     steps_are_the_stairway, tails_are_longest,
