@@ -1,6 +1,6 @@
 //! The search for places of a request that goes on from those alone that are wanted.
 
-ghost use Rattle.std.specs.Prelude.{◌≡◌, ◌<◌, ◌≤◌, length, All, Contains, IfErr, IfOk, OnOk};
+ghost use Rattle.std.specs.Prelude.{◌<◌, ◌≤◌, length, Contains, IfErr, IfOk, OnOk};
 ghost use Rattle.rail_types.specs.declared.limits.TheConstants.{MAX_PLACES};
 ghost use Rattle.tail_states.specs.Asked.{IsAsked};
 ghost use Rattle.tail_states.specs.Following.{AreFollowers};
