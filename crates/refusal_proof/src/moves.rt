@@ -28,7 +28,7 @@ use crate::goings::{GoingFrom, push_kept};
 use crate::labels::{Label, covered};
 use no_memory::NoMemory;
 use occupation_book::Occupations;
-use rail_types::{Claim, List, Network, Request, Settings, Span, Tick, Window};
+use rail_types::{Claim, Network, Request, Settings, Span, Tick, Window};
 use running_time::run;
 use stair_pieces::{Place, entry, pieces, pieces_are_claims, standing};
 use std::alloc::Global;
@@ -37,7 +37,7 @@ use tail_states::{Move, Next};
 // What a move takes, its head entering at tick 0, and where it leads.
 #[derive(Debug, Drop)]
 struct Taking {
-    claims: List<Claim>,
+    claims: Vec<Claim>,
     ticks: Tick,
     next: Next,
 }
@@ -54,7 +54,7 @@ fn taking_of(
     requires place { IsPlaceIn net.now settings.now request.now.train place.now }
     requires made { place.now.made < 2 ^ 31 }
     requires step { one.now.step.block < length net.now.blocks }
-    ensures claims { IfOk result (λ taking. taking.claims
+    ensures claims { IfOk result (λ taking. taking.claims.items
         ≡ claims_of net.now settings.now request.now place.now one.now) }
     ensures ticks { IfOk result (λ taking. taking.ticks
         ≡ pos (ticks_of_step net.now settings.now request.now place.now one.now.step)) }
@@ -63,7 +63,8 @@ fn taking_of(
 {
     let train = &request.train;
     let block = &net.blocks.as_slice()[one.step.block as usize];
-    let ticks = run(block, train, settings, entry(net, train, place), one.step.exit);
+    let entered = entry(net, train, place);
+    let ticks = run(block, train, settings, entered, one.step.exit);
     let mut claims = pieces(alloc, net, settings, train, place, one.step)?;
     if one.next == Next::End {
         let after = place.after(alloc, net, train, one.step)?;
@@ -75,7 +76,7 @@ fn taking_of(
         push_kept(&mut claims, zones.as_slice(), &release)?;
     }
     Ok(Taking {
-        claims: List::from_vec(claims),
+        claims,
         ticks,
         next: one.next,
     })
@@ -178,10 +179,9 @@ fn are_free_nowhere(claims: &[Claim], book: &Occupations, window: &Window) -> bo
 }
 
 // Whether a move leads to what is covered, or ends outside a window, whenever it is entered in
-// another and the claims are free.
+// another and its claims are free.
 fn passes(
     taking: &Taking,
-    claims: &[Claim],
     settings: &Settings,
     book: &Occupations,
     arrive: &Window,
@@ -189,14 +189,15 @@ fn passes(
     window: &Window,
 ) -> bool
     requires ticks { (pos 0 ≤ℤ taking.now.ticks) × (taking.now.ticks <ℤ pos (2 ^ 43)) }
-    requires claims { All (IsClaimIn (length book.now)) claims.now }
+    requires claims { All (IsClaimIn (length book.now)) taking.now.claims.items }
     requires settings { IsSettingsWithinLimits settings.now }
     requires arrive { IsTick arrive.now.from × IsTick arrive.now.to }
     requires order { AllPairs ReachesLess labels.now }
     ensures { IsTrue result ↔ PassesIn settings.now.horizon
-        (AreFreeAt (held book.now) claims.now)
+        (AreFreeAt (held book.now) taking.now.claims.items)
         (Leads labels.now arrive.now taking.now.next) taking.now.ticks window.now }
 {
+    let claims = taking.claims.as_slice();
     let enters = within_horizon(window, settings, taking);
     match taking.next {
         Next::At(number) => are_covered(taking, number, claims, book, labels, &enters),
@@ -230,21 +231,11 @@ pub(crate) fn move_passes(
 {
     pieces_are_claims();
     let going = onward.going;
-    let taking = taking_of(alloc, net, settings, request, onward.place, one)?;
+    let mut taking = taking_of(alloc, net, settings, request, onward.place, one)?;
     let arrive = &request.arrive;
-    let own = taking.claims.as_slice();
-    if !passes(&taking, own, settings, book, arrive, labels, &going.second) {
+    if !passes(&taking, settings, book, arrive, labels, &going.second) {
         return Ok(false);
     }
-    let mut all = Vec::from_slice(alloc, own)?;
-    all.extend_from_slice(going.claims.as_slice())?;
-    Ok(passes(
-        &taking,
-        all.as_slice(),
-        settings,
-        book,
-        arrive,
-        labels,
-        &going.first,
-    ))
+    taking.claims.extend_from_slice(going.claims.as_slice())?;
+    Ok(passes(&taking, settings, book, arrive, labels, &going.first))
 }
