@@ -8,7 +8,7 @@ use Rattle.rail_types.specs.declared.paths.Window.{Window}
 use Rattle.rail_types.specs.Occupation.{Clash, HeldClaim}
 use Rattle.rail_types.specs.FirstClash.{IsFirstClash}
 use Rattle.occupation_book.specs.Held.{IsFree}
-use Rattle.refusal_proof.specs.Inside.{AreFreeAt, IsBehind, later, stay}
+use Rattle.refusal_proof.specs.Inside.{IsBehind, later, stay}
 
 only_one : (P : Claim → Type 0) (claim : Claim) → Any P (claim ∷ []) → P claim
 only_one P claim (zero, one, within, is, holds) = subst P (sym is) holds
@@ -45,14 +45,6 @@ behind_other_one kept claim at first window rest zone from to meet begins ends =
           (subst (λ (one : HeldClaim). Clash one.0 (later tick claim)) (sym meet.is)
           (meet.clash.0 ∙ zone, (omega (arith, ints, from, to, left, right, begins, low, high), omega (arith, ints, from, to, left, right, begins, low, high))));
     }
-
--- where one claim is not free, not all are
-pub behind_all : (kept : List HeldClaim) (claims : List Claim) (window rest : Window) (k : ℕ) (claim : Claim) → k < length claims → ((d : Claim) → get_or claims k d ≡ claim) → IsBehind (λ tick. IsFree kept (later tick claim)) window rest → IsBehind (AreFreeAt kept claims) window rest
-behind_all kept claims window rest k claim within here behind = record {
-  from = behind.from;
-  to = behind.to;
-  before = λ tick low high all. behind.before tick low high (subst (λ one. IsFree kept (later tick one)) (here claim) (all k claim within));
-}
 
 -- a zone stays free until the first claim that clashes
 pub stays_until_first : (kept : List HeldClaim) (zone : ℕ) (window : Window) (at : Claim) (first : HeldClaim) (to : ℤ) → at.zone ≡ zone → at.span.from ≡ window.from → at.span.to ≡ window.to → Meets kept at first → to ≡ int_max first.0.span.from window.from

@@ -1,7 +1,8 @@
 //! The ticks of a window at which claims are free, each found behind the
 //! claims that they clash with.
 
-ghost use Rattle.std.specs.Prelude.{◌≡◌, ℤ, ◌+ℤ◌, ◌-ℤ◌, ◌≤ℤ◌, All, IfSome, IsNone, length};
+ghost use Rattle.std.specs.Prelude.{◌≡◌, ◌+◌, ◌<◌, ℤ, ◌+ℤ◌, ◌-ℤ◌, ◌≤ℤ◌, All, IfSome, IsNone};
+ghost use Rattle.std.specs.Prelude.{length};
 ghost use Rattle.rail_types.specs.Limits.{IsNearSpan};
 ghost use Rattle.occupation_book.specs.Held.{IsFree, held};
 ghost use Rattle.stair_pieces.specs.Moves.{IsInside};
@@ -61,21 +62,33 @@ fn behind_clash_of(claim: &Claim, book: &Occupations, window: &Window) -> Option
     Some(behind_other(window, claim, &other))
 }
 
-// The same of all claims.
-fn behind_clash(claims: &[Claim], book: &Occupations, window: &Window) -> Option<Window>
-    requires claims { All (IsClaimIn (length book.now)) claims.now }
+// What is left of a window from the first tick on at which a claim is free; None where there
+// is none.
+fn first_free_of(claim: &Claim, book: &Occupations, window: &Window) -> Option<Window>
+    requires claim { IsClaimIn (length book.now) claim.now }
     requires window { IsNearWindow window.now }
-    requires some { window.now.from ≤ℤ window.now.to }
-    ensures free { IsNone result → AreFreeAt (held book.now) claims.now window.now.from }
-    ensures behind { IfSome result
-        (IsBehind (AreFreeAt (held book.now) claims.now) window.now) }
+    ensures found { IfSome result
+        (IsFromFirst (λ tick. IsFree (held book.now) (later tick claim.now)) window.now) }
+    ensures none { IsNone result → (tick : ℤ) → IsInside window.now tick
+        → ¬ IsFree (held book.now) (later tick claim.now) }
 {
-    for claim in claims {
-        if let Some(rest) = behind_clash_of(claim, book, window) {
+    let mut rest = *window;
+    while rest.from <= rest.to {
+        let Some(behind) = behind_clash_of(claim, book, &rest) else {
             return Some(rest);
-        }
+        };
+        rest = behind;
     }
     None
+}
+
+// The place behind one of so many, which is the first one behind the last.
+fn next_place(at: usize, count: usize) -> usize
+    requires { at < count }
+    ensures on { at + 1 < count → result ≡ at + 1 }
+    ensures round { at + 1 ≡ count → result ≡ 0 }
+{
+    if at + 1 < count { at + 1 } else { 0 }
 }
 
 /// What is left of a window from the first tick on at which all claims, that stand here for tick 0,
@@ -88,12 +101,23 @@ pub(crate) fn first_free(claims: &[Claim], book: &Occupations, window: &Window) 
     ensures none { IsNone result → (tick : ℤ) → IsInside window.now tick
         → ¬ AreFreeAt (held book.now) claims.now tick }
 {
-    let mut rest = *window;
-    while rest.from <= rest.to {
-        let Some(behind) = behind_clash(claims, book, &rest) else {
-            return Some(rest);
-        };
-        rest = behind;
+    if window.from > window.to {
+        return None;
     }
-    None
+    // The `known` claims in a row that stand before `at`, where the first claim follows the last,
+    // are all free at the first tick of `rest`. At no tick before it are all claims free.
+    let mut rest = *window;
+    let mut known = 0;
+    let mut at = 0;
+    while known < claims.len() {
+        let next = first_free_of(&claims[at], book, &rest)?;
+        if next.from > rest.from {
+            known = 1;
+        } else {
+            known += 1;
+        }
+        rest = next;
+        at = next_place(at, claims.len());
+    }
+    Some(rest)
 }
