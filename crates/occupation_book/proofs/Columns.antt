@@ -8,12 +8,12 @@ use Rattle.rail_types.specs.declared.entries.Owner.{Owner}
 use Rattle.rail_types.specs.declared.paths.Claim.{Claim}
 use Rattle.rail_types.specs.Occupation.{HeldClaim}
 use Rattle.occupation_book.specs.declared.zones.Rest.{Rest}
-use Rattle.occupation_book.specs.Columns.{owner_of, row_of, rows_of}
+use Rattle.occupation_book.specs.Columns.{begin_of, owner_of, row_of, rows_of}
 use Rattle.occupation_book.specs.Held.{AreInOrder, is_same_owner}
 
 -- a row that was made of a claim and its owner tells them again
-pub of_claim : (claim : Claim) (owner : Owner) (row : Rest) → row.from ≡ claim.span.from → owner_of row ≡ owner → row_of claim.zone claim.span.to row ≡ (claim, owner)
-of_claim claim owner row is_from is_owner = rw (is_from, is_owner) refl
+pub of_claim : (claim : Claim) (owner : Owner) (row : Rest) → begin_of row ≡ claim.span.from → owner_of row ≡ owner → row_of claim.zone claim.span.to row ≡ (claim, owner)
+of_claim claim owner row is_from is_owner = λ j. (record { zone = claim.zone; span = record { from = is_from j; to = claim.span.to } }, is_owner j)
 
 module _ (number : ℕ) where
   pub length_rows : (ends : List ℤ) (rests : List Rest) → length ends ≡ length rests → length (rows_of number ends rests) ≡ length ends
@@ -72,7 +72,7 @@ module _ (number : ℕ) where
   -- the ends of claims in order are in order
   pub ends_in_order : (zone : ℕ) (ends : List ℤ) (rests : List Rest) → length ends ≡ length rests → AreInOrder zone (rows_of number ends rests) → AllPairs (λ one later. one ≤ℤ later) ends
   ends_in_order zone ends rests level order i j d before within =
-      let rest : Rest = record { from = d; kind = 0; train = 0; entry = 0 } in
+      let rest : Rest = record { written = d; holder = 0 } in
       let other : HeldClaim = row_of number d rest in
       let long = length_rows ends rests level in
       let one : (get_or (rows_of number ends rests) i other).0.span.to ≡ get_or ends i d = ap (λ (held : HeldClaim). held.0.span.to) (row_at ends rests i d rest other level (omega arith)) in
@@ -84,7 +84,7 @@ module _ (number : ℕ) where
   -- what holds of ends holds of the claims that have them
   pub of_ends : (P : ℤ → Type 0) (ends : List ℤ) (rests : List Rest) (low high : ℕ) → length ends ≡ length rests → high ≤ length ends → AllWithin P ends low high → AllWithin (λ one. P one.0.span.to) (rows_of number ends rests) low high
   of_ends P ends rests low high level most holds k other from below =
-      let rest : Rest = record { from = other.0.span.from; kind = 0; train = 0; entry = 0 } in
+      let rest : Rest = record { written = other.0.span.from; holder = 0 } in
       let end : (get_or (rows_of number ends rests) k other).0.span.to ≡ get_or ends k other.0.span.to = ap (λ (held : HeldClaim). held.0.span.to) (row_at ends rests k other.0.span.to rest other level (omega arith)) in
       subst P (sym end) (holds k other.0.span.to from below)
 

@@ -1,19 +1,20 @@
 //! The claims of one zone.
 
 ghost use Rattle.std.specs.Prelude.{◌≡◌, ℕ, ◌+◌, ◌<◌, ◌≤◌, ◌<ℤ◌, ◌≤ℤ◌, [], ◌∷◌, ◌++◌, length, min};
-ghost use Rattle.std.specs.Prelude.{int_le, insert, slice_index_or, vec_capacity, vec_len};
+ghost use Rattle.std.specs.Prelude.{int_le, int_lt, insert, slice_index_or, vec_capacity, vec_len};
 ghost use Rattle.std.specs.Prelude.{AllPairs, IfOk, IfSome, IsNone, OnErr, OnOk, ◌↔◌, IsOk};
 ghost use Rattle.std.specs.List.{AllWithin};
 ghost use Rattle.std.specs.List.Sorted.{IsPermutation};
 ghost use Rattle.rail_types.specs.FirstClash.{IsFirstClash};
+ghost use Rattle.rail_types.specs.declared.limits.TheConstants.{FAR_TICK};
 ghost use Rattle.rail_types.specs.Limits.{IsNearSpan};
 ghost use Rattle.rail_types.specs.Occupation.{HasTicks, HeldClaim};
-ghost use Rattle.occupation_book.specs.Columns.{owner_of, row_of, rows_of};
+ghost use Rattle.occupation_book.specs.Columns.{begin_of as begin, owner_of, row_of, rows_of};
 ghost use Rattle.occupation_book.specs.Held.{AreInOrder, claims_of, claims_of_others};
 ghost use Rattle.occupation_book.specs.Held.{is_same_owner as same_owner, IsFree, IsWithout};
 
 use no_memory::NoMemory;
-use rail_types::{Claim, Owner, Span, Tick};
+use rail_types::{Claim, FAR_TICK, Owner, Span, Tick};
 use std::alloc::Global;
 use std::marker::Model;
 
@@ -31,15 +32,18 @@ pub struct ZoneClaims {
     rest: Vec<Rest>,
 }
 
-// A claim without its zone and its end, in numbers without gaps between them, so that rows move as
-// they lie in memory.
+// By how much later than it begins a claim of a train of the base is written down; so who holds it
+// takes no number more.
+const BASE_LATER: Tick = 1 << 62;
+
+// A claim without its zone and its end, in two numbers, so that few bytes move where another claim
+// comes before it.
 #[derive(Clone, Copy, Debug)]
 pub(crate) struct Rest {
-    from: Tick,
-    // 0 where a train of the base holds the claim, 1 where an entry does.
-    kind: u32,
-    train: u32,
-    entry: u64,
+    // The tick at which the claim begins, later by BASE_LATER where a train of the base holds it.
+    written: Tick,
+    // The number of the train, or of the entry, that holds it.
+    holder: u64,
 }
 
 impl Model for ZoneClaims {
@@ -203,7 +207,7 @@ fn claim_of(zone: u32, end: &Tick, rest: &Rest) -> (Claim, Owner)
     ensures { result ≡ row_of zone end.now rest.now }
 {
     let span = Span {
-        from: rest.from,
+        from: begin_of(rest),
         to: *end,
     };
     (Claim { zone, span }, holder_of(rest))
@@ -211,23 +215,38 @@ fn claim_of(zone: u32, end: &Tick, rest: &Rest) -> (Claim, Owner)
 
 // The row of a claim.
 fn rest_of(claim: &Claim, owner: Owner) -> Rest
-    ensures from { result.from ≡ claim.now.span.from }
+    requires near { IsNearSpan claim.now.span }
+    ensures from { begin result ≡ claim.now.span.from }
     ensures owner { owner_of result ≡ owner }
 {
     let from = claim.span.from;
     match owner {
         Owner::Base(train) => Rest {
-            from,
-            kind: 0,
-            train,
-            entry: 0,
+            written: from + BASE_LATER,
+            holder: u64::from(train),
         },
         Owner::Entry(entry) => Rest {
-            from,
-            kind: 1,
-            train: 0,
-            entry,
+            written: from,
+            holder: entry,
         },
+    }
+}
+
+// Whether a train of the base holds the claim of a row: no claim begins so late.
+fn is_of_base(rest: &Rest) -> bool
+    ensures { result ≡ int_lt FAR_TICK rest.now.written }
+{
+    FAR_TICK < rest.written
+}
+
+// The tick at which the claim of a row begins.
+fn begin_of(rest: &Rest) -> Tick
+    ensures { result ≡ begin rest.now }
+{
+    if is_of_base(rest) {
+        rest.written - BASE_LATER
+    } else {
+        rest.written
     }
 }
 
@@ -235,10 +254,10 @@ fn rest_of(claim: &Claim, owner: Owner) -> Rest
 fn holder_of(rest: &Rest) -> Owner
     ensures { result ≡ owner_of rest.now }
 {
-    if rest.kind == 0 {
-        Owner::Base(rest.train)
+    if is_of_base(rest) {
+        Owner::Base(rest.holder.min(u64::from(u32::MAX)) as u32)
     } else {
-        Owner::Entry(rest.entry)
+        Owner::Entry(rest.holder)
     }
 }
 
