@@ -1,18 +1,17 @@
 -- The steps of the command keep to its opening calls, and only read the journal.
-use Rattle.std.proofs.Common.{◌≡◌, ℕ, List, [], ◌∷◌, Vec, Result, Ok, Err, inl, inr, sym, ap, subst}
-use Rattle.std.proofs.Common.{zero}
+use Rattle.std.proofs.Common.{◌≡◌, ℕ, List, [], ◌∷◌, Vec, Result, Ok, Err, inl, inr, sym, subst}
 use Rattle.std.specs.Global.{Global}
 use Rattle.outside_io.specs.Openings.{source_at, disk_at}
 use Rattle.outside_io.specs.Places.{Place, hidden, kept, lent, empty, Replaces}
 use Rattle.outside_io.specs.declared.disks.Disk.{Ghosts as Disks}
 use Rattle.outside_io.specs.declared.sources.Source.{Ghosts as Sources}
-use Rattle.command_reports.specs.Scenes.{ChangesOnlySource, Scene}
+use Rattle.command_reports.specs.Scenes.{Scene}
 use Rattle.proof_texts.specs.lines.Names.{Names}
 use Rattle.path_recover.specs.history.Legal.{Register}
 use Rattle.path_recover.specs.Failing.{IsOnlyRead}
-use Rattle.command_reports.specs.Works.{Keeps, KeepsTo}
+use Rattle.command_reports.specs.Works.{KeepsTo}
 use Rattle.command_reports.specs.declared.refusals.Refusal.{Refusal}
-use Rattle.command_reports.proofs.Steps.{alone, follows_keep, silent}
+use Rattle.command_reports.proofs.Steps.{follows_keep}
 use Rattle.command_files.specs.Files.{BaseStep, HasBaseFault, HasNetworkFault, HasTrainFault}
 use Rattle.command_files.specs.Files.{IsBaseFile, IsNetworkFile, IsTrainFile, NetworkStep}
 use Rattle.command_files.specs.Files.{TrainStep}
