@@ -4,6 +4,7 @@ use Rattle.rail_types.specs.declared.tracks.Network.{Network}
 use Rattle.rail_types.specs.declared.trains.Train.{Train}
 use Rattle.refusal_proof.specs.tails.Spots.{AreSpots, Spotted}
 use Rattle.refusal_proof.specs.tails.declared.listed_spots.TheConstants.{MAX_SPOTS}
+use Rattle.check_command.specs.declared.counts.TheConstants.{MAX_COUNTS}
 use Rattle.check_command.specs.declared.counts.TrainCount.{TrainCount}
 
 -- the train has so many spots
@@ -17,8 +18,10 @@ pub record HasSpots (net : Network) (train : Train) (count : ℕ) : Type 0 where
 abbrev pub IsCounted : Network → TrainCount → Type 0
 IsCounted net one = IfSome one.spots (HasSpots net one.train)
 
-abbrev pub AreCounted : Network → List TrainCount → Type 0
-AreCounted net counts = All (IsCounted net) counts
+-- each train has so many spots as are told, and no more trains are kept than may be
+pub record AreCounted (net : Network) (counts : List TrainCount) : Type 0 where
+  pub counted : All (IsCounted net) counts
+  pub few : length counts ≤ MAX_COUNTS
 
 -- no more than one is new among these
 abbrev pub IsAddedAlone : TrainCount → List TrainCount → List TrainCount → Type 0

@@ -1,12 +1,13 @@
 //! How many spots trains have, which bounds how many places their requests have.
 
-ghost use Rattle.std.specs.Prelude.{◌≡◌, [], None, All, Contains, IfSome, IsTrue};
+ghost use Rattle.std.specs.Prelude.{◌≡◌, ◌<◌, ◌≤◌, [], None, length, All, Contains, IfSome, IsTrue};
 ghost use Rattle.rail_types.specs.declared.limits.TheConstants.{MAX_PLACES};
 ghost use Rattle.rail_types.specs.Flaws.{first_flaw};
 ghost use Rattle.rail_types.specs.Limits.{IsRequestWithinLimits};
 ghost use Rattle.refusal_proof.specs.tails.Following.{AreFollowers};
 ghost use Rattle.refusal_proof.specs.tails.Listed.{HasMoreThan};
 ghost use Rattle.refusal_proof.specs.tails.Spots.{MayRun};
+ghost use Rattle.check_command.specs.declared.counts.TheConstants.{MAX_COUNTS};
 ghost use Rattle.check_command.specs.Counts.{AreCounted, HasSpots, IsAddedAlone};
 
 use rail_types::{MAX_PLACES, Network, Request, Train};
@@ -60,7 +61,8 @@ fn kept_of<'a>(counts: &'a [TrainCount], train: &Train) -> Option<&'a TrainCount
 
 // Lets the first one go where no more are kept.
 fn make_room(counts: &mut Vec<TrainCount>)
-    ensures { All (Contains counts.old.items) counts.new.items }
+    ensures among { All (Contains counts.old.items) counts.new.items }
+    ensures room { length counts.old.items ≤ MAX_COUNTS → length counts.new.items < MAX_COUNTS }
 {
     if counts.len() >= MAX_COUNTS {
         counts.remove(0);
@@ -79,7 +81,9 @@ impl SpotCounts {
 
     // Keeps one behind the others, where there is memory for it.
     fn keep(&mut self, one: TrainCount)
-        ensures { IsAddedAlone one self.old.kept.items self.new.kept.items }
+        requires few { length self.old.kept.items ≤ MAX_COUNTS }
+        ensures alone { IsAddedAlone one self.old.kept.items self.new.kept.items }
+        ensures few { length self.new.kept.items ≤ MAX_COUNTS }
     {
         make_room(&mut self.kept);
         let _kept = self.kept.push(one);
