@@ -5,6 +5,7 @@ ghost use Rattle.grant_log.specs.Legal.{IsDeedOn};
 ghost use Rattle.rail_types.specs.Limits.{IsEntryWithinLimits, IsSettingsWithinLimits};
 ghost use Rattle.rail_types.specs.Timetables.{IsTimetable, timetable_of};
 
+use crate::made::block;
 use entry_codec::read;
 use no_memory::NoMemory;
 use outside_io::MemDisk;
@@ -12,7 +13,7 @@ use path_commit::{Book, Sent};
 use path_recover::journal_reading::{init, is_on};
 use path_recover::open;
 use rail_types::{
-    Base, Block, Cell, List, MAX_HORIZON, MAX_JOURNAL_BYTES, MAX_RELEASE, MAX_SETTING, MAX_TICK_S,
+    Base, Block, List, MAX_HORIZON, MAX_JOURNAL_BYTES, MAX_RELEASE, MAX_SETTING, MAX_TICK_S,
     MIN_JOURNAL_BYTES, Network, Settings,
 };
 use std::alloc::Global;
@@ -21,37 +22,31 @@ const NETWORK: [u8; 32] = [7; 32];
 
 const BASE: [u8; 32] = [9; 32];
 
-fn block(alloc: Global, number: u32, sight_m: u32, ends: (u32, u32)) -> Result<Block, NoMemory> {
-    let mut cells = List::new(alloc);
-    cells.push(Cell {
-        zone: number,
-        release_m: 2000,
-    })?;
-    let mut serves = List::new(alloc);
-    serves.push(number)?;
-    Ok(Block {
-        length_m: 2000,
-        speed: 200_000,
-        sight_m,
-        cells,
-        from_point: ends.0,
-        to_point: ends.1,
-        serves,
-    })
-}
-
 // Three blocks of 2000 m one behind the other, each with one zone and one operational point.
 fn line_of_three(alloc: Global) -> Result<Network, NoMemory> {
     let mut blocks = List::new(alloc);
-    blocks.push(block(alloc, 0, 0, (4, 0))?)?;
-    blocks.push(block(alloc, 1, 400, (0, 2))?)?;
-    blocks.push(block(alloc, 2, 400, (2, 6))?)?;
+    push_block(alloc, &mut blocks, 0, 0, (4, 0))?;
+    push_block(alloc, &mut blocks, 1, 400, (0, 2))?;
+    push_block(alloc, &mut blocks, 2, 400, (2, 6))?;
     Ok(Network {
         zones: 3,
         points: 8,
         stops: 3,
         blocks,
     })
+}
+
+// Puts a block of a number behind others.
+fn push_block(
+    alloc: Global,
+    blocks: &mut List<Block>,
+    number: u32,
+    sight_m: u32,
+    ends: (u32, u32),
+) -> Result<(), NoMemory> {
+    let sizes = [2000, 200_000, sight_m];
+    blocks.push(block(alloc, sizes, &[(number, 2000)], ends, &[number])?)?;
+    Ok(())
 }
 
 fn no_trains(alloc: Global) -> Base {
@@ -104,16 +99,28 @@ fn files(alloc: Global) -> Option<(Network, Base)>
 
 /// The book of a journal that is begun on a disk in memory with so much room.
 pub fn empty_book(alloc: Global, room: usize) -> Option<Book<MemDisk>> {
+    match begun_disk(alloc, room) {
+        Some(disk) => opened(alloc, disk),
+        None => None,
+    }
+}
+
+// A disk in memory with so much room, on which a journal is begun.
+fn begun_disk(alloc: Global, room: usize) -> Option<MemDisk> {
     let Ok(mut disk) = MemDisk::new(alloc, Vec::new(alloc), room, Vec::new(alloc)) else {
         return None;
     };
-    let Ok(()) = init(&mut disk, &NETWORK, &BASE) else {
+    if init(&mut disk, &NETWORK, &BASE).is_err() {
         return None;
-    };
-    let Some((net, base)) = files(alloc) else {
-        return None;
-    };
-    open(alloc, disk, &net, base, &NETWORK, &BASE).ok()
+    }
+    Some(disk)
+}
+
+fn opened(alloc: Global, disk: MemDisk) -> Option<Book<MemDisk>> {
+    match files(alloc) {
+        Some((net, base)) => open(alloc, disk, &net, base, &NETWORK, &BASE).ok(),
+        None => None,
+    }
 }
 
 /// The entry of a body, if it is on a network.

@@ -17,7 +17,7 @@ use tail_states::{Closed, Places, PlacesFault};
 
 /// What the search answers: its path, the pairs of place and tick that its members hold, and the
 /// last leave of the path that is found without members.
-#[derive(Debug, Drop)]
+#[derive(Drop)]
 pub struct Got {
     pub path: Option<Path>,
     pub pairs: u64,
@@ -25,7 +25,7 @@ pub struct Got {
 }
 
 /// What comes of a comparison.
-#[derive(Debug, Drop)]
+#[derive(Drop)]
 pub enum Compared {
     /// The network has a flaw, or the request too many places.
     NotAsked,
@@ -114,14 +114,42 @@ pub fn compare(
         return Ok(Compared::NotAsked);
     }
     let book = book_of(alloc, net, claims)?;
-    let taken = taken(alloc, &book)?;
-    let Some(want) = expect(alloc, net, settings, request, taken.as_slice(), 300)? else {
-        return Ok(Compared::NotAsked);
-    };
+    match expected(alloc, net, settings, &book, request)? {
+        Some(want) => compare_with(alloc, net, settings, &book, request, want),
+        None => Ok(Compared::NotAsked),
+    }
+}
+
+// What the search should answer beside the claims of a book.
+fn expected(
+    alloc: Global,
+    net: &Network,
+    settings: &Settings,
+    book: &Occupations,
+    request: &Request,
+) -> Result<Option<Expected>, NoMemory> {
+    let taken = taken(alloc, book)?;
+    expect(alloc, net, settings, request, taken.as_slice(), 300)
+}
+
+// Asks the search, whose double is asked.
+fn compare_with(
+    alloc: Global,
+    net: &Network,
+    settings: &Settings,
+    book: &Occupations,
+    request: &Request,
+    want: Expected,
+) -> Result<Compared, NoMemory>
+    requires flawless { first_flaw net.now ≡ None }
+    requires settings { IsSettingsWithinLimits settings.now }
+    requires zones { length book.now ≡ net.now.zones }
+    requires request { IsRequestWithinLimits request.now }
+{
     let Ok(listed) = listed(alloc, net, request) else {
         return Ok(Compared::NotAsked);
     };
-    let got = searched(alloc, net, settings, &book, request, &listed)?;
+    let got = searched(alloc, net, settings, book, request, &listed)?;
     if agrees(&got, &want) && listed.count() == want.places {
         Ok(Compared::Same(got))
     } else {
@@ -144,11 +172,26 @@ pub fn labels(
         return Ok(None);
     }
     let book = book_of(alloc, net, &[])?;
-    let Ok(listed) = listed(alloc, net, request) else {
-        return Ok(None);
-    };
-    let count = label_count(alloc, net, settings, &book, request, &listed)?;
-    Ok(Some(count))
+    labels_beside(alloc, net, settings, &book, request)
+}
+
+// How many labels the search keeps beside the claims of a book.
+fn labels_beside(
+    alloc: Global,
+    net: &Network,
+    settings: &Settings,
+    book: &Occupations,
+    request: &Request,
+) -> Result<Option<u64>, NoMemory>
+    requires flawless { first_flaw net.now ≡ None }
+    requires settings { IsSettingsWithinLimits settings.now }
+    requires zones { length book.now ≡ net.now.zones }
+    requires request { IsRequestWithinLimits request.now }
+{
+    match listed(alloc, net, request) {
+        Ok(listed) => Ok(Some(label_count(alloc, net, settings, book, request, &listed)?)),
+        Err(_) => Ok(None),
+    }
 }
 
 /// How many places a request has, or why they are not listed; None where the network has a flaw.

@@ -11,29 +11,38 @@ fn next_number(number: u64) -> u64 {
         .wrapping_add(1_442_695_040_888_963_407)
 }
 
-// The kind, number and line of an entry of client A at this position.
-fn head(alloc: Global, kind: u8, at: u64) -> Result<Vec<u8>, NoMemory> {
-    let mut body = Vec::from_slice(alloc, &[kind])?;
-    body.extend_from_slice(&at.saturating_add(1).to_be_bytes())?;
-    body.extend_from_slice(&((at % 65_536) as u32).to_be_bytes())?;
-    body.extend_from_slice(&[1, 65])?;
+// Puts bytes behind others, one piece after another.
+fn push_all(body: &mut Vec<u8>, pieces: &[&[u8]]) -> Result<(), NoMemory> {
+    for piece in pieces {
+        body.extend_from_slice(piece)?;
+    }
+    Ok(())
+}
+
+// The body of an entry of client A at this position: its kind, number and line, and these pieces.
+fn body(alloc: Global, kind: u8, at: u64, pieces: &[&[u8]]) -> Result<Vec<u8>, NoMemory> {
+    let number = at.saturating_add(1).to_be_bytes();
+    let line = ((at % 65_536) as u32).to_be_bytes();
+    let mut body = Vec::new(alloc);
+    push_all(&mut body, &[&[kind], &number, &line, &[1, 65]])?;
+    push_all(&mut body, pieces)?;
     Ok(body)
 }
 
 // The body of a hold of a zone for some ticks.
 fn hold(alloc: Global, at: u64, zone: u32, from: u64, ticks: u64) -> Result<Vec<u8>, NoMemory> {
-    let mut body = head(alloc, 1, at)?;
-    body.extend_from_slice(&zone.to_be_bytes())?;
-    body.extend_from_slice(&from.to_be_bytes())?;
-    body.extend_from_slice(&from.saturating_add(ticks).to_be_bytes())?;
-    Ok(body)
+    let until = from.saturating_add(ticks).to_be_bytes();
+    body(
+        alloc,
+        1,
+        at,
+        &[&zone.to_be_bytes(), &from.to_be_bytes(), &until],
+    )
 }
 
 // The body of a deed that frees an entry.
 fn freeing(alloc: Global, at: u64, freed: u64) -> Result<Vec<u8>, NoMemory> {
-    let mut body = head(alloc, 4, at)?;
-    body.extend_from_slice(&freed.to_be_bytes())?;
-    Ok(body)
+    body(alloc, 4, at, &[&freed.to_be_bytes()])
 }
 
 // A deed by chance: three of four hold a zone for up to 30 ticks, the fourth frees

@@ -8,7 +8,7 @@ use std::alloc::Global;
 
 /// What the search should answer: the earliest last leave, and how many pairs of
 /// place and tick a train can reach.
-#[derive(Clone, Copy, Debug, PartialEq, Eq)]
+#[derive(Debug, Drop)]
 pub struct Expected {
     pub leave: Option<u32>,
     pub pairs: u64,
@@ -17,7 +17,7 @@ pub struct Expected {
 
 // A place of the train: the blocks under it, the lesser speed of the block before the last of them,
 // 0 where that was entered from stand, whether it stands, and the stops that it made.
-#[derive(Debug, Drop)]
+#[derive(Drop)]
 struct Spot {
     tail: Vec<u32>,
     entered: u32,
@@ -27,7 +27,7 @@ struct Spot {
 
 // A move: the number of the place behind it, none behind an end, its
 // ticks, and its claims at tick 0.
-#[derive(Debug, Drop)]
+#[derive(Drop)]
 struct Going {
     to: Option<usize>,
     run: u32,
@@ -35,7 +35,7 @@ struct Going {
 }
 
 // A zone that is not cleared until the head has gone so many metres more.
-#[derive(Clone, Copy, Debug)]
+#[derive(Clone, Copy)]
 struct Left {
     zone: u32,
     metres: u32,
@@ -223,7 +223,7 @@ fn set_at(net: &Network, train: &Train, settings: &Settings, spot: &Spot) -> i64
 }
 
 // A block that is run through next, and whether the train halts at its end.
-#[derive(Clone, Copy, Debug)]
+#[derive(Clone, Copy)]
 struct Step {
     block: u32,
     halts: bool,
@@ -243,19 +243,79 @@ fn claims_of(
     let Some(block) = net.blocks.get(step.block as usize) else {
         return Ok(claims);
     };
+    claim_own(alloc, net, settings, train, spot, step, block, &mut claims)?;
+    claim_tail(alloc, net, settings, train, spot, step, block, &mut claims)?;
+    Ok(claims)
+}
+
+// Puts the claims of a step on the zones of its own block behind others.
+fn claim_own(
+    alloc: Global,
+    net: &Network,
+    settings: &Settings,
+    train: &Train,
+    spot: &Spot,
+    step: &Step,
+    block: &Block,
+    claims: &mut Vec<Claim>,
+) -> Result<(), NoMemory> {
     let mut own = Vec::new(alloc);
     push_left(&mut own, train, block, 0)?;
     let set = set_at(net, train, settings, spot);
     let entered = speed_from(net, train, spot);
-    for one in own.as_slice() {
-        let until = cleared(block, train, settings, entered, step.halts, one.metres);
-        claims.push(held(one.zone, set, until))?;
+    push_claims(
+        claims,
+        own.as_slice(),
+        set,
+        block,
+        train,
+        settings,
+        entered,
+        step.halts,
+    )
+}
+
+// Puts the claims of a step on the zones that are still under the train behind others.
+fn claim_tail(
+    alloc: Global,
+    net: &Network,
+    settings: &Settings,
+    train: &Train,
+    spot: &Spot,
+    step: &Step,
+    block: &Block,
+    claims: &mut Vec<Claim>,
+) -> Result<(), NoMemory> {
+    let left = uncleared(alloc, net, train, spot.tail.as_slice())?;
+    let entered = speed_from(net, train, spot);
+    push_claims(
+        claims,
+        left.as_slice(),
+        0,
+        block,
+        train,
+        settings,
+        entered,
+        step.halts,
+    )
+}
+
+// Puts a claim from a tick on behind others for each zone that is cleared in a block or behind it.
+fn push_claims(
+    claims: &mut Vec<Claim>,
+    left: &[Left],
+    from: i64,
+    block: &Block,
+    train: &Train,
+    settings: &Settings,
+    entered: u32,
+    halts: bool,
+) -> Result<(), NoMemory> {
+    for one in left {
+        let until = cleared(block, train, settings, entered, halts, one.metres);
+        claims.push(held(one.zone, from, until))?;
     }
-    for one in uncleared(alloc, net, train, spot.tail.as_slice())?.as_slice() {
-        let until = cleared(block, train, settings, entered, step.halts, one.metres);
-        claims.push(held(one.zone, 0, until))?;
-    }
-    Ok(claims)
+    Ok(())
 }
 
 fn held(zone: u32, from: i64, to: u32) -> Claim {
@@ -341,26 +401,33 @@ fn move_by(
     spot: &Spot,
     step: &Step,
 ) -> Result<Going, NoMemory> {
-    let train = &request.train;
-    let run = ticks_of(net, settings, train, spot, step);
-    let mut claims = claims_of(alloc, net, settings, train, spot, step)?;
-    let behind = spot_behind(alloc, net, train, spot, step)?;
-    if !step.halts || spot.made < request.stops.len() {
-        let to = Some(number_of(spots, behind)?);
-        return Ok(Going { to, run, claims });
+    let run = ticks_of(net, settings, &request.train, spot, step);
+    let mut claims = claims_of(alloc, net, settings, &request.train, spot, step)?;
+    let behind = spot_behind(alloc, net, &request.train, spot, step)?;
+    let to = if !step.halts || spot.made < request.stops.len() {
+        Some(number_of(spots, behind)?)
+    } else {
+        let until = run.saturating_add(settings.release);
+        claim_end(alloc, net, &request.train, behind, run, until, &mut claims)?;
+        None
+    };
+    Ok(Going { to, run, claims })
+}
+
+// Puts the claims behind others of the zones under a train that has ended its way.
+fn claim_end(
+    alloc: Global,
+    net: &Network,
+    train: &Train,
+    end: Spot,
+    from: u32,
+    until: u32,
+    claims: &mut Vec<Claim>,
+) -> Result<(), NoMemory> {
+    for one in uncleared(alloc, net, train, end.tail.as_slice())?.as_slice() {
+        claims.push(held(one.zone, i64::from(from), until))?;
     }
-    for one in uncleared(alloc, net, train, behind.tail.as_slice())?.as_slice() {
-        claims.push(held(
-            one.zone,
-            i64::from(run),
-            run.saturating_add(settings.release),
-        ))?;
-    }
-    Ok(Going {
-        to: None,
-        run,
-        claims,
-    })
+    Ok(())
 }
 
 // Whether a train may go on into a block from a place.
@@ -379,6 +446,36 @@ fn may_halt(request: &Request, made: usize, block: &Block) -> bool {
     }
 }
 
+// The steps that a train can take from a place, in the order of their blocks.
+fn steps_from(
+    alloc: Global,
+    net: &Network,
+    request: &Request,
+    spot: &Spot,
+) -> Result<Vec<Step>, NoMemory> {
+    let mut steps = Vec::new(alloc);
+    let mut number = 0u32;
+    for block in net.blocks.as_slice() {
+        if reaches(net, request, spot, block) {
+            push_steps(&mut steps, number, may_halt(request, spot.made, block))?;
+        }
+        number = number.saturating_add(1);
+    }
+    Ok(steps)
+}
+
+// Puts the steps into a block behind others: through it, and to a halt at its end where it may be.
+fn push_steps(steps: &mut Vec<Step>, block: u32, may_halt: bool) -> Result<(), NoMemory> {
+    steps.push(Step {
+        block,
+        halts: false,
+    })?;
+    if may_halt {
+        steps.push(Step { block, halts: true })?;
+    }
+    Ok(())
+}
+
 fn goings_from(
     alloc: Global,
     net: &Network,
@@ -387,30 +484,16 @@ fn goings_from(
     spots: &mut Vec<Spot>,
     spot: &Spot,
 ) -> Result<Vec<Going>, NoMemory> {
+    let steps = steps_from(alloc, net, request, spot)?;
     let mut goings = Vec::new(alloc);
-    let mut number = 0u32;
-    for block in net.blocks.as_slice() {
-        if reaches(net, request, spot, block) {
-            let rolls = Step {
-                block: number,
-                halts: false,
-            };
-            goings.push(move_by(alloc, net, settings, request, spots, spot, &rolls)?)?;
-            if may_halt(request, spot.made, block) {
-                let halts = Step {
-                    block: number,
-                    halts: true,
-                };
-                goings.push(move_by(alloc, net, settings, request, spots, spot, &halts)?)?;
-            }
-        }
-        number = number.saturating_add(1);
+    for step in steps.as_slice() {
+        goings.push(move_by(alloc, net, settings, request, spots, spot, step)?)?;
     }
     Ok(goings)
 }
 
 // The places of a request and the moves between them.
-#[derive(Debug, Drop)]
+#[derive(Drop)]
 struct Graph {
     spots: Vec<Spot>,
     starts: Vec<Going>,
@@ -425,6 +508,23 @@ fn graph_of(
     request: &Request,
     most: usize,
 ) -> Result<Option<Graph>, NoMemory> {
+    let mut graph = begun(alloc, net, settings, request)?;
+    for at in 0..most {
+        if graph.spots.len() <= at {
+            return Ok(Some(graph));
+        }
+        add_goings(alloc, net, settings, request, &mut graph, at)?;
+    }
+    Ok(None)
+}
+
+// The moves from where a train begins, and the places behind these.
+fn begun(
+    alloc: Global,
+    net: &Network,
+    settings: &Settings,
+    request: &Request,
+) -> Result<Graph, NoMemory> {
     let begin = Spot {
         tail: Vec::new(alloc),
         entered: 0,
@@ -433,19 +533,29 @@ fn graph_of(
     };
     let mut spots = Vec::new(alloc);
     let starts = goings_from(alloc, net, settings, request, &mut spots, &begin)?;
-    let mut goings = Vec::new(alloc);
-    for at in 0..most {
-        let Some(spot) = spots.get(at) else {
-            return Ok(Some(Graph {
-                spots,
-                starts,
-                goings,
-            }));
-        };
-        let here = same_spot(alloc, spot)?;
-        goings.push(goings_from(alloc, net, settings, request, &mut spots, &here)?)?;
-    }
-    Ok(None)
+    Ok(Graph {
+        spots,
+        starts,
+        goings: Vec::new(alloc),
+    })
+}
+
+// Adds the moves from the place of a number, where it is known.
+fn add_goings(
+    alloc: Global,
+    net: &Network,
+    settings: &Settings,
+    request: &Request,
+    graph: &mut Graph,
+    at: usize,
+) -> Result<(), NoMemory> {
+    let Some(spot) = graph.spots.get(at) else {
+        return Ok(());
+    };
+    let here = same_spot(alloc, spot)?;
+    let goings = goings_from(alloc, net, settings, request, &mut graph.spots, &here)?;
+    graph.goings.push(goings)?;
+    Ok(())
 }
 
 fn same_spot(alloc: Global, spot: &Spot) -> Result<Spot, NoMemory> {
@@ -458,7 +568,7 @@ fn same_spot(alloc: Global, spot: &Spot) -> Result<Spot, NoMemory> {
 }
 
 // Pairs of place and tick that are marked.
-#[derive(Debug, Drop)]
+#[derive(Drop)]
 struct Marks {
     rows: Vec<Vec<bool>>,
 }
@@ -545,11 +655,23 @@ fn holds(window: &Window, tick: u32) -> bool {
 
 // What is reached: the ticks of arrival and those at which a train that stands may go on,
 // and the earliest last leave.
-#[derive(Debug, Drop)]
+#[derive(Drop)]
 struct Walk {
     arrived: Marks,
     ready: Marks,
     leave: Option<u32>,
+}
+
+impl Walk {
+    fn new(alloc: Global, places: usize, horizon: u32) -> Result<Walk, NoMemory> {
+        let arrived = Marks::new(alloc, places, horizon)?;
+        let ready = Marks::new(alloc, places, horizon)?;
+        Ok(Walk {
+            arrived,
+            ready,
+            leave: None,
+        })
+    }
 }
 
 // Takes each move of a place that is free at a tick.
@@ -625,7 +747,7 @@ fn dwell_at(request: &Request, spot: &Spot) -> u32 {
 }
 
 // A tick at a place.
-#[derive(Clone, Copy, Debug)]
+#[derive(Clone, Copy)]
 struct Moment {
     place: usize,
     tick: u32,
@@ -673,6 +795,50 @@ fn visit(
     Ok(())
 }
 
+// What a train can do at a tick, at any place or where it begins.
+fn visit_all(
+    alloc: Global,
+    net: &Network,
+    settings: &Settings,
+    request: &Request,
+    taken: &[Claim],
+    graph: &Graph,
+    walk: &mut Walk,
+    tick: u32,
+) -> Result<(), NoMemory> {
+    if holds(&request.depart, tick) {
+        go(
+            walk,
+            graph.starts.as_slice(),
+            tick,
+            settings,
+            request,
+            taken,
+        );
+    }
+    for place in 0..graph.spots.len() {
+        let moment = Moment { place, tick };
+        visit(alloc, net, settings, request, taken, graph, walk, moment)?;
+    }
+    Ok(())
+}
+
+// What is reached, tick by tick.
+fn walked(
+    alloc: Global,
+    net: &Network,
+    settings: &Settings,
+    request: &Request,
+    taken: &[Claim],
+    graph: &Graph,
+) -> Result<Walk, NoMemory> {
+    let mut walk = Walk::new(alloc, graph.spots.len(), settings.horizon)?;
+    for tick in 0..=settings.horizon {
+        visit_all(alloc, net, settings, request, taken, graph, &mut walk, tick)?;
+    }
+    Ok(walk)
+}
+
 /// What the search should answer beside claims that are taken; None where the request
 /// has more places than so many.
 pub fn expect(
@@ -686,33 +852,10 @@ pub fn expect(
     let Some(graph) = graph_of(alloc, net, settings, request, most)? else {
         return Ok(None);
     };
-    let places = graph.spots.len();
-    let mut walk = Walk {
-        arrived: Marks::new(alloc, places, settings.horizon)?,
-        ready: Marks::new(alloc, places, settings.horizon)?,
-        leave: None,
-    };
-    for tick in 0..=settings.horizon {
-        if holds(&request.depart, tick) {
-            go(
-                &mut walk,
-                graph.starts.as_slice(),
-                tick,
-                settings,
-                request,
-                taken,
-            );
-        }
-        for place in 0..places {
-            let moment = Moment { place, tick };
-            visit(
-                alloc, net, settings, request, taken, &graph, &mut walk, moment,
-            )?;
-        }
-    }
+    let walk = walked(alloc, net, settings, request, taken, &graph)?;
     Ok(Some(Expected {
         leave: walk.leave,
         pairs: walk.arrived.count(),
-        places,
+        places: graph.spots.len(),
     }))
 }

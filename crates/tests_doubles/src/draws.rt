@@ -9,7 +9,7 @@ use rail_types::{Block, Claim, List, Network, Request, Stop};
 use std::alloc::Global;
 
 /// Numbers that look as if drawn by lot.
-#[derive(Clone, Copy, Debug)]
+#[derive(Drop)]
 pub struct Draw {
     pub state: u64,
 }

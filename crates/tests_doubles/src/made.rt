@@ -60,7 +60,7 @@ fn window(from: u32, to: u32) -> Window
 
 /// From the operational point of a number to that of another, within
 /// windows of departure and arrival.
-#[derive(Clone, Copy, Debug)]
+#[derive(Drop)]
 pub struct Trip {
     pub origin: u32,
     pub destination: u32,

@@ -7,10 +7,8 @@ use crate::made::{Trip, claim};
 use crate::railway::Railway;
 use crate::tallies::{Tally, draw_and_compare};
 use crate::told::{claim_text, flaw_text, labels_text, places_text, told};
-use crate::words::{
-    first_word, no_memory, not_understood, number_of, numbers_of, small_of, tick_of,
-};
-use rail_types::Stop;
+use crate::words::{first_word, no_memory, not_understood, numbers_of, size_of, small_of, tick_of};
+use rail_types::{Claim, Owner, Stop};
 use std::alloc::{AllocGlobal, Global};
 use std::io;
 
@@ -80,11 +78,8 @@ fn set(alloc: Global, railway: &mut Railway, word: &str, rest: &str) -> io::Resu
             railway.has_loss = *loss == 1;
         }
         ("blocks", [long, wide, length_m, speed, sight_m, serves @ ..]) => {
-            for _ in 0..*long {
-                let sizes = [*length_m, *speed, *sight_m];
-                let added = railway.add_blocks(alloc, *wide, sizes, serves);
-                added.map_err(no_memory)?;
-            }
+            let sizes = [*length_m, *speed, *sight_m];
+            return add_blocks(alloc, railway, *long, *wide, sizes, serves);
         }
         ("ask", [origin, destination, from, to, after, before, stops @ ..]) => {
             railway.trip = Trip {
@@ -93,10 +88,32 @@ fn set(alloc: Global, railway: &mut Railway, word: &str, rest: &str) -> io::Resu
                 depart: (*from, *to),
                 arrive: (*after, *before),
             };
-            railway.stops = stops_of(alloc, stops)?;
+            return set_stops(alloc, railway, stops);
         }
         _ => return Err(not_understood()),
     }
+    Ok(())
+}
+
+// Puts so many times so many blocks side by side behind the last.
+fn add_blocks(
+    alloc: Global,
+    railway: &mut Railway,
+    long: u32,
+    wide: u32,
+    sizes: [u32; 3],
+    serves: &[u32],
+) -> io::Result<()> {
+    for _ in 0..long {
+        railway
+            .add_blocks(alloc, wide, sizes, serves)
+            .map_err(no_memory)?;
+    }
+    Ok(())
+}
+
+fn set_stops(alloc: Global, railway: &mut Railway, numbers: &[u32]) -> io::Result<()> {
+    railway.stops = stops_of(alloc, numbers)?;
     Ok(())
 }
 
@@ -104,15 +121,19 @@ fn set(alloc: Global, railway: &mut Railway, word: &str, rest: &str) -> io::Resu
 fn stops_of(alloc: Global, numbers: &[u32]) -> io::Result<Vec<Stop>> {
     let mut stops = Vec::new(alloc);
     for pair in numbers.chunks(2) {
-        match pair {
-            [stop, dwell] => stops.push(Stop {
-                stop: *stop,
-                dwell: *dwell,
-            })?,
-            _ => return Err(not_understood()),
-        }
+        stops.push(stop_of(pair)?)?;
     }
     Ok(stops)
+}
+
+fn stop_of(pair: &[u32]) -> io::Result<Stop> {
+    match pair {
+        [stop, dwell] => Ok(Stop {
+            stop: *stop,
+            dwell: *dwell,
+        }),
+        _ => Err(not_understood()),
+    }
 }
 
 fn hold(railway: &mut Railway, line: &str) -> io::Result<()> {
@@ -190,29 +211,37 @@ fn print_deeds<R: AllocGlobal + Print>(rt: &R, line: &str) -> io::Result<()> {
     Ok(())
 }
 
+// The bodies that are told in hexadecimal.
+fn bodies_of(alloc: Global, words: &str) -> io::Result<Vec<Vec<u8>>> {
+    let mut bodies = Vec::new(alloc);
+    for word in words.split_whitespace() {
+        bodies.push(body_of(alloc, word)?)?;
+    }
+    Ok(bodies)
+}
+
+fn body_of(alloc: Global, word: &str) -> io::Result<Vec<u8>> {
+    match hex::decode(alloc, word) {
+        Ok(body) => Ok(body),
+        Err(_) => Err(not_understood()),
+    }
+}
+
 // The claims of a copy that was made behind so many of these bodies, and is brought up behind all.
 fn print_since<R: AllocGlobal + Print>(rt: &R, line: &str) -> io::Result<()> {
-    let alloc = rt.alloc();
     let (count, rest) = first_word(line);
-    let mut left = number_of(count)?;
-    let (mut before, mut since) = (Vec::new(alloc), Vec::new(alloc));
-    for word in rest.split_whitespace() {
-        let body = match hex::decode(alloc, word) {
-            Ok(body) => body,
-            Err(_) => return Err(not_understood()),
-        };
-        if left > 0 {
-            left -= 1;
-            before.push(body)?;
-        } else {
-            since.push(body)?;
-        }
+    let count = size_of(count)?;
+    let bodies = bodies_of(rt.alloc(), rest)?;
+    let (before, since) = bodies.split_at(count.min(bodies.len()));
+    match claims_since(rt.alloc(), before, since) {
+        Some(claims) => print_claims(rt, claims.as_slice()),
+        None => Err(not_understood()),
     }
-    let Some(claims) = claims_since(alloc, before.as_slice(), since.as_slice()) else {
-        return Err(not_understood());
-    };
-    for held in claims.as_slice() {
-        let text = claim_text(alloc, held)?;
+}
+
+fn print_claims<R: AllocGlobal + Print>(rt: &R, claims: &[(Claim, Owner)]) -> io::Result<()> {
+    for held in claims {
+        let text = claim_text(rt.alloc(), held)?;
         println!(rt; "  {text}")?;
     }
     Ok(())

@@ -1,16 +1,18 @@
 //! Comparisons of networks that are drawn, and how many there were of each kind.
 
+ghost use Rattle.rail_types.specs.Limits.{IsRequestWithinLimits};
+
 use crate::comparisons::{Compared, compare};
 use crate::draws::{Draw, asked, claims, network};
 use crate::made::settings;
 use no_memory::NoMemory;
-use rail_types::{Network, Path, Settings};
+use rail_types::{Network, Path, Request, Settings};
 use std::alloc::Global;
 
 /// How many asks were compared: in all, in networks with a ring, and with loss of speed; and of
 /// those that were granted all, those whose train waits on its way, and those whose train is
 /// longer than its first block.
-#[derive(Clone, Copy, Debug)]
+#[derive(Debug, Drop)]
 pub struct Tally {
     pub asks: u32,
     pub rings: u32,
@@ -102,14 +104,27 @@ pub fn draw_and_compare(
     };
     draw.below(2);
     let net = network(alloc, &mut draw)?;
-    let Some(request) = asked(alloc, &mut draw)? else {
-        return Ok(Compared::NotAsked);
-    };
-    let claims = claims(alloc, &mut draw, net.zones)?;
+    match asked(alloc, &mut draw)? {
+        Some(request) => ask_and_compare(alloc, &mut draw, &net, &request, tally),
+        None => Ok(Compared::NotAsked),
+    }
+}
+
+// Compares what is answered to a request beside claims that are drawn, and counts it.
+fn ask_and_compare(
+    alloc: Global,
+    draw: &mut Draw,
+    net: &Network,
+    request: &Request,
+    tally: &mut Tally,
+) -> Result<Compared, NoMemory>
+    requires { IsRequestWithinLimits request.now }
+{
+    let claims = claims(alloc, draw, net.zones)?;
     let settings = settings(draw.below(3), draw.below(3), 60, draw.below(2) == 0);
-    let told = compare(alloc, &net, &settings, claims.as_slice(), &request)?;
+    let told = compare(alloc, net, &settings, claims.as_slice(), request)?;
     if let Compared::Same(got) = &told {
-        count(tally, &net, &settings, &got.path);
+        count(tally, net, &settings, &got.path);
     }
     Ok(told)
 }

@@ -1,7 +1,7 @@
 //! What is printed of paths, flaws and places.
 
 use crate::comparisons::{Compared, Got, last_leave};
-use rail_types::{Claim, NetFlaw, Owner, Path};
+use rail_types::{Claim, NetFlaw, Owner, Path, Run};
 use std::alloc::Global;
 use std::io;
 use tail_states::PlacesFault;
@@ -32,10 +32,15 @@ fn path_text(alloc: Global, path: &Option<Path>) -> io::Result<String> {
     };
     let mut text = format!(in alloc; "runs {}", path.runs.len())?;
     for run in path.runs.as_slice() {
-        let stops = if run.stops { 1 } else { 0 };
-        write!(text, " {} {} {} {stops}", run.block, run.enter, run.leave)?;
+        push_run(&mut text, run)?;
     }
     Ok(text)
+}
+
+fn push_run(text: &mut String, run: &Run) -> io::Result<()> {
+    let stops = if run.stops { 1 } else { 0 };
+    write!(text, " {} {} {} {stops}", run.block, run.enter, run.leave)?;
+    Ok(())
 }
 
 /// The flaw of a network.
@@ -75,13 +80,12 @@ pub fn labels_text(alloc: Global, count: Option<u64>) -> io::Result<String> {
 /// A held claim.
 pub fn claim_text(alloc: Global, held: &(Claim, Owner)) -> io::Result<String> {
     let (claim, owner) = held;
-    let mut text = format!(in alloc;
-        "zone {} from {} to {}",
+    let (kind, number) = match owner {
+        Owner::Base(train) => ("base", u64::from(*train)),
+        Owner::Entry(at) => ("entry", *at),
+    };
+    Ok(format!(in alloc;
+        "zone {} from {} to {} of {kind} {number}",
         claim.zone, claim.span.from, claim.span.to
-    )?;
-    match owner {
-        Owner::Base(train) => write!(text, " of base {train}")?,
-        Owner::Entry(at) => write!(text, " of entry {at}")?,
-    }
-    Ok(text)
+    )?)
 }
