@@ -14,20 +14,24 @@ pub fn entry_of(alloc: Global, line: &str) -> io::Result<Entry> {
     let (number, rest) = first_word(rest);
     let (kind, rest) = first_word(rest);
     let number = number_of(number)?;
-    let deed = match kind {
-        "hold" => hold_of(alloc, rest)?,
-        "ask" => grant(alloc, true, tick_of(rest)?).map_err(no_memory)?,
-        "pin" => grant(alloc, false, tick_of(rest)?).map_err(no_memory)?,
-        "free" => Deed::Free(number_of(rest)?),
-        _ => return Err(not_understood()),
-    };
     let owner = Name::from_bytes(alloc, owner.as_bytes()).map_err(no_memory)?;
+    let deed = deed_of(alloc, kind, rest)?;
     Ok(Entry {
         owner,
         number,
         line: 1,
         deed,
     })
+}
+
+fn deed_of(alloc: Global, kind: &str, rest: &str) -> io::Result<Deed> {
+    match kind {
+        "hold" => hold_of(alloc, rest),
+        "ask" => grant(alloc, true, tick_of(rest)?).map_err(no_memory),
+        "pin" => grant(alloc, false, tick_of(rest)?).map_err(no_memory),
+        "free" => Ok(Deed::Free(number_of(rest)?)),
+        _ => Err(not_understood()),
+    }
 }
 
 fn hold_of(alloc: Global, line: &str) -> io::Result<Deed> {

@@ -14,13 +14,12 @@ use std::alloc::Global;
 
 // A block of 2000 m with the zone and the operational point of its number.
 fn block(alloc: Global, number: u32, sight_m: u32, ends: (u32, u32)) -> Result<Block, NoMemory> {
-    let mut cells = List::new(alloc);
-    cells.push(Cell {
+    let cell = Cell {
         zone: number,
         release_m: 2000,
-    })?;
-    let mut serves = List::new(alloc);
-    serves.push(number)?;
+    };
+    let cells = List::from_vec(Vec::from_slice(alloc, &[cell])?);
+    let serves = List::from_vec(Vec::from_slice(alloc, &[number])?);
     Ok(Block {
         length_m: 2000,
         speed: 200_000,
@@ -32,11 +31,23 @@ fn block(alloc: Global, number: u32, sight_m: u32, ends: (u32, u32)) -> Result<B
     })
 }
 
+// Puts such a block behind others.
+fn push_block(
+    alloc: Global,
+    blocks: &mut List<Block>,
+    number: u32,
+    sight_m: u32,
+    ends: (u32, u32),
+) -> Result<(), NoMemory> {
+    blocks.push(block(alloc, number, sight_m, ends)?)?;
+    Ok(())
+}
+
 fn line_of_three(alloc: Global) -> Result<Network, NoMemory> {
     let mut blocks = List::new(alloc);
-    blocks.push(block(alloc, 0, 0, (4, 0))?)?;
-    blocks.push(block(alloc, 1, 400, (0, 2))?)?;
-    blocks.push(block(alloc, 2, 400, (2, 6))?)?;
+    push_block(alloc, &mut blocks, 0, 0, (4, 0))?;
+    push_block(alloc, &mut blocks, 1, 400, (0, 2))?;
+    push_block(alloc, &mut blocks, 2, 400, (2, 6))?;
     Ok(Network {
         zones: 3,
         points: 8,

@@ -14,7 +14,7 @@ use outside_io::{
 };
 use plan_core::World;
 use std::alloc::Global;
-use std::io;
+use std::{io, mem};
 
 // What the lines so far have made.
 #[derive(Drop)]
@@ -33,22 +33,33 @@ struct Table {
     world: Option<World>,
 }
 
+impl Table {
+    // An empty outside in memory, of which nothing is held.
+    fn new(rt: HostRuntime) -> Table {
+        let alloc = rt.alloc();
+        Table {
+            memory: MemOutside::new(alloc, Vec::new(alloc)),
+            of_memory: Held::new(),
+            machine: FileOutside::new(rt, Locking::Exclusive),
+            of_machine: Held::new(),
+            is_machine: false,
+            pipe: Pipe::none(),
+            fails: Vec::new(alloc),
+            calls: u64::MAX,
+            world: None,
+        }
+    }
+}
+
 /// Carries out a table, and prints what comes of it.
 pub fn carry_out(rt: HostRuntime, lines: &str) -> io::Result<()> {
-    let alloc = rt.alloc();
-    let mut table = Table {
-        memory: MemOutside::new(alloc, Vec::new(alloc)),
-        of_memory: Held::new(),
-        machine: FileOutside::new(rt, Locking::Exclusive),
-        of_machine: Held::new(),
-        is_machine: false,
-        pipe: Pipe::none(),
-        fails: Vec::new(alloc),
-        calls: u64::MAX,
-        world: None,
-    };
+    let mut table = Table::new(rt);
+    carry_out_lines(&rt, &mut table, lines)
+}
+
+fn carry_out_lines(rt: &HostRuntime, table: &mut Table, lines: &str) -> io::Result<()> {
     for line in lines.lines() {
-        carry_out_line(&rt, &mut table, line)?;
+        carry_out_line(rt, table, line)?;
     }
     Ok(())
 }
@@ -59,13 +70,10 @@ fn carry_out_line(rt: &HostRuntime, table: &mut Table, line: &str) -> io::Result
     match word {
         "" | "#" => Ok(()),
         "case" => {
-            begin_case(alloc, table);
+            begin_case(rt, table);
             println!(rt; "{rest}")
         }
-        "fails" => {
-            table.fails = numbers_of(alloc, rest)?;
-            Ok(())
-        }
+        "fails" => set_fails(alloc, table, rest),
         "fuse" => {
             table.calls = number_of(rest)?;
             Ok(())
@@ -77,72 +85,124 @@ fn carry_out_line(rt: &HostRuntime, table: &mut Table, line: &str) -> io::Result
         "open" | "back" => hand_over(rt, table, word, rest),
         "look" => look(rt, table, rest),
         "images" => print_images(rt, table, rest),
-        "world" => {
-            table.world = first_world(alloc, small_of(rest)?).map_err(no_memory)?;
-            Ok(())
-        }
+        "world" => set_world(alloc, table, rest),
         "event" | "client" => use_world(rt, table, word, rest),
-        _ => {
-            let text = if table.is_machine {
-                use_held(alloc, &mut table.of_machine, word, rest)?
-            } else {
-                use_held(alloc, &mut table.of_memory, word, rest)?
-            };
-            println!(rt; "  {text}")
-        }
+        _ => print_text(rt, used(alloc, table, word, rest)),
     }
 }
 
-// An empty outside in memory, of which nothing is held.
-fn begin_case(alloc: Global, table: &mut Table) {
-    table.memory = MemOutside::new(alloc, Vec::new(alloc));
-    table.of_memory = Held::new();
-    table.of_machine = Held::new();
-    table.is_machine = false;
-    table.pipe = Pipe::none();
-    table.fails = Vec::new(alloc);
-    table.calls = u64::MAX;
-    table.world = None;
+fn begin_case(rt: &HostRuntime, table: &mut Table) {
+    *table = Table::new(*rt);
 }
 
-// The calls that fail of what is made now. Those of what is made then are none.
-fn take_fails(alloc: Global, table: &mut Table) -> io::Result<Vec<u64>> {
-    let fails = Vec::from_slice(alloc, &table.fails)?;
-    table.fails = Vec::new(alloc);
-    Ok(fails)
+fn print_text(rt: &HostRuntime, text: io::Result<String>) -> io::Result<()> {
+    let text = text?;
+    println!(rt; "  {text}")
 }
 
-// Sets an object of the outside in memory, or begins that anew.
+// What comes of a use of what is held of the machine, or of what is held of memory.
+fn used(alloc: Global, table: &mut Table, word: &str, rest: &str) -> io::Result<String> {
+    if table.is_machine {
+        use_held(alloc, &mut table.of_machine, word, rest)
+    } else {
+        use_held(alloc, &mut table.of_memory, word, rest)
+    }
+}
+
+fn set_fails(alloc: Global, table: &mut Table, rest: &str) -> io::Result<()> {
+    table.fails = numbers_of(alloc, rest)?;
+    Ok(())
+}
+
+fn set_world(alloc: Global, table: &mut Table, rest: &str) -> io::Result<()> {
+    table.world = first_world(alloc, small_of(rest)?).map_err(no_memory)?;
+    Ok(())
+}
+
+// Sets an object of the outside in memory, or begins that anew. The calls that fail of what is made
+// then are none.
 fn set(alloc: Global, table: &mut Table, word: &str, rest: &str) -> io::Result<()> {
-    let fails = take_fails(alloc, table)?;
+    let fails = mem::replace(&mut table.fails, Vec::new(alloc));
     let (name, rest) = first_word(rest);
+    let memory = &mut table.memory;
     match word {
         "outside" => {
-            table.memory = MemOutside::new(alloc, fails);
+            *memory = MemOutside::new(alloc, fails);
             Ok(())
         }
-        "source" => {
-            let source = MemSource::new(Vec::from_slice(alloc, rest.as_bytes())?, fails);
-            table.memory.set_source(name, source).map_err(no_memory)
-        }
-        "long" => {
-            let source = MemSource::new(vec![in alloc; b'x'; size_of(rest)?]?, fails);
-            table.memory.set_source(name, source).map_err(no_memory)
-        }
-        "sink" => {
-            let sink = MemSink::new(alloc, size_of(rest)?, fails).map_err(no_memory)?;
-            table.memory.set_sink(name, sink).map_err(no_memory)
-        }
-        "report" => {
-            let sink = MemSink::new(alloc, size_of(name)?, fails).map_err(no_memory)?;
-            table.memory.set_report(sink);
-            Ok(())
-        }
-        _ => {
-            let disk = disk_of(alloc, word, rest, fails)?;
-            table.memory.set_disk(name, disk).map_err(no_memory)
-        }
+        "source" => set_source(alloc, memory, name, rest, fails),
+        "long" => set_long(alloc, memory, name, rest, fails),
+        "sink" => set_sink(alloc, memory, name, rest, fails),
+        "report" => set_report(alloc, memory, name, fails),
+        _ => set_disk(alloc, memory, word, name, rest, fails),
     }
+}
+
+fn set_source(
+    alloc: Global,
+    memory: &mut MemOutside,
+    name: &str,
+    text: &str,
+    fails: Vec<u64>,
+) -> io::Result<()> {
+    let bytes = Vec::from_slice(alloc, text.as_bytes())?;
+    let source = MemSource::new(bytes, fails);
+    memory.set_source(name, source).map_err(no_memory)
+}
+
+// A source of so many bytes, all the same.
+fn set_long(
+    alloc: Global,
+    memory: &mut MemOutside,
+    name: &str,
+    size: &str,
+    fails: Vec<u64>,
+) -> io::Result<()> {
+    let bytes = long_bytes(alloc, size)?;
+    let source = MemSource::new(bytes, fails);
+    memory.set_source(name, source).map_err(no_memory)
+}
+
+fn long_bytes(alloc: Global, size: &str) -> io::Result<Vec<u8>> {
+    Ok(vec![in alloc; b'x'; size_of(size)?]?)
+}
+
+fn set_sink(
+    alloc: Global,
+    memory: &mut MemOutside,
+    name: &str,
+    room: &str,
+    fails: Vec<u64>,
+) -> io::Result<()> {
+    let sink = sink_of(alloc, room, fails)?;
+    memory.set_sink(name, sink).map_err(no_memory)
+}
+
+fn set_report(
+    alloc: Global,
+    memory: &mut MemOutside,
+    room: &str,
+    fails: Vec<u64>,
+) -> io::Result<()> {
+    memory.set_report(sink_of(alloc, room, fails)?);
+    Ok(())
+}
+
+// An empty sink with this room, of which calls fail.
+fn sink_of(alloc: Global, room: &str, fails: Vec<u64>) -> io::Result<MemSink> {
+    MemSink::new(alloc, size_of(room)?, fails).map_err(no_memory)
+}
+
+fn set_disk(
+    alloc: Global,
+    memory: &mut MemOutside,
+    word: &str,
+    name: &str,
+    line: &str,
+    fails: Vec<u64>,
+) -> io::Result<()> {
+    let disk = disk_of(alloc, word, line, fails)?;
+    memory.set_disk(name, disk).map_err(no_memory)
 }
 
 // A disk of this room with these bytes, of which calls fail, or syncs.
@@ -171,13 +231,20 @@ fn use_machine(rt: &HostRuntime, table: &mut Table, word: &str, rest: &str) -> i
             Ok(())
         }
         "close" => table.pipe.close(rest),
-        "content" => {
-            let path = name_of(rt, &table.pipe, rest)?;
-            let text = shown(rt.alloc(), content(rt, path.as_str())?.as_slice())?;
-            println!(rt; "  {rest} holds {text}")
-        }
+        "content" => print_content(rt, &table.pipe, rest),
         _ => remove(rt, name_of(rt, &table.pipe, rest)?.as_str()),
     }
+}
+
+fn print_content(rt: &HostRuntime, pipe: &Pipe, word: &str) -> io::Result<()> {
+    let path = name_of(rt, pipe, word)?;
+    let text = content_text(rt, path.as_str())?;
+    println!(rt; "  {word} holds {text}")
+}
+
+fn content_text(rt: &HostRuntime, path: &str) -> io::Result<String> {
+    let bytes = content(rt, path)?;
+    shown(rt.alloc(), bytes.as_slice())
 }
 
 // How a machine holds its disks that was turned to by this word.
@@ -194,25 +261,41 @@ fn hand_over(rt: &HostRuntime, table: &mut Table, word: &str, rest: &str) -> io:
     let (kind, name) = kind_and_name(rest);
     let name = name_of(rt, &table.pipe, name)?;
     if word == "back" {
-        return if table.is_machine {
-            put_back(
-                &mut table.machine,
-                &mut table.of_machine,
-                kind,
-                name.as_str(),
-            )
-        } else {
-            put_back(&mut table.memory, &mut table.of_memory, kind, name.as_str())
-        };
-    }
-    let text = if table.is_machine {
-        let (machine, held) = (&mut table.machine, &mut table.of_machine);
-        open(rt.alloc(), machine, held, kind, name.as_str(), table.calls)?
+        back(table, kind, name.as_str())
     } else {
-        let (memory, held) = (&mut table.memory, &mut table.of_memory);
-        open(rt.alloc(), memory, held, kind, name.as_str(), table.calls)?
-    };
-    println!(rt; "  {text}")
+        print_text(rt, opened(rt.alloc(), table, kind, name.as_str()))
+    }
+}
+
+fn back(table: &mut Table, kind: &str, name: &str) -> io::Result<()> {
+    if table.is_machine {
+        put_back(&mut table.machine, &mut table.of_machine, kind, name)
+    } else {
+        put_back(&mut table.memory, &mut table.of_memory, kind, name)
+    }
+}
+
+fn opened(alloc: Global, table: &mut Table, kind: &str, name: &str) -> io::Result<String> {
+    let calls = table.calls;
+    if table.is_machine {
+        open(
+            alloc,
+            &mut table.machine,
+            &mut table.of_machine,
+            kind,
+            name,
+            calls,
+        )
+    } else {
+        open(
+            alloc,
+            &mut table.memory,
+            &mut table.of_memory,
+            kind,
+            name,
+            calls,
+        )
+    }
 }
 
 // Prints what an object in memory holds that is not handed out.
@@ -241,11 +324,15 @@ fn print_images(rt: &HostRuntime, table: &mut Table, name: &str) -> io::Result<(
         return Err(not_understood());
     };
     for choice in 0..8u64 {
-        let image = disk.crash(rt.alloc(), choice).map_err(no_memory)?;
-        let text = shown(rt.alloc(), image.bytes())?;
+        let text = image_text(rt.alloc(), disk, choice)?;
         println!(rt; "  image {choice} {text}")?;
     }
     Ok(())
+}
+
+fn image_text(alloc: Global, disk: &MemDisk, choice: u64) -> io::Result<String> {
+    let image = disk.crash(alloc, choice).map_err(no_memory)?;
+    shown(alloc, image.bytes())
 }
 
 // An event of the world, or what a client of it knows.
@@ -254,9 +341,9 @@ fn use_world(rt: &HostRuntime, table: &mut Table, word: &str, rest: &str) -> io:
         return Err(not_understood());
     };
     let text = if word == "event" {
-        step(rt.alloc(), world, rest)?
+        step(rt.alloc(), world, rest)
     } else {
-        known(rt.alloc(), world, rest)?
+        known(rt.alloc(), world, rest)
     };
-    println!(rt; "  {text}")
+    print_text(rt, text)
 }

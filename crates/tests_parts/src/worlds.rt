@@ -10,12 +10,17 @@ use std::io;
 /// Takes an event, and tells whether it may be, and how many entries
 /// there are and are settled then.
 pub fn step(alloc: Global, world: &mut World, line: &str) -> io::Result<String> {
-    let event = event_of(alloc, line)?;
-    let may = world.step(&event).map_err(no_memory)?;
+    let may = takes(alloc, world, line)?;
     let word = if may { "may be" } else { "may not be" };
     let front = world.history().front();
     let settled = world.settled();
     Ok(format!(in alloc; "{word}, entries {front}, settled {settled}")?)
+}
+
+// Takes an event, and tells whether it may be.
+fn takes(alloc: Global, world: &mut World, line: &str) -> io::Result<bool> {
+    let event = event_of(alloc, line)?;
+    world.step(&event).map_err(no_memory)
 }
 
 fn event_of(alloc: Global, line: &str) -> io::Result<Event> {
@@ -73,10 +78,15 @@ pub fn known(alloc: Global, world: &World, line: &str) -> io::Result<String> {
     let Some(log) = world.log(client) else {
         return Err(not_understood());
     };
-    for note in log {
-        push_note(&mut text, note)?;
-    }
+    push_notes(&mut text, log)?;
     Ok(text)
+}
+
+fn push_notes(text: &mut String, log: &[Note]) -> io::Result<()> {
+    for note in log {
+        push_note(text, note)?;
+    }
+    Ok(())
 }
 
 fn push_note(text: &mut String, note: &Note) -> io::Result<()> {
