@@ -1,11 +1,14 @@
 //! A text of bytes that grows.
 
 ghost use Rattle.std.specs.Prelude.{◌≡◌, ◌+◌, ◌≤◌, ◌++◌, ◌↔◌, [], length, take, OnOk, OnErr, IsOk};
-ghost use Rattle.std.specs.Prelude.{IsTrue};
+ghost use Rattle.std.specs.Prelude.{IsTrue, vec_capacity, vec_len};
 
 use no_memory::NoMemory;
 use std::alloc::Global;
 use std::marker::Model;
+
+// Up to how many bytes are put one by one, which for so few takes less than copying them as a whole.
+const FEW_BYTES: usize = 8;
 
 /// Bytes that grow at their end, and the room that they have. A call that finds
 /// room enough takes no memory.
@@ -55,6 +58,10 @@ impl Buffer {
         ensures spare { self.old.spare ≤ self.new.spare + length more.now }
     {
         self.bytes.reserve(more.len())?;
+        if more.len() <= FEW_BYTES {
+            push_each(&mut self.bytes, more);
+            return Ok(());
+        }
         let Ok(()) = self.bytes.extend_from_slice(more) else {
             unreachable!()
         };
@@ -111,5 +118,17 @@ impl Buffer {
     {
         let Buffer { bytes } = self;
         bytes
+    }
+}
+
+// Puts bytes behind the others, for which there is room.
+#[inline(always)]
+fn push_each(bytes: &mut Vec<u8>, more: &[u8])
+    requires { vec_len bytes.old + length more.now ≤ vec_capacity bytes.old }
+    ensures items { bytes.new.items ≡ bytes.old.items ++ more.now }
+    ensures room { vec_capacity bytes.new ≡ vec_capacity bytes.old }
+{
+    for byte in more {
+        bytes.push_reserved(*byte);
     }
 }

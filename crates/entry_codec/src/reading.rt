@@ -28,8 +28,8 @@ use crate::kinds::Kind;
 use crate::passing::{before_all, pass_all};
 use byte_fields::Fields;
 use rail_types::{
-    Claim, Deed, Entry, List, MAX_HOLD_CLAIMS, MAX_OWNER_BYTES, MAX_PINNED_RUNS, MAX_STOPS, Name,
-    Path, Request, Run, Stop, Wanted,
+    Claim, Claims, Deed, Entry, KeptRequest, List, MAX_HOLD_CLAIMS, MAX_OWNER_BYTES, MAX_PINNED_RUNS,
+    MAX_STOPS, Name, Path, Request, Run, Stop, Wanted,
 };
 use std::alloc::Global;
 
@@ -43,7 +43,7 @@ fn read_owner(alloc: Global, fields: &mut Fields) -> Result<Name, EntryFault>
     Ok(Name::from_bytes(alloc, name)?)
 }
 
-fn read_claims(alloc: Global, fields: &mut Fields, count: u32) -> Result<List<Claim>, EntryFault>
+fn read_claims(alloc: Global, fields: &mut Fields, count: u32) -> Result<Claims, EntryFault>
     ensures { Gives fields.new result (claims_field count before_all fields.old) }
 {
     let mut claims = Vec::with_capacity(alloc, count as usize)?;
@@ -52,7 +52,7 @@ fn read_claims(alloc: Global, fields: &mut Fields, count: u32) -> Result<List<Cl
         before = find_next_claim(fields, &before)?;
         claims.push(before)?;
     }
-    Ok(List::from_vec(claims))
+    Ok(Claims::from_list(List::from_vec(claims)))
 }
 
 fn read_stop_items(alloc: Global, fields: &mut Fields, count: u32) -> Result<List<Stop>, EntryFault>
@@ -123,6 +123,7 @@ fn read_asked(alloc: Global, fields: &mut Fields) -> Result<Deed, EntryFault>
         stops,
     };
     let train = train.keep(alloc)?;
+    let request = KeptRequest::new(alloc, request)?;
     Ok(Deed::Grant(Wanted::Asked(request), Path { train, runs }))
 }
 
@@ -136,15 +137,13 @@ fn read_pinned(alloc: Global, fields: &mut Fields) -> Result<Deed, EntryFault>
     Ok(Deed::Grant(Wanted::Pinned, Path { train, runs }))
 }
 
-// A hold without a reason, which has one claim, and room for no more.
+// A hold without a reason, which has one claim.
 fn plain_hold(alloc: Global, claim: &Claim) -> Result<Deed, EntryFault>
     ensures one { IfOk result (λ deed. deed ≡ Hold (claim.now ∷ []) []) }
     ensures memory { IfErr result (λ fault. fault ≡ Memory) }
 {
-    let mut claims = Vec::with_capacity(alloc, 1)?;
-    claims.push_reserved(*claim);
     let reason = Name::from_bytes(alloc, &[])?;
-    Ok(Deed::Hold(List::from_vec(claims), reason))
+    Ok(Deed::Hold(Claims::one(alloc, *claim), reason))
 }
 
 #[tactic(auto, unfolding(crate::specs::Reading::deed_field))]

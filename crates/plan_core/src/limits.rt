@@ -106,6 +106,7 @@ fn is_grant(wanted: &Wanted, path: &Path) -> bool
 {
     match wanted {
         Wanted::Asked(request) => {
+            let request = request.get();
             is_request(request) && request.train.is_same(&path.train) && is_path(path, u32::MAX)
         }
         Wanted::Pinned => is_path(path, MAX_PINNED_RUNS),

@@ -40,6 +40,7 @@ fn is_wanted_on(net: &Network, wanted: &Wanted) -> bool
     match wanted {
         Wanted::Pinned => true,
         Wanted::Asked(request) => {
+            let request = request.get();
             request.origin < net.stops
                 && request.destination < net.stops
                 && are_stops_of(net.stops, request.stops.as_slice())

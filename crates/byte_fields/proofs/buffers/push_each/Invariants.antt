@@ -1,0 +1,6 @@
+use Rattle.std.proofs.Common.{◌≡◌, ◌++◌, take, vec_capacity}
+use Rattle.byte_fields.proofs.buffers.push_each.Given as goal
+
+abbrev pub invariant-loop-byte : goal.invariant-loop-byte
+invariant-loop-byte l = (l.bytes.items ≡ l.fn.bytes.items ++ take l.byte-index l.more)
+    × (vec_capacity l.bytes ≡ vec_capacity l.fn.bytes)
