@@ -1,4 +1,4 @@
--- What is ahead of where a move leads, as it is handed on.
+-- What is ahead of a target, as it is handed on.
 use Rattle.std.proofs.Common.{◌≡◌, ◌∙◌, ap, subst, sym}
 use Rattle.label_search.specs.declared.plans.Target.{Target}
 use Rattle.label_search.specs.declared.limits.Ahead.{Ahead}

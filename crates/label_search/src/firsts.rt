@@ -52,7 +52,7 @@ struct OnwardMove<'a> {
     step: LentMove<'a>,
 }
 
-// What is ahead of where a move leads, so that it is not looked at twice.
+// What is ahead of a target, handed on so that it is not looked up twice.
 #[derive(Clone, Copy)]
 struct Outlook {
     target: Target,

@@ -26,7 +26,7 @@ use std::alloc::Global;
 use std::marker::Model;
 
 // How many labels, and how many places that they reach, room is made for at once: room that is
-// not used is never touched and costs nothing, where a list that grows is copied.
+// not used is never touched and takes no memory, where a list that grows is copied.
 const FIRST_LABELS: usize = 32_768;
 
 const FIRST_PLACES: usize = 8_192;

@@ -15,8 +15,8 @@ use std::marker::Model;
 // The last bucket; work that is due later than that is in it too.
 const LAST_BUCKET: usize = 131_072;
 
-// How much work room is made for at once: room that is not used is never touched and costs
-// nothing, where a list that grows is copied.
+// How much work room is made for at once: room that is not used is never touched and takes
+// no memory, where a list that grows is copied.
 const FIRST_WORK: usize = 32_768;
 
 /// What is to be looked at from a label on.

@@ -1,4 +1,4 @@
-//! Many stacks in one list: none of them has room of its own.
+//! Many stacks in one list: an empty one takes the room of a number.
 #![tactic(auto)]
 
 mod stacks;

@@ -54,7 +54,8 @@ impl<T: Copy> Stacks<T> {
         self.tops.len()
     }
 
-    /// Adds empty ones until there is one of this number.
+    /// Adds empty ones until there is one of this number; where there is no memory for them, all
+    /// stay as they were.
     pub fn reach(&mut self, number: usize) -> Result<(), NoMemory>
         ensures count { OnOk result (length self.new ≡ max (length self.old) (number + 1)) }
         ensures kept { (one : ℕ) → slice_index_or self.new one []

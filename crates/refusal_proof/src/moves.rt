@@ -236,6 +236,7 @@ pub(crate) fn move_passes(
     if !passes(&taking, settings, book, arrive, labels, &going.second) {
         return Ok(false);
     }
+    // Where the train waits first, the claims of the wait are to be free too.
     taking.claims.extend_from_slice(going.claims.as_slice())?;
     Ok(passes(&taking, settings, book, arrive, labels, &going.first))
 }

@@ -99,7 +99,8 @@ fn block_of<'a>(net: &'a Network, number: u32) -> &'a Block
     &net.blocks.as_slice()[number as usize]
 }
 
-/// How the next block is entered.
+/// How a train enters the next block from a place: from a stand, or as it left the block of its
+/// head.
 pub fn entry(net: &Network, train: &Train, place: &Place) -> Enter
     requires tail { IsTailIn net.now train.now place.now.tail }
     requires begins { place.now.tail ≡ [] → place.now.standing ≡ true }

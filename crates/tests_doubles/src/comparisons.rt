@@ -132,7 +132,7 @@ fn expected(
     expect(alloc, net, settings, request, taken.as_slice(), 300)
 }
 
-// Asks the search, whose double is asked.
+// Asks the search, and compares its answer with what it should be.
 fn compare_with(
     alloc: Global,
     net: &Network,

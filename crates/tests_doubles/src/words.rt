@@ -47,7 +47,7 @@ pub fn tick_of(word: &str) -> io::Result<i64> {
     }
 }
 
-/// A word as a number of bytes.
+/// A word as a count.
 pub fn size_of(word: &str) -> io::Result<usize> {
     match word.parse::<usize>() {
         Ok(size) => Ok(size),

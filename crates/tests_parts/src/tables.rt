@@ -119,8 +119,8 @@ fn set_world(alloc: Global, table: &mut Table, rest: &str) -> io::Result<()> {
     Ok(())
 }
 
-// Sets an object of the outside in memory, or begins that anew. The calls that fail of what is made
-// then are none.
+// Sets an object of the outside in memory, or begins that anew. Of what is made after that no call
+// fails.
 fn set(alloc: Global, table: &mut Table, word: &str, rest: &str) -> io::Result<()> {
     let fails = mem::replace(&mut table.fails, Vec::new(alloc));
     let (name, rest) = first_word(rest);
