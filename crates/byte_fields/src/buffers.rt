@@ -7,7 +7,7 @@ use no_memory::NoMemory;
 use std::alloc::Global;
 use std::marker::Model;
 
-// Up to how many bytes are put one by one, which for so few takes less than copying them as a whole.
+// Up to how many bytes are put one by one, which for so few takes less than a copy of the whole.
 const FEW_BYTES: usize = 8;
 
 /// Bytes that grow at their end, and the room that they have. A call that finds

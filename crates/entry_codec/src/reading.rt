@@ -28,8 +28,8 @@ use crate::kinds::Kind;
 use crate::passing::{before_all, pass_all};
 use byte_fields::Fields;
 use rail_types::{
-    Claim, Claims, Deed, Entry, KeptRequest, List, MAX_HOLD_CLAIMS, MAX_OWNER_BYTES, MAX_PINNED_RUNS,
-    MAX_STOPS, Name, Path, Request, Run, Stop, Wanted,
+    Claim, Claims, Deed, Entry, KeptRequest, List, MAX_HOLD_CLAIMS, MAX_OWNER_BYTES,
+    MAX_PINNED_RUNS, MAX_STOPS, Name, Path, Request, Run, Stop, Wanted,
 };
 use std::alloc::Global;
 

@@ -17,7 +17,9 @@ ghost use Rattle.entry_codec.specs.Within.{IsDeedOfItsTypes};
 
 use byte_fields::{Buffer, put_bytes, put_i64, put_u8, put_u32, put_u64};
 use no_memory::NoMemory;
-use rail_types::{Claim, Claims, Deed, Entry, Name, Request, Run, Stop, Tick, Train, Wanted, Window};
+use rail_types::{
+    Claim, Claims, Deed, Entry, Name, Request, Run, Stop, Tick, Train, Wanted, Window,
+};
 
 // The calls below find the room that `write` makes first, so that none takes memory.
 

@@ -7,11 +7,13 @@ use smallvec::SmallVec;
 use std::alloc::Global;
 use std::marker::Model;
 
-/// A name. Contracts see the list of its bytes. One of up to 16 bytes, as most are, takes no memory
-/// of its own.
+// Up to how many bytes a name takes no memory of its own.
+const BYTES_IN_PLACE: usize = 16;
+
+/// A name. Contracts see the list of its bytes.
 #[derive(Debug, Drop)]
 pub struct Name {
-    bytes: SmallVec<u8, 16>,
+    bytes: SmallVec<u8, BYTES_IN_PLACE>,
 }
 
 impl Model for Name {

@@ -16,8 +16,9 @@ ghost use Rattle.stair_pieces.specs.Places.{place_after, start_place, under_trai
 ghost use Rattle.stair_pieces.specs.Steps.{IsTailIn};
 
 use crate::claims::entry;
+use crate::tail_blocks::Tail;
 use no_memory::NoMemory;
-use rail_types::{List, Network, Train};
+use rail_types::{Network, Train};
 use running_time::{Edge, Enter};
 use std::alloc::Global;
 use std::hash::{Hash, Hasher};
@@ -27,7 +28,7 @@ use std::hash::{Hash, Hasher};
 /// has made, one more behind an end.
 #[derive(Debug, Drop)]
 pub struct Place {
-    pub tail: List<u32>,
+    pub tail: Tail,
     pub entered: Enter,
     pub standing: bool,
     pub made: u32,
@@ -56,26 +57,13 @@ fn first_under(net: &Network, train: &Train, blocks: &[u32]) -> usize
     at
 }
 
-// These blocks without the first ones, so many.
-fn without_first(alloc: Global, blocks: Vec<u32>, count: usize) -> Result<List<u32>, NoMemory>
-    requires { count ≤ length blocks.items }
-    ensures { IfOk result (λ rest. rest ≡ drop count blocks.items) }
-{
-    if count == 0 {
-        return Ok(List::from_vec(blocks));
-    }
-    let (_, rest) = blocks.as_slice().split_at(count);
-    let rest = Vec::from_slice(alloc, rest)?;
-    Ok(List::from_vec(rest))
-}
-
 impl Place {
     /// The place of a train that has not begun its path.
     pub fn start(alloc: Global) -> Place
         ensures { result ≡ start_place }
     {
         Place {
-            tail: List::new(alloc),
+            tail: Tail::new(alloc),
             entered: Enter::Still,
             standing: true,
             made: 0,
@@ -140,18 +128,16 @@ impl Place {
         net: &Network,
         train: &Train,
         block: u32,
-    ) -> Result<List<u32>, NoMemory>
+    ) -> Result<Tail, NoMemory>
         requires tail { IsTailIn net.now train.now self.now.tail }
         requires block { block < length net.now.blocks }
         ensures { IfOk result (λ tail.
             tail ≡ under_train net.now train.now (self.now.tail ++ block ∷ [])) }
     {
-        let before = self.tail.as_slice();
-        let mut blocks = Vec::with_capacity(alloc, before.len().saturating_add(1))?;
-        blocks.extend_from_slice(before)?;
+        let mut blocks = self.tail.copy(alloc)?;
         blocks.push(block)?;
         let gone = first_under(net, train, blocks.as_slice());
-        let tail = without_first(alloc, blocks, gone)?;
+        let tail = blocks.without_first(alloc, gone)?;
         Ok(tail)
     }
 

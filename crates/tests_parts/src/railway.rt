@@ -7,8 +7,9 @@ ghost use Rattle.rail_types.specs.Timetables.{IsTimetable, timetable_of};
 use no_memory::NoMemory;
 use plan_core::World;
 use rail_types::{
-    Base, Block, Cell, KeptRequest, List, MAX_HORIZON, MAX_JOURNAL_BYTES, MAX_RELEASE, MAX_SETTING, MAX_TICK_S,
-    MIN_JOURNAL_BYTES, Name, Network, Path, Request, Run, Settings, Train, Wanted, Window,
+    Base, Block, Cell, KeptRequest, List, MAX_HORIZON, MAX_JOURNAL_BYTES, MAX_RELEASE, MAX_SETTING,
+    MAX_TICK_S, MIN_JOURNAL_BYTES, Name, Network, Path, Request, Run, Settings, Train, Wanted,
+    Window,
 };
 use std::alloc::Global;
 
