@@ -1,10 +1,11 @@
 -- What entries bring and free since a front, against what is live then and now.
-use Rattle.std.proofs.Common.{◌≡◌, ◌≢◌, ◌⊎◌, ℕ, zero, suc, ◌+◌, ◌-◌, ◌<◌, ◌≤◌, true, false, nat_eq, List, [], ◌∷◌, ◌++◌, length, take, drop, get_or, position, Option, Some, None, option_map, is_some, if◌then◌else◌, All, AllPairs, Any, Contains, inl, inr, sym, ap, subst, refl, ◌∙◌, arith, length-append, slice_get, ℤ, ◌<ℤ◌}
+use Rattle.std.proofs.Common.{◌≡◌, ◌≢◌, ◌⊎◌, ℕ, zero, suc, ◌+◌, ◌-◌, ◌<◌, ◌≤◌, true, false, nat_eq, List, [], ◌∷◌, ◌++◌, length, take, drop, get_or, position, Option, Some, None, option_map, is_some, if◌then◌else◌, All, AllPairs, Any, Contains, inl, inr, sym, ap, subst, refl, ◌∙◌, arith, length-append, length-drop, slice_get, ℤ, ◌<ℤ◌}
 use Rattle.std.proofs.lemmas.Bool.{cases_lt}
 use Rattle.std.proofs.lemmas.Int.{ints}
 use Rattle.std.proofs.Math.Seq.{get_or-append_seam}
 use Rattle.std.proofs.Math.ListN.{get_or-append}
 use Rattle.std.proofs.lemmas.Bool.Decides.{nat_tests}
+use Rattle.std.proofs.lemmas.List.{take_all}
 use Rattle.std.proofs.lemmas.List.Elements.{All-append, All-nil, All-cons, All-contains, All-map, Contains-append_left, Contains-append_right}
 use Rattle.std.proofs.lemmas.Option.{slice_get_within}
 use Rattle.rail_types.specs.declared.paths.Claim.{Claim}
@@ -22,7 +23,7 @@ use Rattle.grant_log.specs.Legal.{IsInRange, IsLegal, NoneClash}
 use Rattle.grant_log.specs.Live.{claims_of, freed_by, frees, live_claims, live_from, live_of, owned_by}
 use Rattle.grant_log.specs.Verdict.{breaks}
 use Rattle.grant_log.proofs.Freed.{freed_take}
-use Rattle.grant_log.proofs.Lives.{IsUnfreed, is_live, live_cases, live_from_more, live_is, owned_is, planned_is_live, planned_owner, unfreed_is_live}
+use Rattle.grant_log.proofs.Lives.{IsUnfreed, entry_at, is_live, live_cases, live_from_more, live_is, owned_is, planned_is_live, planned_owner, unfreed_is_live}
 use Rattle.grant_log.proofs.Positions.{is_false, none_passes, not_true, position_none}
 use Rattle.grant_log.proofs.Slices.{is_contained, slice_get_take, take_slice_get}
 use Rattle.grant_log.specs.Rooms.{MayBeHeld}
@@ -125,6 +126,35 @@ module _ (timetable : Timetable) (entries : List Entry) (front : ℕ) where
       ap (λ n. live_from timetable entries front (take n (drop front entries))) next
       ∙ live_from_more timetable entries front (at - front) (drop front entries) entry stands
       ∙ ap (λ n. live_from timetable entries front (take (at - front) (drop front entries)) ++ live_of timetable entries n entry) number
+
+  -- ---- one entry that came alone, and has one claim
+
+  pub brought_one : (claim : Claim) → length entries ≡ front + 1 → claims_at timetable entries front ≡ claim ∷ [] → (claim, of_entry front) ∷ [] ≡ brought_since timetable entries front
+  brought_one claim alone claims =
+      let here = entry_at entries front (omega arith) in
+      let own : claims_of timetable here.0.deed ≡ claim ∷ [] = sym (ap (claims_of_some timetable) here.1) ∙ claims in
+      let none : freed_by entries front ≡ None = unfreed_by entries front (λ k entry later stands deed. absurd (let within = slice_get_within entries k entry stands in omega (arith, within))) in
+      let live : live_of timetable entries front here.0 ≡ owned_by front (claims_of timetable here.0.deed) = rw none refl in
+      let one : front + 1 - front ≡ 1 = omega arith in
+      let nothing : front - front ≡ 0 = omega arith in
+      let whole : take 1 (drop front entries) ≡ drop front entries = take_all 1 (drop front entries) (omega (arith, length-drop front entries)) in
+      ap (owned_by front) (sym own)
+      ∙ sym live
+      ∙ ap (λ n. live_from timetable entries front (take n (drop front entries)) ++ live_of timetable entries front here.0) (sym nothing)
+      ∙ sym (brought_more front here.0 (omega arith) here.1)
+      ∙ ap (λ n. live_from timetable entries front (take n (drop front entries))) one
+      ∙ ap (live_from timetable entries front) whole
+
+  -- it is no Free, which has none
+  pub none_freed : (claim : Claim) → length entries ≡ front + 1 → claims_at timetable entries front ≡ claim ∷ [] → AreFreedBelow timetable entries front (length entries) []
+  none_freed claim alone claims = record {
+    each = All-nil (IsFreedSince timetable entries front);
+    whole = λ at by entry before from below here frees.
+        let same : by ≡ front = omega (arith, alone, from, below) in
+        let own : claims_of timetable entry.deed ≡ claim ∷ [] = sym (ap (claims_of_some timetable) here) ∙ ap (claims_at timetable entries) same ∙ claims in
+        let wrong : ◌≡◌ {A = List Claim} [] (claim ∷ []) = ap (claims_of timetable) (sym frees) ∙ own in
+        absurd cc;
+  }
 
   -- ---- what was freed
 

@@ -1,5 +1,5 @@
 -- Elements of lists and of filtered lists.
-use Rattle.std.proofs.Common.{◌≡◌, ◌≢◌, ◌↔◌, ◌⊎◌, ℕ, zero, suc, Bool, true, false, not, nat_eq, List, [], ◌∷◌, filter, get_or, All, Contains, inl, inr, sym, ap, subst, refl, ◌∙◌, arith, cond}
+use Rattle.std.proofs.Common.{◌≡◌, ◌≢◌, ◌↔◌, ◌⊎◌, ℕ, zero, suc, Bool, true, false, not, nat_eq, List, [], ◌∷◌, filter, length, get_or, All, Contains, inl, inr, sym, ap, subst, refl, ◌∙◌, arith, cond}
 use Rattle.std.proofs.lemmas.Bool.Decides.{nat_tests}
 use Rattle.std.proofs.lemmas.List.Elements.{All-contains, All-contains_itself, All-filter, filter_passes}
 use Rattle.rail_types.specs.declared.entries.Owner.{Owner}
@@ -23,6 +23,12 @@ contains_cases y x xs (suc k, within, here) = inr (k, omega arith, here)
 
 pub no_element : {X : Type 0} (x : X) → Contains [] x → ⊥
 no_element x (k, within, here) = absurd (omega arith)
+
+-- a list of one element is its first
+pub only_one : {X : Type 0} (xs : List X) (other : X) → length xs ≡ 1 → xs ≡ get_or xs 0 other ∷ []
+only_one [] other one = absurd (omega (arith, one))
+only_one (x ∷ []) other one = refl
+only_one (x ∷ y ∷ xs) other one = absurd (omega (arith, one))
 
 module _ {X : Type 0} (p : X → Bool) where
   pub filter_from : (xs : List X) (x : X) → Contains (filter p xs) x → Contains xs x × (p x ≡ true)

@@ -23,6 +23,8 @@ use std::alloc::Global;
 /// What an entry changes of the claims that are held.
 #[derive(Debug, Drop)]
 pub enum Change {
+    /// This one claim comes.
+    One(Claim, Owner),
     /// These claims come.
     Gained(List<(Claim, Owner)>),
     /// The entry at this position had these claims, and they go.
@@ -45,11 +47,15 @@ pub fn change_of(
             let lost = claims_at(alloc, history, *at)?;
             Ok(Change::Lost(*at, List::from_vec(lost)))
         }
-        _ => {
-            let mut gained = Vec::new(alloc);
-            push_owned(&mut gained, claims, history.front())?;
-            Ok(Change::Gained(List::from_vec(gained)))
-        }
+        // A hold without a reason has one claim, which needs no list.
+        _ => match claims {
+            [claim] => Ok(Change::One(*claim, Owner::Entry(history.front()))),
+            _ => {
+                let mut gained = Vec::new(alloc);
+                push_owned(&mut gained, claims, history.front())?;
+                Ok(Change::Gained(List::from_vec(gained)))
+            }
+        },
     }
 }
 
@@ -72,6 +78,7 @@ pub fn reserve_change(
     claims_are_on_the_network();
     history.net();
     match change {
+        Change::One(claim, owner) => reserve_for(alloc, book, &[(*claim, *owner)]),
         Change::Gained(claims) => reserve_for(alloc, book, claims.as_slice()),
         Change::Lost(_, _) => Ok(()),
     }
@@ -96,6 +103,7 @@ pub fn follow(book: &mut Occupations, history: &History, entry: &Entry, change: 
     history.net();
     history.front();
     match change {
+        Change::One(claim, owner) => hold_all(book, &[(*claim, *owner)]),
         Change::Gained(claims) => hold_all(book, claims.as_slice()),
         Change::Lost(at, claims) => {
             book.take_out(claims.as_slice(), Owner::Entry(*at));

@@ -1,7 +1,7 @@
 //! Copies brought up by the entries since they were made.
 
-ghost use Rattle.std.specs.Prelude.{◌≡◌, ◌≢◌, ◌↔◌, ◌<◌, ◌≤◌, ◌++◌, ℕ, All, Contains, IfOk, IfSome};
-ghost use Rattle.std.specs.Prelude.{IsNone, OnErr, OnOk, length, take};
+ghost use Rattle.std.specs.Prelude.{◌≡◌, ◌≢◌, ◌↔◌, ◌<◌, ◌≤◌, ◌∷◌, ◌++◌, [], ℕ, All, Contains};
+ghost use Rattle.std.specs.Prelude.{IfOk, IfSome, IsNone, OnErr, OnOk, length, take};
 ghost use Rattle.rail_types.specs.declared.entries.Deed.TheVariants.{Free as deed_free};
 ghost use Rattle.rail_types.specs.declared.entries.Owner.TheVariants.{Entry as of_entry};
 ghost use Rattle.rail_types.specs.Occupation.{HeldClaim};
@@ -12,7 +12,7 @@ ghost use Rattle.grant_log.specs.Live.{owned_by};
 ghost use Rattle.grant_log.specs.Since.{AreFreedBelow, brought_since};
 ghost use Rattle.grant_log.specs.Since.{claims_at as claims_standing_at};
 
-use crate::copy_since::holding::hold_in_order;
+use crate::copy_since::holding::{hold_all, hold_in_order};
 use crate::copy_since::rooms::reserve_for;
 use crate::{
     History, claims_are_on_the_network, grants_keep_their_requests, legal_histories_never_clash,
@@ -54,6 +54,11 @@ pub fn bring_up(
     claims_are_on_the_network();
     history.net();
     history.front();
+    // A hold of one claim that came alone needs no list.
+    if let Some(one) = brought_alone(history, front) {
+        hold_brought(alloc, history, front, copy, &[one])?;
+        return Ok(());
+    }
     let freed = freed_since(alloc, history, front)?;
     let brought = brought_since(alloc, history, front)?;
     reserve_for(alloc, copy, &brought)?;
@@ -113,6 +118,55 @@ fn freed_before(deed: &Deed, front: u64) -> Option<u64>
         Deed::Free(at) if *at < front => Some(*at),
         _ => None,
     }
+}
+
+// The claim that came since with its owner, where one entry came, which is a hold of one claim.
+fn brought_alone(history: &History, front: u64) -> Option<(Claim, Owner)>
+    requires { front ≤ length history.now.entries }
+    ensures brought { IfSome result (λ one.
+        one ∷ [] ≡ brought_since history.now.timetable history.now.entries front) }
+    ensures freed { IfSome result (λ one.
+        AreFreedBelow history.now.timetable history.now.entries front
+        (length history.now.entries) []) }
+{
+    if history.front() - front != 1 {
+        return None;
+    }
+    match claims_of_hold(history, front)? {
+        [claim] => Some((*claim, Owner::Entry(front))),
+        _ => None,
+    }
+}
+
+// Holds what was brought since, where nothing was freed. Room for it is made first; for want of
+// memory the claims of the copy stay.
+fn hold_brought(
+    alloc: Global,
+    history: &History,
+    front: u64,
+    copy: &mut Occupations,
+    brought: &[(Claim, Owner)],
+) -> Result<(), NoMemory>
+    requires front { front ≤ length history.now.entries }
+    requires zones { length copy.old ≡ history.now.timetable.net.zones }
+    requires live { AreLive history.now.timetable (held copy.old)
+        (take front history.now.entries) }
+    requires brought { brought.now ≡ brought_since history.now.timetable history.now.entries front }
+    requires freed { AreFreedBelow history.now.timetable history.now.entries front
+        (length history.now.entries) [] }
+    ensures live { OnOk result
+        (AreLive history.now.timetable (held copy.new) history.now.entries) }
+    ensures zones { length copy.new ≡ length copy.old }
+    ensures err { OnErr result (claims_by_zone copy.new ≡ claims_by_zone copy.old) }
+{
+    legal_histories_never_clash();
+    grants_keep_their_requests();
+    claims_are_on_the_network();
+    history.net();
+    history.front();
+    reserve_for(alloc, copy, brought)?;
+    hold_all(copy, brought);
+    Ok(())
 }
 
 // The entries before the front that one from there on frees, with their claims.
