@@ -182,7 +182,7 @@ fn entry_of(alloc: Global, client: &Client, ask: &Ask, path: Path) -> Result<Ent
     ensures { IfOk result (λ entry. entry ≡ entry_for client.now.name ask.now path) }
 {
     let owner = client.name().copy(alloc)?;
-    let request = KeptRequest::new(alloc, ask.request.copy(alloc)?)?;
+    let request = KeptRequest::copy_of(alloc, &ask.request)?;
     Ok(Entry {
         owner,
         number: ask.number,

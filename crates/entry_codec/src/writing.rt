@@ -1,7 +1,8 @@
 //! An entry's body written.
 
 ghost use Rattle.rail_types.specs.declared.paths.Claim.{Claim as claim_type};
-ghost use Rattle.rail_types.specs.declared.entries.Deed.TheVariants.{Hold};
+ghost use Rattle.rail_types.specs.declared.entries.Deed.TheVariants.{Grant, Hold};
+ghost use Rattle.rail_types.specs.declared.entries.Wanted.TheVariants.{Asked};
 ghost use Rattle.std.specs.Prelude.{◌≡◌, List as list_of, ◌+◌, ◌*◌, ◌^◌, ◌<◌, ◌≤◌, ◌++◌, ◌∷◌, []};
 ghost use Rattle.std.specs.Prelude.{length, All, OnOk, OnErr, IsOk};
 ghost use Rattle.std.specs.List.{flat_map};
@@ -18,7 +19,7 @@ ghost use Rattle.entry_codec.specs.Within.{IsDeedOfItsTypes};
 use byte_fields::{Buffer, put_bytes, put_i64, put_u8, put_u32, put_u64};
 use no_memory::NoMemory;
 use rail_types::{
-    Claim, Claims, Deed, Entry, Name, Request, Run, Stop, Tick, Train, Wanted, Window,
+    Claim, Claims, Deed, Entry, Name, Path, Request, Run, Stop, Tick, Train, Wanted, Window,
 };
 
 // The calls below find the room that `write` makes first, so that none takes memory.
@@ -250,6 +251,22 @@ fn deed_len(deed: &Deed) -> usize
     }
 }
 
+// A path with the request that it answers.
+#[tactic(auto, using(crate::proofs::Appends::deed_lengths))]
+fn add_asked(to: &mut Buffer, request: &Request, path: &Path)
+    requires limits { IsDeedWithinLimits (Grant (Asked request.now) path.now) }
+    requires room { length (deed_text (Grant (Asked request.now) path.now)) ≤ to.old.spare }
+    ensures held { to.new.held
+        ≡ to.old.held ++ deed_text (Grant (Asked request.now) path.now) }
+    ensures spare { to.old.spare
+        ≤ to.new.spare + length (deed_text (Grant (Asked request.now) path.now)) }
+    ensures typed { IsDeedOfItsTypes (Grant (Asked request.now) path.now) }
+{
+    add_train(to, &path.train);
+    add_wish(to, request);
+    add_runs(to, path.runs.as_slice());
+}
+
 #[tactic(auto, using(crate::proofs::Appends::deed_lengths))]
 fn add_deed(to: &mut Buffer, deed: &Deed)
     requires limits { IsDeedWithinLimits deed.now }
@@ -260,11 +277,7 @@ fn add_deed(to: &mut Buffer, deed: &Deed)
 {
     match deed {
         Deed::Hold(claims, reason) => add_hold(to, claims, reason),
-        Deed::Grant(Wanted::Asked(request), path) => {
-            add_train(to, &path.train);
-            add_wish(to, request.get());
-            add_runs(to, path.runs.as_slice());
-        }
+        Deed::Grant(Wanted::Asked(request), path) => add_asked(to, request.get(), path),
         Deed::Grant(Wanted::Pinned, path) => {
             add_train(to, &path.train);
             add_runs(to, path.runs.as_slice());

@@ -142,7 +142,7 @@ fn deed_of(alloc: Global, request: &Request) -> Result<Deed, NoMemory>
         train: request.train.copy(alloc)?,
         runs: List::new(alloc),
     };
-    let request = KeptRequest::new(alloc, request.copy(alloc)?)?;
+    let request = KeptRequest::copy_of(alloc, request)?;
     Ok(Deed::Grant(Wanted::Asked(request), path))
 }
 

@@ -32,6 +32,13 @@ impl KeptRequest {
         })
     }
 
+    /// An equal request, kept apart.
+    pub fn copy_of(alloc: Global, request: &Request) -> Result<KeptRequest, NoMemory>
+        ensures { IfOk result (λ kept. kept ≡ request.now) }
+    {
+        KeptRequest::new(alloc, request.copy(alloc)?)
+    }
+
     /// The request.
     pub fn get(&self) -> &Request
         ensures { result.now ≡ self.now }
@@ -43,6 +50,6 @@ impl KeptRequest {
     pub fn copy(&self, alloc: Global) -> Result<KeptRequest, NoMemory>
         ensures { IfOk result (λ other. other ≡ self.now) }
     {
-        KeptRequest::new(alloc, self.request.copy(alloc)?)
+        KeptRequest::copy_of(alloc, self.get())
     }
 }
