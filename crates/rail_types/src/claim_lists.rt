@@ -4,24 +4,29 @@ ghost use Rattle.std.specs.Prelude.{◌≡◌, ◌∷◌, [], length, IfOk};
 
 use crate::{Claim, List};
 use no_memory::NoMemory;
-use smallvec::SmallVec;
 use std::alloc::Global;
 use std::marker::Model;
+use std::slice;
 
 /// Claims, which contracts see as their list. One alone, as most holds have, takes no memory of its
 /// own.
 #[derive(Debug, Drop)]
 pub struct Claims {
-    claims: SmallVec<Claim, 1>,
+    // A claim that is alone, or none where there are several or none.
+    alone: Option<Claim>,
+    rest: List<Claim>,
 }
 
 impl Model for Claims {
-    ghost use Rattle.std.specs.Prelude.{List as list_of};
+    ghost use Rattle.std.specs.Prelude.{◌≡◌, ◌⊎◌, ◌++◌, [], None, List as list_of};
+    ghost use Rattle.std.specs.Option.{option_to_list};
     ghost use Rattle.rail_types.specs.declared.paths.Claim.{Claim as claim_type};
 
     ghost Value = { list_of claim_type };
 
-    ghost view = { λ a. a.claims.items };
+    ghost view = { λ a. option_to_list a.alone ++ a.rest };
+
+    ghost invariant = { λ a. (a.rest ≡ []) ⊎ (a.alone ≡ None) };
 }
 
 impl Claims {
@@ -30,7 +35,8 @@ impl Claims {
         ensures { result ≡ claim ∷ [] }
     {
         Claims {
-            claims: SmallVec::from_buf(alloc, [claim]),
+            alone: Some(claim),
+            rest: List::new(alloc),
         }
     }
 
@@ -39,7 +45,8 @@ impl Claims {
         ensures { result ≡ claims }
     {
         Claims {
-            claims: SmallVec::from_vec(claims.into_vec()),
+            alone: None,
+            rest: claims,
         }
     }
 
@@ -47,14 +54,17 @@ impl Claims {
     pub fn as_slice(&self) -> &[Claim]
         ensures { result.now ≡ self.now }
     {
-        self.claims.as_slice()
+        match &self.alone {
+            Some(claim) => slice::from_ref(claim),
+            None => self.rest.as_slice(),
+        }
     }
 
     /// How many claims there are.
     pub fn len(&self) -> usize
         ensures { result ≡ length self.now }
     {
-        self.claims.as_slice().len()
+        self.as_slice().len()
     }
 
     /// An equal list of its own.
@@ -62,7 +72,8 @@ impl Claims {
         ensures { IfOk result (λ other. other ≡ self.now) }
     {
         Ok(Claims {
-            claims: SmallVec::from_slice(alloc, self.claims.as_slice())?,
+            alone: self.alone,
+            rest: self.rest.copy(alloc)?,
         })
     }
 }

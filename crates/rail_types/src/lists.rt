@@ -38,14 +38,6 @@ impl<T> List<T> {
         List { items }
     }
 
-    /// A vector of the elements.
-    pub fn into_vec(self) -> Vec<T>
-        ensures { result.items ≡ self }
-    {
-        let List { items } = self;
-        items
-    }
-
     /// The elements as a slice.
     pub fn as_slice(&self) -> &[T]
         ensures { result.now ≡ self.now }

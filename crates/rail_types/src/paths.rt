@@ -12,7 +12,7 @@ use std::alloc::Global;
 pub type Tick = i64;
 
 /// The ticks from `from` on and before `to`; `from` is less than `to` in every claim that is held.
-#[derive(Clone, Copy, Debug, Default, PartialEq, Eq)]
+#[derive(Clone, Copy, Debug, PartialEq, Eq)]
 pub struct Span {
     pub from: Tick,
     pub to: Tick,
@@ -26,7 +26,7 @@ pub struct Window {
 }
 
 /// A zone that is taken for a span of ticks.
-#[derive(Clone, Copy, Debug, Default, PartialEq, Eq)]
+#[derive(Clone, Copy, Debug, PartialEq, Eq)]
 pub struct Claim {
     pub zone: u32,
     pub span: Span,
