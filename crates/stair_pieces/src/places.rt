@@ -134,8 +134,7 @@ impl Place {
         ensures { IfOk result (λ tail.
             tail ≡ under_train net.now train.now (self.now.tail ++ block ∷ [])) }
     {
-        let mut blocks = self.tail.copy(alloc)?;
-        blocks.push(block)?;
+        let blocks = self.tail.behind(alloc, block)?;
         let gone = first_under(net, train, blocks.as_slice());
         let tail = blocks.without_first(alloc, gone)?;
         Ok(tail)

@@ -87,6 +87,15 @@ impl Tail {
         Tail::of(alloc, self.as_slice())
     }
 
+    /// These blocks with another behind them.
+    pub fn behind(&self, alloc: Global, block: u32) -> Result<Tail, NoMemory>
+        ensures { IfOk result (λ tail. tail ≡ self.now ++ block ∷ []) }
+    {
+        let mut tail = self.copy(alloc)?;
+        tail.push(block)?;
+        Ok(tail)
+    }
+
     // These blocks.
     fn of(alloc: Global, blocks: &[u32]) -> Result<Tail, NoMemory>
         ensures { IfOk result (λ tail. tail ≡ blocks.now) }
