@@ -46,8 +46,8 @@ fn read_hold(alloc: Global, fields: &mut Fields<'_>, known: &Known) -> Result<As
 {
     let number = read_position(fields)?;
     let claim = Claim::read(alloc, fields, known, &None)?;
-    let reason = Name::from_bytes(alloc, b"")?;
-    Ok(Ask::Hold(number, Claims::one(alloc, claim), reason))
+    let claims = Claims::one(alloc, claim);
+    Ok(Ask::Hold(number, claims, Name::empty(alloc)))
 }
 
 #[tactic(auto, unfolding(crate::specs::Lines::a_holds))]

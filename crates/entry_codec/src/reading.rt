@@ -138,12 +138,10 @@ fn read_pinned(alloc: Global, fields: &mut Fields) -> Result<Deed, EntryFault>
 }
 
 // A hold without a reason, which has one claim.
-fn plain_hold(alloc: Global, claim: &Claim) -> Result<Deed, EntryFault>
-    ensures one { IfOk result (λ deed. deed ≡ Hold (claim.now ∷ []) []) }
-    ensures memory { IfErr result (λ fault. fault ≡ Memory) }
+fn plain_hold(alloc: Global, claim: &Claim) -> Deed
+    ensures { result ≡ Hold (claim.now ∷ []) [] }
 {
-    let reason = Name::from_bytes(alloc, &[])?;
-    Ok(Deed::Hold(Claims::one(alloc, *claim), reason))
+    Deed::Hold(Claims::one(alloc, *claim), Name::empty(alloc))
 }
 
 #[tactic(auto, unfolding(crate::specs::Reading::deed_field))]
@@ -153,8 +151,7 @@ fn read_deed(alloc: Global, fields: &mut Fields, kind: Kind) -> Result<Deed, Ent
     match kind {
         Kind::Hold => {
             let claim = find_claim(fields)?;
-            let deed = plain_hold(alloc, &claim)?;
-            Ok(deed)
+            Ok(plain_hold(alloc, &claim))
         }
         Kind::Asked => read_asked(alloc, fields),
         Kind::Pinned => read_pinned(alloc, fields),

@@ -1,6 +1,6 @@
 //! Names of clients, trains and places, which contracts see as their bytes.
 
-ghost use Rattle.std.specs.Prelude.{◌≡◌, ◌↔◌, ◌≤◌, length, IfOk, IsTrue};
+ghost use Rattle.std.specs.Prelude.{◌≡◌, ◌↔◌, ◌≤◌, [], length, IfOk, IsTrue};
 
 use no_memory::NoMemory;
 use std::alloc::Global;
@@ -30,6 +30,17 @@ impl Model for Name {
 }
 
 impl Name {
+    /// The name without a byte.
+    pub fn empty(alloc: Global) -> Name
+        ensures { result ≡ [] }
+    {
+        Name {
+            len: 0,
+            place: [0; 15],
+            rest: Vec::new(alloc),
+        }
+    }
+
     /// The name with these bytes.
     pub fn from_bytes(alloc: Global, bytes: &[u8]) -> Result<Name, NoMemory>
         ensures { IfOk result (λ name. name ≡ bytes.now) }

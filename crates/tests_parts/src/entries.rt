@@ -48,8 +48,7 @@ fn hold_of(alloc: Global, line: &str) -> io::Result<Deed> {
 }
 
 fn hold(alloc: Global, claim: Claim) -> Result<Deed, NoMemory> {
-    let reason = Name::from_bytes(alloc, b"")?;
-    Ok(Deed::Hold(Claims::one(alloc, claim), reason))
+    Ok(Deed::Hold(Claims::one(alloc, claim), Name::empty(alloc)))
 }
 
 fn grant(alloc: Global, is_asked: bool, depart: i64) -> Result<Deed, NoMemory> {
