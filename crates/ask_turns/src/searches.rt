@@ -22,7 +22,7 @@ use no_memory::NoMemory;
 use path_labels::find_by;
 use proof_texts::{Proof, proof_text};
 use rail_types::named_network::Named;
-use rail_types::{Deed, Entry, MAX_NUMBER, Path, Settings, Wanted};
+use rail_types::{Deed, Entry, KeptRequest, MAX_NUMBER, Path, Settings, Wanted};
 use std::alloc::Global;
 
 // Searches a path beside the client's copy, and makes room for the reply that tells it. None where
@@ -182,7 +182,7 @@ fn entry_of(alloc: Global, client: &Client, ask: &Ask, path: Path) -> Result<Ent
     ensures { IfOk result (λ entry. entry ≡ entry_for client.now.name ask.now path) }
 {
     let owner = client.name().copy(alloc)?;
-    let request = ask.request.copy(alloc)?;
+    let request = KeptRequest::copy_of(alloc, &ask.request)?;
     Ok(Entry {
         owner,
         number: ask.number,

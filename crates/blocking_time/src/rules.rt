@@ -305,7 +305,7 @@ pub fn keeps(net: &Network, settings: &Settings, path: &Path, wanted: &Wanted) -
         return Some(broken);
     }
     match wanted {
-        Wanted::Asked(request) => first_of_request(net, settings, path, request),
+        Wanted::Asked(request) => first_of_request(net, settings, path, request.get()),
         Wanted::Pinned => None,
     }
 }

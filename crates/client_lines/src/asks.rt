@@ -1,6 +1,6 @@
 //! What the lines of clients ask for.
 
-use rail_types::{Claim, List, Name, Path, Request};
+use rail_types::{Claims, Name, Path, Request};
 
 /// What a line asks for, behind the client's own number for it, which `show` and `front` do not
 /// have: 1 to 64 claims to be held for a reason, by zone and then by begin, where a line without a
@@ -8,7 +8,7 @@ use rail_types::{Claim, List, Name, Path, Request};
 /// an entry to be freed; an entry to be shown; the front.
 #[derive(Debug, Drop)]
 pub enum Ask {
-    Hold(u64, List<Claim>, Name),
+    Hold(u64, Claims, Name),
     Pin(u64, Path),
     Path(u64, Request),
     Free(u64, u64),

@@ -17,7 +17,7 @@ use crate::items::{read_point, read_position, read_reason, read_train, read_wind
 use crate::known::Known;
 use crate::words::{read_first_word, read_word};
 use json_fields::name_text::names_are_spelled_once;
-use rail_types::{Claim, List, MAX_HOLD_CLAIMS, MAX_PINNED_RUNS, MAX_STOPS, Name, Path, Request};
+use rail_types::{Claim, Claims, MAX_HOLD_CLAIMS, MAX_PINNED_RUNS, MAX_STOPS, Name, Path, Request};
 use std::alloc::Global;
 
 /// Most bytes of a line, its end not counted.
@@ -46,10 +46,8 @@ fn read_hold(alloc: Global, fields: &mut Fields<'_>, known: &Known) -> Result<As
 {
     let number = read_position(fields)?;
     let claim = Claim::read(alloc, fields, known, &None)?;
-    let mut claims = Vec::with_capacity(alloc, 1)?;
-    claims.push(claim)?;
-    let claims = List::from_vec(claims);
-    Ok(Ask::Hold(number, claims, Name::from_bytes(alloc, b"")?))
+    let claims = Claims::one(alloc, claim);
+    Ok(Ask::Hold(number, claims, Name::empty(alloc)))
 }
 
 #[tactic(auto, unfolding(crate::specs::Lines::a_holds))]
@@ -60,7 +58,7 @@ fn read_holds(alloc: Global, fields: &mut Fields<'_>, known: &Known) -> Result<A
     let reason = read_reason(alloc, fields)?;
     let count = fields.small_number(1, MAX_HOLD_CLAIMS + 1)?;
     let claims = read_groups(alloc, fields, known, count as usize)?;
-    Ok(Ask::Hold(number, claims, reason))
+    Ok(Ask::Hold(number, Claims::from_list(claims), reason))
 }
 
 #[tactic(auto, unfolding(crate::specs::Lines::a_pin))]

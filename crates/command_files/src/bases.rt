@@ -49,8 +49,15 @@ fn base_of_bytes(alloc: Global, bytes: &[u8], zones: u32) -> Result<Base, Refusa
 {
     match read_base(alloc, bytes, zones) {
         Ok(base) => Ok(base),
-        Err(fault) => Err(base_refusal(alloc, &fault)),
+        Err(fault) => Err(base_refused(alloc, fault)),
     }
+}
+
+// A fault by its text, and the fault let go.
+fn base_refused(alloc: Global, fault: BaseFault) -> Refusal
+    ensures { TellsBase fault result }
+{
+    base_refusal(alloc, &fault)
 }
 
 // A fault by its text.

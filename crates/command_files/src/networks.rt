@@ -78,8 +78,15 @@ fn infra_of(alloc: Global, bytes: Vec<u8>) -> Result<Infra, Refusal>
 {
     match read_infra(alloc, bytes) {
         Ok(infra) => Ok(infra),
-        Err(fault) => Err(read_refusal(alloc, &fault)),
+        Err(fault) => Err(read_refused(alloc, fault)),
     }
+}
+
+// A fault of reading by its text, and the fault let go.
+fn read_refused(alloc: Global, fault: InfraFault) -> Refusal
+    ensures { TellsRead fault result }
+{
+    read_refusal(alloc, &fault)
 }
 
 // A fault of reading by its text.

@@ -35,8 +35,15 @@ fn trains_of_bytes(alloc: Global, bytes: &[u8]) -> Result<Trains, Refusal>
 {
     match read_trains(alloc, bytes) {
         Ok(trains) => Ok(trains),
-        Err(fault) => Err(train_refusal(alloc, &fault)),
+        Err(fault) => Err(train_refused(alloc, fault)),
     }
+}
+
+// A fault by its text, and the fault let go.
+fn train_refused(alloc: Global, fault: TrainFault) -> Refusal
+    ensures { TellsTrains fault result }
+{
+    train_refusal(alloc, &fault)
 }
 
 // A fault by its text.

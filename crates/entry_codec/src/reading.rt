@@ -7,7 +7,7 @@ ghost use Rattle.std.specs.List.{list_all};
 ghost use Rattle.rail_types.specs.declared.entries.Entry.{Entry as entry_type};
 ghost use Rattle.rail_types.specs.Limits.{is_name_byte};
 ghost use Rattle.rail_types.specs.declared.entries.Deed.TheVariants.{Hold};
-ghost use Rattle.entry_codec.specs.declared.faults.EntryFault.TheVariants.{NotEntry, Memory};
+ghost use Rattle.entry_codec.specs.declared.faults.EntryFault.TheVariants.{NotEntry};
 ghost use Rattle.entry_codec.specs.Body.{body_of};
 ghost use Rattle.entry_codec.specs.Within.{HasBody, HasItsTrain, IsFormed};
 ghost use Rattle.entry_codec.specs.Reading.{Gives, before_all, claims_field, reasoned_field};
@@ -28,8 +28,8 @@ use crate::kinds::Kind;
 use crate::passing::{before_all, pass_all};
 use byte_fields::Fields;
 use rail_types::{
-    Claim, Deed, Entry, List, MAX_HOLD_CLAIMS, MAX_OWNER_BYTES, MAX_PINNED_RUNS, MAX_STOPS, Name,
-    Path, Request, Run, Stop, Wanted,
+    Claim, Claims, Deed, Entry, KeptRequest, List, MAX_HOLD_CLAIMS, MAX_OWNER_BYTES,
+    MAX_PINNED_RUNS, MAX_STOPS, Name, Path, Request, Run, Stop, Wanted,
 };
 use std::alloc::Global;
 
@@ -43,7 +43,7 @@ fn read_owner(alloc: Global, fields: &mut Fields) -> Result<Name, EntryFault>
     Ok(Name::from_bytes(alloc, name)?)
 }
 
-fn read_claims(alloc: Global, fields: &mut Fields, count: u32) -> Result<List<Claim>, EntryFault>
+fn read_claims(alloc: Global, fields: &mut Fields, count: u32) -> Result<Claims, EntryFault>
     ensures { Gives fields.new result (claims_field count before_all fields.old) }
 {
     let mut claims = Vec::with_capacity(alloc, count as usize)?;
@@ -52,7 +52,7 @@ fn read_claims(alloc: Global, fields: &mut Fields, count: u32) -> Result<List<Cl
         before = find_next_claim(fields, &before)?;
         claims.push(before)?;
     }
-    Ok(List::from_vec(claims))
+    Ok(Claims::from_list(List::from_vec(claims)))
 }
 
 fn read_stop_items(alloc: Global, fields: &mut Fields, count: u32) -> Result<List<Stop>, EntryFault>
@@ -123,6 +123,7 @@ fn read_asked(alloc: Global, fields: &mut Fields) -> Result<Deed, EntryFault>
         stops,
     };
     let train = train.keep(alloc)?;
+    let request = KeptRequest::new(alloc, request)?;
     Ok(Deed::Grant(Wanted::Asked(request), Path { train, runs }))
 }
 
@@ -136,15 +137,11 @@ fn read_pinned(alloc: Global, fields: &mut Fields) -> Result<Deed, EntryFault>
     Ok(Deed::Grant(Wanted::Pinned, Path { train, runs }))
 }
 
-// A hold without a reason, which has one claim, and room for no more.
-fn plain_hold(alloc: Global, claim: &Claim) -> Result<Deed, EntryFault>
-    ensures one { IfOk result (λ deed. deed ≡ Hold (claim.now ∷ []) []) }
-    ensures memory { IfErr result (λ fault. fault ≡ Memory) }
+// A hold without a reason, which has one claim.
+fn plain_hold(alloc: Global, claim: &Claim) -> Deed
+    ensures { result ≡ Hold (claim.now ∷ []) [] }
 {
-    let mut claims = Vec::with_capacity(alloc, 1)?;
-    claims.push_reserved(*claim);
-    let reason = Name::from_bytes(alloc, &[])?;
-    Ok(Deed::Hold(List::from_vec(claims), reason))
+    Deed::Hold(Claims::one(alloc, *claim), Name::empty(alloc))
 }
 
 #[tactic(auto, unfolding(crate::specs::Reading::deed_field))]
@@ -154,8 +151,7 @@ fn read_deed(alloc: Global, fields: &mut Fields, kind: Kind) -> Result<Deed, Ent
     match kind {
         Kind::Hold => {
             let claim = find_claim(fields)?;
-            let deed = plain_hold(alloc, &claim)?;
-            Ok(deed)
+            Ok(plain_hold(alloc, &claim))
         }
         Kind::Asked => read_asked(alloc, fields),
         Kind::Pinned => read_pinned(alloc, fields),

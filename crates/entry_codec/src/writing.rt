@@ -1,7 +1,8 @@
 //! An entry's body written.
 
 ghost use Rattle.rail_types.specs.declared.paths.Claim.{Claim as claim_type};
-ghost use Rattle.rail_types.specs.declared.entries.Deed.TheVariants.{Hold};
+ghost use Rattle.rail_types.specs.declared.entries.Deed.TheVariants.{Grant, Hold};
+ghost use Rattle.rail_types.specs.declared.entries.Wanted.TheVariants.{Asked};
 ghost use Rattle.std.specs.Prelude.{◌≡◌, List as list_of, ◌+◌, ◌*◌, ◌^◌, ◌<◌, ◌≤◌, ◌++◌, ◌∷◌, []};
 ghost use Rattle.std.specs.Prelude.{length, All, OnOk, OnErr, IsOk};
 ghost use Rattle.std.specs.List.{flat_map};
@@ -17,7 +18,9 @@ ghost use Rattle.entry_codec.specs.Within.{IsDeedOfItsTypes};
 
 use byte_fields::{Buffer, put_bytes, put_i64, put_u8, put_u32, put_u64};
 use no_memory::NoMemory;
-use rail_types::{Claim, Deed, Entry, List, Name, Request, Run, Stop, Tick, Train, Wanted, Window};
+use rail_types::{
+    Claim, Claims, Deed, Entry, Name, Path, Request, Run, Stop, Tick, Train, Wanted, Window,
+};
 
 // The calls below find the room that `write` makes first, so that none takes memory.
 
@@ -199,7 +202,7 @@ fn add_claims(to: &mut Buffer, claims: &[Claim])
     }
 }
 
-fn hold_len(claims: &List<Claim>, reason: &Name) -> usize
+fn hold_len(claims: &Claims, reason: &Name) -> usize
     requires { IsHoldWithinLimits claims.now reason.now }
     ensures length { result ≡ length (hold_text claims.now reason.now) }
     ensures small { result < 2 ^ 16 }
@@ -212,7 +215,7 @@ fn hold_len(claims: &List<Claim>, reason: &Name) -> usize
     }
 }
 
-fn add_hold(to: &mut Buffer, claims: &List<Claim>, reason: &Name)
+fn add_hold(to: &mut Buffer, claims: &Claims, reason: &Name)
     requires limits { IsHoldWithinLimits claims.now reason.now }
     requires room { length (hold_text claims.now reason.now) ≤ to.old.spare }
     ensures held { to.new.held ≡ to.old.held ++ hold_text claims.now reason.now }
@@ -238,13 +241,30 @@ fn deed_len(deed: &Deed) -> usize
     match deed {
         Deed::Hold(claims, reason) => hold_len(claims, reason),
         Deed::Grant(Wanted::Asked(request), path) => {
-            69 + path.train.name.as_bytes().len() + 8 * request.stops.len() + 21 * path.runs.len()
+            let stops = request.get().stops.len();
+            69 + path.train.name.as_bytes().len() + 8 * stops + 21 * path.runs.len()
         }
         Deed::Grant(Wanted::Pinned, path) => {
             25 + path.train.name.as_bytes().len() + 21 * path.runs.len()
         }
         Deed::Free(_) => 8,
     }
+}
+
+// A path with the request that it answers.
+#[tactic(auto, using(crate::proofs::Appends::deed_lengths))]
+fn add_asked(to: &mut Buffer, request: &Request, path: &Path)
+    requires limits { IsDeedWithinLimits (Grant (Asked request.now) path.now) }
+    requires room { length (deed_text (Grant (Asked request.now) path.now)) ≤ to.old.spare }
+    ensures held { to.new.held
+        ≡ to.old.held ++ deed_text (Grant (Asked request.now) path.now) }
+    ensures spare { to.old.spare
+        ≤ to.new.spare + length (deed_text (Grant (Asked request.now) path.now)) }
+    ensures typed { IsDeedOfItsTypes (Grant (Asked request.now) path.now) }
+{
+    add_train(to, &path.train);
+    add_wish(to, request);
+    add_runs(to, path.runs.as_slice());
 }
 
 #[tactic(auto, using(crate::proofs::Appends::deed_lengths))]
@@ -257,11 +277,7 @@ fn add_deed(to: &mut Buffer, deed: &Deed)
 {
     match deed {
         Deed::Hold(claims, reason) => add_hold(to, claims, reason),
-        Deed::Grant(Wanted::Asked(request), path) => {
-            add_train(to, &path.train);
-            add_wish(to, request);
-            add_runs(to, path.runs.as_slice());
-        }
+        Deed::Grant(Wanted::Asked(request), path) => add_asked(to, request.get(), path),
         Deed::Grant(Wanted::Pinned, path) => {
             add_train(to, &path.train);
             add_runs(to, path.runs.as_slice());

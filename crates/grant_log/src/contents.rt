@@ -19,7 +19,7 @@ fn have_same_content(one: &Deed, other: &Deed) -> bool
             same_claims(claims.as_slice(), others.as_slice()) && reason.is_same(other_reason)
         }
         (Deed::Grant(Wanted::Asked(asked), _), Deed::Grant(Wanted::Asked(again), _)) => {
-            asked.is_same(again)
+            asked.get().is_same(again.get())
         }
         (Deed::Grant(Wanted::Pinned, path), Deed::Grant(Wanted::Pinned, again)) => {
             path.is_same(again)

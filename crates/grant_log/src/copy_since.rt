@@ -7,6 +7,4 @@ mod rooms;
 mod since;
 
 pub use changes::{Change, change_of, follow, reserve_change};
-pub use holding::hold_all;
-pub use rooms::reserve_for;
 pub use since::{bring_up, claims_at, copy_of};

@@ -41,7 +41,7 @@ use no_memory::NoMemory;
 use outside_io::{Between, Disk};
 use path_commit::Book;
 use proof_texts::asks_can_be_told;
-use rail_types::{Deed, List, Network, Path, Request, Train, Wanted};
+use rail_types::{Deed, KeptRequest, List, Network, Path, Request, Train, Wanted};
 use std::alloc::Global;
 use std::sync::Wait;
 
@@ -142,7 +142,7 @@ fn deed_of(alloc: Global, request: &Request) -> Result<Deed, NoMemory>
         train: request.train.copy(alloc)?,
         runs: List::new(alloc),
     };
-    let request = request.copy(alloc)?;
+    let request = KeptRequest::copy_of(alloc, request)?;
     Ok(Deed::Grant(Wanted::Asked(request), path))
 }
 

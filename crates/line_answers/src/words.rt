@@ -22,7 +22,7 @@ use book_gate::Pass;
 use client_lines::reply_texts::Reply;
 use outside_io::Disk;
 use path_commit::Book;
-use rail_types::{Claim, Deed, List, Name, Path, Wanted};
+use rail_types::{Claims, Deed, Name, Path, Wanted};
 use std::alloc::Global;
 use std::sync::Wait;
 
@@ -34,7 +34,7 @@ pub(crate) fn hold<R: Wait, D: Disk>(
     pass: &mut Pass<Book<D>>,
     client: &mut Client,
     sent: Sent,
-    claims: List<Claim>,
+    claims: Claims,
     reason: Name,
 ) -> Reply
     requires ready { IsReady shared.now.gate pass.old }

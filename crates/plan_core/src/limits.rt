@@ -1,6 +1,7 @@
 //! Whether the numbers of an entry are within their limits.
 
 ghost use Rattle.std.specs.Prelude.{◌≡◌, ◌↔◌, ◌≤◌, All, AllPairs, IsTrue};
+ghost use Rattle.rail_types.specs.declared.entries.Wanted.TheVariants.{Asked};
 ghost use Rattle.rail_types.specs.declared.limits.TheConstants.{MAX_DWELL};
 ghost use Rattle.rail_types.specs.Limits.{
   IsClaimWithinLimits,
@@ -101,13 +102,17 @@ fn are_apart(claims: &[Claim]) -> bool
     true
 }
 
+fn is_asked(request: &Request, path: &Path) -> bool
+    ensures { IsTrue result ↔ IsGrantWithinLimits (Asked request.now) path.now }
+{
+    is_request(request) && request.train.is_same(&path.train) && is_path(path, u32::MAX)
+}
+
 fn is_grant(wanted: &Wanted, path: &Path) -> bool
     ensures { IsTrue result ↔ IsGrantWithinLimits wanted.now path.now }
 {
     match wanted {
-        Wanted::Asked(request) => {
-            is_request(request) && request.train.is_same(&path.train) && is_path(path, u32::MAX)
-        }
+        Wanted::Asked(request) => is_asked(request.get(), path),
         Wanted::Pinned => is_path(path, MAX_PINNED_RUNS),
     }
 }

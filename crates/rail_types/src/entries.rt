@@ -2,7 +2,7 @@
 
 ghost use Rattle.std.specs.Prelude.{◌≡◌, ◌↔◌, IfOk, IsTrue};
 
-use crate::{Claim, List, Name, Path, Request};
+use crate::{Claim, Claims, KeptRequest, Name, Path};
 use no_memory::NoMemory;
 use std::alloc::Global;
 
@@ -17,7 +17,7 @@ pub enum Owner {
 /// What a granted path answers: a request, or a path that the client gave itself.
 #[derive(Debug, Drop)]
 pub enum Wanted {
-    Asked(Request),
+    Asked(KeptRequest),
     Pinned,
 }
 
@@ -25,7 +25,7 @@ pub enum Wanted {
 /// The claims of a hold stand by zone, then by begin; one without a reason has one claim.
 #[derive(Debug, Drop)]
 pub enum Deed {
-    Hold(List<Claim>, Name),
+    Hold(Claims, Name),
     Grant(Wanted, Path),
     Free(u64),
 }
@@ -69,7 +69,7 @@ impl Wanted {
         ensures { IsTrue result ↔ (self.now ≡ other.now) }
     {
         match (self, other) {
-            (Wanted::Asked(a), Wanted::Asked(b)) => a.is_same(b),
+            (Wanted::Asked(a), Wanted::Asked(b)) => a.get().is_same(b.get()),
             (Wanted::Pinned, Wanted::Pinned) => true,
             _ => false,
         }

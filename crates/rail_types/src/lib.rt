@@ -3,11 +3,13 @@
 #![tactic(auto)]
 
 mod bases;
+mod claim_lists;
 mod entries;
 mod flaws;
 mod forms;
 pub mod id_lists;
 pub mod infra_types;
+mod kept_requests;
 mod laws;
 mod limits;
 mod lists;
@@ -18,8 +20,10 @@ mod tracks;
 mod trains;
 
 pub use bases::{Base, BaseClaim};
+pub use claim_lists::Claims;
 pub use entries::{Deed, Entry, Owner, Settings, Wanted};
 pub use forms::{is_client_name, is_name_byte, is_tick};
+pub use kept_requests::KeptRequest;
 pub use laws::{
     clashes_share_a_tick, first_clashes_are_first, flaws_are_told_apart, limits_are_these,
     networks_without_flaws, tests_are_facts,

@@ -3,7 +3,7 @@
 use crate::railway::{asked, path};
 use crate::words::{first_word, no_memory, not_understood, number_of, small_of, tick_of};
 use no_memory::NoMemory;
-use rail_types::{Claim, Deed, Entry, List, Name, Span, Wanted};
+use rail_types::{Claim, Claims, Deed, Entry, Name, Span, Wanted};
 use std::alloc::Global;
 use std::io;
 
@@ -48,9 +48,7 @@ fn hold_of(alloc: Global, line: &str) -> io::Result<Deed> {
 }
 
 fn hold(alloc: Global, claim: Claim) -> Result<Deed, NoMemory> {
-    let mut claims = List::new(alloc);
-    claims.push(claim)?;
-    Ok(Deed::Hold(claims, Name::from_bytes(alloc, b"")?))
+    Ok(Deed::Hold(Claims::one(alloc, claim), Name::empty(alloc)))
 }
 
 fn grant(alloc: Global, is_asked: bool, depart: i64) -> Result<Deed, NoMemory> {

@@ -7,8 +7,9 @@ ghost use Rattle.rail_types.specs.Timetables.{IsTimetable, timetable_of};
 use no_memory::NoMemory;
 use plan_core::World;
 use rail_types::{
-    Base, Block, Cell, List, MAX_HORIZON, MAX_JOURNAL_BYTES, MAX_RELEASE, MAX_SETTING, MAX_TICK_S,
-    MIN_JOURNAL_BYTES, Name, Network, Path, Request, Run, Settings, Train, Wanted, Window,
+    Base, Block, Cell, KeptRequest, List, MAX_HORIZON, MAX_JOURNAL_BYTES, MAX_RELEASE, MAX_SETTING,
+    MAX_TICK_S, MIN_JOURNAL_BYTES, Name, Network, Path, Request, Run, Settings, Train, Wanted,
+    Window,
 };
 use std::alloc::Global;
 
@@ -126,7 +127,7 @@ pub fn path(alloc: Global, depart: i64) -> Result<Path, NoMemory> {
 
 /// The request of the train for such a path.
 pub fn asked(alloc: Global, depart: i64) -> Result<Wanted, NoMemory> {
-    Ok(Wanted::Asked(Request {
+    let request = Request {
         train: train(alloc)?,
         origin: 0,
         destination: 2,
@@ -139,5 +140,6 @@ pub fn asked(alloc: Global, depart: i64) -> Result<Wanted, NoMemory> {
             to: 17_280,
         },
         stops: List::new(alloc),
-    }))
+    };
+    Ok(Wanted::Asked(KeptRequest::new(alloc, request)?))
 }

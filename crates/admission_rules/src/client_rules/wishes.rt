@@ -54,7 +54,7 @@ pub fn wish_of(deed: &Deed) -> Option<Wish>
     ensures { result ≡ wish_of deed.now }
 {
     match deed {
-        Deed::Grant(Wanted::Asked(request), _path) => Some(asked_wish(request)),
+        Deed::Grant(Wanted::Asked(request), _path) => Some(asked_wish(request.get())),
         Deed::Grant(Wanted::Pinned, path) => given_wish(path),
         Deed::Hold(_claims, _reason) => None,
         Deed::Free(_at) => None,

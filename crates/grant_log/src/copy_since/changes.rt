@@ -47,7 +47,7 @@ pub fn change_of(
             let lost = claims_at(alloc, history, *at)?;
             Ok(Change::Lost(*at, List::from_vec(lost)))
         }
-        // A hold without a reason has one claim, which needs no list.
+        // One claim, as most holds have, needs no list.
         _ => match claims {
             [claim] => Ok(Change::One(*claim, Owner::Entry(history.front()))),
             _ => {

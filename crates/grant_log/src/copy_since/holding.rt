@@ -9,9 +9,9 @@ ghost use Rattle.grant_log.specs.Rooms.{HasRoomFor, MayBeHeld};
 use occupation_book::Occupations;
 use rail_types::{Claim, Owner};
 
-/// Holds these claims too. There must be room for them; they must be free, and no two of
-/// them clash. It takes no memory.
-pub fn hold_all(book: &mut Occupations, claims: &[(Claim, Owner)])
+// Holds these claims too. There must be room for them; they must be free, and no two of
+// them clash. It takes no memory.
+pub(crate) fn hold_all(book: &mut Occupations, claims: &[(Claim, Owner)])
     requires each { All (MayBeHeld (length book.old)) claims.now }
     requires free { All (λ one. IsFree (held book.old) one.0) claims.now }
     requires apart { AllPairs (λ one other. ¬ Clash one.0 other.0) claims.now }

@@ -10,9 +10,9 @@ use occupation_book::Occupations;
 use rail_types::{Claim, Owner};
 use std::alloc::Global;
 
-/// Makes room for these claims on each of their zones. The claims that are held stay,
-/// and so does all room there was.
-pub fn reserve_for(
+// Makes room for these claims on each of their zones. The claims that are held stay,
+// and so does all room there was.
+pub(crate) fn reserve_for(
     alloc: Global,
     book: &mut Occupations,
     claims: &[(Claim, Owner)],

@@ -49,16 +49,15 @@ pub fn bring_up(
     ensures zones { length copy.new ≡ length copy.old }
     ensures err { OnErr result (claims_by_zone copy.new ≡ claims_by_zone copy.old) }
 {
+    // A hold of one claim that came alone needs no list.
+    if let Some(one) = brought_alone(history, front) {
+        return hold_brought(alloc, history, front, copy, &[one]);
+    }
     legal_histories_never_clash();
     grants_keep_their_requests();
     claims_are_on_the_network();
     history.net();
     history.front();
-    // A hold of one claim that came alone needs no list.
-    if let Some(one) = brought_alone(history, front) {
-        hold_brought(alloc, history, front, copy, &[one])?;
-        return Ok(());
-    }
     let freed = freed_since(alloc, history, front)?;
     let brought = brought_since(alloc, history, front)?;
     reserve_for(alloc, copy, &brought)?;

@@ -13,14 +13,11 @@ ghost use Rattle.path_recover.specs.declared.journal_reading.faults.OpenFault.Th
 };
 
 use crate::journal_reading::{OpenFault, is_on};
-use grant_log::copy_since::{Change, change_of, follow, hold_all, reserve_change, reserve_for};
-use grant_log::{
-    History, Verdict, claims_are_on_the_network, fresh_claims_are_free, live_claims_follow,
-    verdicts_say_what_they_mean,
-};
+use grant_log::copy_since::{Change, change_of, follow, reserve_change};
+use grant_log::{History, Verdict, live_claims_follow, verdicts_say_what_they_mean};
 use no_memory::NoMemory;
 use occupation_book::Occupations;
-use rail_types::{Claim, Deed, Entry, Owner};
+use rail_types::{Claim, Deed, Entry};
 use std::alloc::Global;
 
 // The claims of an entry's deed, where its path breaks no rule.
@@ -79,35 +76,6 @@ fn follow_change(
     Ok(())
 }
 
-// Lets the live claims follow an entry that has this one claim, and joins its history. The claim
-// needs no list of its own.
-fn take_one(
-    alloc: Global,
-    history: &History,
-    book: &mut Occupations,
-    entry: &Entry,
-    claim: &Claim,
-) -> Result<(), NoMemory>
-    requires joins { Joins history.now.timetable history.now.entries entry.now }
-    requires claim { claims_of_deed history.now.timetable entry.now.deed ≡ claim.now ∷ [] }
-    requires zones { length book.old ≡ history.now.timetable.net.zones }
-    requires live { AreLive history.now.timetable (held book.old) history.now.entries }
-    ensures zones { OnOk result (length book.new ≡ history.now.timetable.net.zones) }
-    ensures live { OnOk result (AreLive history.now.timetable (held book.new)
-        (history.now.entries ++ entry.now ∷ [])) }
-{
-    verdicts_say_what_they_mean();
-    claims_are_on_the_network();
-    fresh_claims_are_free();
-    live_claims_follow();
-    history.net();
-    let at = history.front();
-    let gained = [(*claim, Owner::Entry(at))];
-    reserve_for(alloc, book, &gained)?;
-    hold_all(book, &gained);
-    Ok(())
-}
-
 // Lets the live claims follow an entry with these claims, which joins its history.
 fn take(
     alloc: Global,
@@ -127,9 +95,6 @@ fn take(
 {
     // What joins is fresh, and so breaks no rule.
     verdicts_say_what_they_mean();
-    if claims.len() == 1 {
-        return take_one(alloc, history, book, entry, &claims[0]);
-    }
     let change = change_of(alloc, history, entry, claims)?;
     follow_change(alloc, history, book, entry, &change)
 }

@@ -1,7 +1,8 @@
 ghost use Rattle.std.specs.Prelude.{◌≡◌, ◌↔◌, ◌<◌, All, IsTrue, length};
+ghost use Rattle.rail_types.specs.declared.entries.Wanted.TheVariants.{Asked};
 ghost use Rattle.grant_log.specs.Legal.{IsDeedOn, IsWantedOn};
 
-use rail_types::{Claim, Deed, Network, Run, Stop, Wanted};
+use rail_types::{Claim, Deed, Network, Request, Run, Stop, Wanted};
 
 /// Whether the zones, blocks and operational points of a deed are those of the network.
 pub fn is_on(net: &Network, deed: &Deed) -> bool
@@ -34,15 +35,19 @@ fn are_stops_of(count: u32, stops: &[Stop]) -> bool
     stops.iter().all(|stop| stop.stop < count)
 }
 
+fn is_request_on(net: &Network, request: &Request) -> bool
+    ensures { IsTrue result ↔ IsWantedOn net.now (Asked request.now) }
+{
+    request.origin < net.stops
+        && request.destination < net.stops
+        && are_stops_of(net.stops, request.stops.as_slice())
+}
+
 fn is_wanted_on(net: &Network, wanted: &Wanted) -> bool
     ensures { IsTrue result ↔ IsWantedOn net.now wanted.now }
 {
     match wanted {
         Wanted::Pinned => true,
-        Wanted::Asked(request) => {
-            request.origin < net.stops
-                && request.destination < net.stops
-                && are_stops_of(net.stops, request.stops.as_slice())
-        }
+        Wanted::Asked(request) => is_request_on(net, request.get()),
     }
 }

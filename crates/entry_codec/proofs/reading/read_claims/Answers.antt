@@ -16,4 +16,4 @@ loop-preserved c =
 pub returns : goal.returns
 returns c =
     claims_done c.loop.before c.loop.claims.items c.args.count c.loop.counter c.loop.fields (claims_field c.args.count before_all c.args.fields.now) c.loop-test.false c.loop.invariant
-    ∙ ap (λ items. Ok (items, c.loop.fields)) (sym c.from_vec.ensures)
+    ∙ ap (λ items. Ok (items, c.loop.fields)) (sym (c.from_list.ensures ∙ c.from_vec.ensures))
