@@ -17,7 +17,7 @@ use client_lines::{Fields, Known, LineFault};
 use json_fields::name_text::names_are_spelled_once;
 use rail_types::{List, Tick, Window};
 use running_time::Enter;
-use stair_pieces::Place;
+use stair_pieces::{Place, Tail};
 use std::alloc::Global;
 use tail_states::Member;
 
@@ -51,10 +51,10 @@ fn take_blocks(
     fields: &mut Fields<'_>,
     known: &Known,
     count: u64,
-) -> Result<List<u32>, LineFault>
+) -> Result<Tail, LineFault>
     ensures { FieldsGive fields.new result (read (many (a_block known.now) count) fields.old) }
 {
-    let mut tail = List::new(alloc);
+    let mut tail = Tail::new(alloc);
     for _ in 0..count {
         let block = take_block(fields, known)?;
         tail.push(block)?;
@@ -92,7 +92,7 @@ fn take_span(fields: &mut Fields<'_>) -> Result<Window, LineFault>
 }
 
 #[tactic(auto, unfolding(crate::specs::Forms::a_state))]
-fn take_state(fields: &mut Fields<'_>, tail: List<u32>) -> Result<Member, LineFault>
+fn take_state(fields: &mut Fields<'_>, tail: Tail) -> Result<Member, LineFault>
     ensures { FieldsGive fields.new result (read (a_state tail) fields.old) }
 {
     let entered = take_small(fields)?;

@@ -55,10 +55,19 @@ all_under net train P (block ∷ blocks) all = elim (leb_tells (suc (metres_of n
   | inr tells ↦ rw (tells.0) (all_under net train P blocks (All-tail P block blocks all))
 ]
 
-pub tail_after : (net : Network) (train : Train) (tail : List ℕ) (block : ℕ) → IsTailIn net train tail → block < length net.blocks → IsTailIn net train (under_train net train (tail ++ block ∷ []))
-tail_after net train tail block is within = record {
+-- a train's tail with one more block of the network behind it
+pub tail_with : (net : Network) (train : Train) (tail : List ℕ) (block : ℕ) → IsTailIn net train tail → block < length net.blocks → IsTailIn net train (tail ++ block ∷ [])
+tail_with net train tail block is within = record {
   blocks = is.blocks;
   train_fits = is.train_fits;
-  numbers = all_under net train (λ block. block < length net.blocks) (tail ++ block ∷ [])
-      (All-append (λ block. block < length net.blocks) tail (block ∷ []) is.numbers (All-cons (λ block. block < length net.blocks) block [] within (All-nil (λ block. block < length net.blocks))));
+  numbers = All-append (λ block. block < length net.blocks) tail (block ∷ []) is.numbers (All-cons (λ block. block < length net.blocks) block [] within (All-nil (λ block. block < length net.blocks)));
 }
+
+pub tail_after : (net : Network) (train : Train) (tail : List ℕ) (block : ℕ) → IsTailIn net train tail → block < length net.blocks → IsTailIn net train (under_train net train (tail ++ block ∷ []))
+tail_after net train tail block is within =
+    let grown = tail_with net train tail block is within in
+    record {
+      blocks = is.blocks;
+      train_fits = is.train_fits;
+      numbers = all_under net train (λ block. block < length net.blocks) (tail ++ block ∷ []) grown.numbers;
+    }

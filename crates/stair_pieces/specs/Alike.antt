@@ -1,6 +1,6 @@
 -- When two places are the same, as a table of places asks.
 use mathlib.Core.Bool.{beq}
-use Rattle.std.proofs.Common.{◌≡◌, ap, refl, arith, ℕ, ◌+◌, ◌++◌, Bool, nat_eq}
+use Rattle.std.proofs.Common.{◌≡◌, ap, refl, arith, ℕ, ◌+◌, ◌*◌, ◌%◌, ◌^◌, fold, Bool, nat_eq}
 use Rattle.std.specs.Bool.{Decides}
 use Rattle.std.specs.Cmp.{IsEquivalence, bool_eq_equiv, booleans_Decides}
 use Rattle.std.specs.Cmp.Lexicographic.{pointwise, bytes_decides}
@@ -11,6 +11,7 @@ use Rattle.std.proofs.lemmas.Bool.Decides.{Decides-and, Decides-eqb, Decides-lik
 use Rattle.std.proofs.lemmas.Cmp.{on_equiv, and_equiv, nat_eq_equiv, nat_list_eq_equiv}
 use Rattle.running_time.specs.declared.edges.Enter.{Enter}
 use Rattle.running_time.specs.declared.edges.Enter.TheVariants.{Still, From}
+use Rattle.stair_pieces.specs.declared.places.TheConstants.{SPREAD}
 use Rattle.stair_pieces.specs.declared.places.Place.{Place}
 
 -- a number for each way to enter a block
@@ -27,10 +28,15 @@ same_place =
     (on (λ place. entry_number place.entered) nat_eq)
     (eq_of_both (on (λ place. place.standing) beq) (on (λ place. place.made) nat_eq)))
 
--- what of a place is hashed
+-- a number, with one more behind it
+abbrev pub word_with : ℕ → ℕ → ℕ
+word_with word number = (word * SPREAD + number) % 2 ^ 64
+
+-- what of a place is hashed: one number of 64 bits for the stops that it has made, how the block of
+-- its head was entered, and the blocks under the train
 abbrev pub hash_words : Place → HashWrites
 hash_words place =
-    fed.slice fed.u32 place.tail ++ fed.u64 (entry_number place.entered) ++ fed.u32 place.made
+    fed.u64 (fold word_with (word_with place.made (entry_number place.entered)) place.tail)
 
 pub same_place-equiv : IsEquivalence same_place
 same_place-equiv =

@@ -4,6 +4,7 @@
 mod claims;
 mod laws;
 mod places;
+mod tail_blocks;
 
 pub use claims::{entry, pieces, standing};
 pub use laws::{
@@ -11,3 +12,4 @@ pub use laws::{
     steps_are_the_stairway, tails_are_longest,
 };
 pub use places::{Place, Step};
+pub use tail_blocks::Tail;

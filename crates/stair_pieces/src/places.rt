@@ -1,13 +1,14 @@
 //! Where a train is at the end of a run, and how it may go on.
 
 ghost use Rattle.std.specs.Prelude.{◌≡◌, ◌≢◌, ◌<◌, ◌≤◌, ◌^◌, ◌++◌, ◌∷◌, [], true, length, drop};
-ghost use Rattle.std.specs.Prelude.{IfOk};
+ghost use Rattle.std.specs.Prelude.{IfOk, fold};
 ghost use Rattle.std.specs.Cmp.{partial_equiv_from_equiv};
 ghost use Rattle.std.proofs.Common.{ap};
 ghost use Rattle.running_time.specs.Limits.{IsEnterWithinLimits};
 ghost use Rattle.stair_pieces.specs.Alike.{
   entry_number,
   hash_words,
+  word_with,
   same_place,
   same_place-equiv,
   same_place-Decides,
@@ -16,18 +17,23 @@ ghost use Rattle.stair_pieces.specs.Places.{place_after, start_place, under_trai
 ghost use Rattle.stair_pieces.specs.Steps.{IsTailIn};
 
 use crate::claims::entry;
+use crate::tail_blocks::Tail;
 use no_memory::NoMemory;
-use rail_types::{List, Network, Train};
+use rail_types::{Network, Train};
 use running_time::{Edge, Enter};
 use std::alloc::Global;
 use std::hash::{Hash, Hasher};
+
+// By what the number of a place is multiplied for each block under the train: odd, and its bits in
+// no order, 2^64 by the golden ratio.
+const SPREAD: u64 = 0x9e37_79b9_7f4a_7c15;
 
 /// Where a train is at the end of a run: the blocks from the oldest that is still under it to that
 /// of its head, how it entered the last of them, whether it stands now, and how many named stops it
 /// has made, one more behind an end.
 #[derive(Debug, Drop)]
 pub struct Place {
-    pub tail: List<u32>,
+    pub tail: Tail,
     pub entered: Enter,
     pub standing: bool,
     pub made: u32,
@@ -56,26 +62,13 @@ fn first_under(net: &Network, train: &Train, blocks: &[u32]) -> usize
     at
 }
 
-// These blocks without the first ones, so many.
-fn without_first(alloc: Global, blocks: Vec<u32>, count: usize) -> Result<List<u32>, NoMemory>
-    requires { count ≤ length blocks.items }
-    ensures { IfOk result (λ rest. rest ≡ drop count blocks.items) }
-{
-    if count == 0 {
-        return Ok(List::from_vec(blocks));
-    }
-    let (_, rest) = blocks.as_slice().split_at(count);
-    let rest = Vec::from_slice(alloc, rest)?;
-    Ok(List::from_vec(rest))
-}
-
 impl Place {
     /// The place of a train that has not begun its path.
     pub fn start(alloc: Global) -> Place
         ensures { result ≡ start_place }
     {
         Place {
-            tail: List::new(alloc),
+            tail: Tail::new(alloc),
             entered: Enter::Still,
             standing: true,
             made: 0,
@@ -140,18 +133,15 @@ impl Place {
         net: &Network,
         train: &Train,
         block: u32,
-    ) -> Result<List<u32>, NoMemory>
+    ) -> Result<Tail, NoMemory>
         requires tail { IsTailIn net.now train.now self.now.tail }
         requires block { block < length net.now.blocks }
         ensures { IfOk result (λ tail.
             tail ≡ under_train net.now train.now (self.now.tail ++ block ∷ [])) }
     {
-        let before = self.tail.as_slice();
-        let mut blocks = Vec::with_capacity(alloc, before.len().saturating_add(1))?;
-        blocks.extend_from_slice(before)?;
-        blocks.push(block)?;
+        let blocks = self.tail.with_behind(alloc, block)?;
         let gone = first_under(net, train, blocks.as_slice());
-        let tail = without_first(alloc, blocks, gone)?;
+        let tail = blocks.without_first(alloc, gone)?;
         Ok(tail)
     }
 
@@ -178,6 +168,24 @@ fn number_of(entered: Enter) -> u64
     }
 }
 
+// A number, with one more behind it.
+fn word_with(word: u64, number: u64) -> u64
+    ensures { result ≡ word_with word number }
+{
+    word.wrapping_mul(SPREAD).wrapping_add(number)
+}
+
+// One number for the blocks under a train, from that of all else of a place.
+fn word_of(tail: &[u32], other: u64) -> u64
+    ensures { result ≡ fold word_with other tail.now }
+{
+    let mut word = other;
+    for block in tail {
+        word = word_with(word, u64::from(*block));
+    }
+    word
+}
+
 impl PartialEq for Place {
     ghost eq = { same_place };
 
@@ -201,8 +209,7 @@ impl Hash for Place {
     ghost respects_eq = { λ a b same. ap hash_words ((same_place-Decides a b).0 same) };
 
     fn hash<H: Hasher>(&self, state: &mut H) {
-        self.tail.as_slice().hash(state);
-        state.write_u64(number_of(self.entered));
-        state.write_u32(self.made);
+        let other = word_with(u64::from(self.made), number_of(self.entered));
+        state.write_u64(word_of(self.tail.as_slice(), other));
     }
 }
