@@ -8,11 +8,11 @@ use std::alloc::Global;
 use std::marker::Model;
 use std::slice;
 
-/// Claims, which contracts see as their list. One alone, as most holds have, takes no memory of its
+/// Claims, which contracts see as their list. That of `one`, as of most holds, has no memory of its
 /// own.
 #[derive(Debug, Drop)]
 pub struct Claims {
-    // A claim that is alone, or none where there are several or none.
+    // The claim of `one`, and none where the claims came in one list.
     alone: Option<Claim>,
     rest: List<Claim>,
 }
