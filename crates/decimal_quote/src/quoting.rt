@@ -1,7 +1,7 @@
 //! One pass over a text, piece by piece.
 
 ghost use Rattle.std.specs.Prelude.{◌≡◌, ℕ, List, length, ◌<◌, ◌≤◌, IfOk, OnOk, OnErr, ◌++◌};
-ghost use Rattle.std.specs.Prelude.{IsTrue, ◌↔◌};
+ghost use Rattle.std.specs.Prelude.{IsTrue, ◌↔◌, true};
 ghost use Rattle.std.specs.List.{prefix_len};
 ghost use Rattle.decimal_quote.specs.Quoted.{AreCut, HaveLongestRuns, IsQuoted, piece_length};
 ghost use Rattle.decimal_quote.specs.Quoted.{string_length, shown, needs_marks, is_number_byte};
@@ -22,12 +22,22 @@ pub fn quote(alloc: Global, text: &[u8]) -> Result<Vec<u8>, NoMemory>
         (λ quoted. (other : List ℕ) → IsQuoted text.now other → other ≡ quoted.items) }
 {
     let mut quoted = Vec::with_capacity(alloc, text.len().saturating_mul(2))?;
-    let mut rest = text;
-    'pieces: while !rest.is_empty() {
-        let (piece, behind) = rest.split_at(first_piece(rest));
-        push_piece(&mut quoted, piece)?;
-        rest = behind;
+    // What stands behind the last number with marks, and how much of it is to stay as it is.
+    let mut held = text;
+    let mut plain = 0;
+    'pieces: while plain < held.len() {
+        let (front, rest) = held.split_at(plain);
+        let length = first_piece(rest);
+        let (piece, behind) = rest.split_at(length);
+        if is_to_be_marked(piece) {
+            push_marked(&mut quoted, front, piece)?;
+            held = behind;
+            plain = 0;
+        } else {
+            plain += length;
+        }
     }
+    quoted.extend_from_slice(held)?;
     Ok(quoted)
 }
 
@@ -91,19 +101,14 @@ fn is_in_number(byte: u8) -> bool
     byte.is_ascii_digit() || matches!(byte, b'.' | b'-' | b'+' | b'e' | b'E')
 }
 
-fn push_piece(to: &mut Vec<u8>, piece: &[u8]) -> Result<(), NoMemory>
-    ensures ok { OnOk result (to.new.items ≡ to.old.items ++ shown piece.now) }
+/// Puts what stays as it is, and behind it a number between marks.
+fn push_marked(to: &mut Vec<u8>, front: &[u8], number: &[u8]) -> Result<(), NoMemory>
+    requires { needs_marks number.now ≡ true }
+    ensures ok { OnOk result (to.new.items ≡ (to.old.items ++ front.now) ++ shown number.now) }
 {
-    if piece.len() == 1 {
-        to.push(piece[0])?;
-        return Ok(());
-    }
-    if !is_to_be_marked(piece) {
-        to.extend_from_slice(piece)?;
-        return Ok(());
-    }
+    to.extend_from_slice(front)?;
     to.push(MARK)?;
-    to.extend_from_slice(piece)?;
+    to.extend_from_slice(number)?;
     to.push(MARK)?;
     Ok(())
 }
@@ -111,5 +116,5 @@ fn push_piece(to: &mut Vec<u8>, piece: &[u8]) -> Result<(), NoMemory>
 fn is_to_be_marked(piece: &[u8]) -> bool
     ensures { result ≡ needs_marks piece.now }
 {
-    is_number(piece) && !is_short_whole(piece)
+    piece.len() > 1 && is_number(piece) && !is_short_whole(piece)
 }
