@@ -41,6 +41,7 @@ fn read_show(fields: &mut Fields<'_>) -> Result<Ask, LineFault>
 }
 
 #[tactic(auto, unfolding(crate::specs::Lines::a_hold))]
+#[inline(always)]
 fn read_hold(alloc: Global, fields: &mut Fields<'_>, known: &Known) -> Result<Ask, LineFault>
     ensures { Gives fields.new result (read (a_hold known.now) fields.old) }
 {
@@ -108,6 +109,7 @@ fn read_ask(alloc: Global, fields: &mut Fields<'_>, known: &Known) -> Result<Ask
 }
 
 #[tactic(auto, unfolding(crate::specs::Lines::behind))]
+#[inline(always)]
 fn read_behind(
     alloc: Global,
     fields: &mut Fields<'_>,
@@ -128,6 +130,7 @@ fn read_behind(
 }
 
 #[tactic(auto, unfolding(crate::specs::Lines::behind_first))]
+#[inline(always)]
 fn read_fronted(
     alloc: Global,
     fields: &mut Fields<'_>,
@@ -148,6 +151,7 @@ fn read_fronted(
 }
 
 #[tactic(auto, unfolding(crate::specs::Lines::a_line))]
+#[inline(always)]
 fn read_fields(alloc: Global, fields: &mut Fields<'_>, known: &Known) -> Result<Line, LineFault>
     ensures { Gives fields.new result (read (a_line known.now) fields.old) }
 {
@@ -155,6 +159,7 @@ fn read_fields(alloc: Global, fields: &mut Fields<'_>, known: &Known) -> Result<
     read_fronted(alloc, fields, known, first)
 }
 
+#[inline(always)]
 fn read_all(alloc: Global, line: &[u8], known: &Known) -> Result<Line, LineFault>
     requires { length line.now ≤ MAX_LINE_BYTES }
     ensures { GivesAll result (line_reading (a_line known.now) (fields_of line.now)) }
@@ -171,6 +176,7 @@ fn read_all(alloc: Global, line: &[u8], known: &Known) -> Result<Line, LineFault
 /// Reads a line of a client. One that asks for nothing is told its first wrong field, counted from
 /// 1: the first that is not in its form or range, names what is not there, is missing, or is one
 /// too many. Else memory was wanted.
+#[inline(always)]
 pub fn read_line(alloc: Global, line: &[u8], known: &Known) -> Result<Line, LineFault>
     requires { length line.now ≤ MAX_LINE_BYTES }
     // What is read is what the line spells.
