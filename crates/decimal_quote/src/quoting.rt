@@ -1,7 +1,7 @@
 //! One pass over a text, piece by piece.
 
 ghost use Rattle.std.specs.Prelude.{◌≡◌, ℕ, List, length, ◌<◌, ◌≤◌, IfOk, OnOk, OnErr, ◌++◌};
-ghost use Rattle.std.specs.Prelude.{IsTrue, ◌↔◌, true};
+ghost use Rattle.std.specs.Prelude.{IsTrue, ◌↔◌, ◌==◌, ◌&&◌, not, true};
 ghost use Rattle.std.specs.List.{prefix_len};
 ghost use Rattle.decimal_quote.specs.Quoted.{AreCut, HaveLongestRuns, IsQuoted, piece_length};
 ghost use Rattle.decimal_quote.specs.Quoted.{string_length, shown, needs_marks, is_number_byte};
@@ -27,6 +27,10 @@ pub fn quote(alloc: Global, text: &[u8]) -> Result<Vec<u8>, NoMemory>
     let mut plain = 0;
     'pieces: while plain < held.len() {
         let (front, rest) = held.split_at(plain);
+        if stands_alone(rest[0]) {
+            plain += 1;
+            continue;
+        }
         let length = first_piece(rest);
         let (piece, behind) = rest.split_at(length);
         if is_to_be_marked(piece) {
@@ -69,6 +73,13 @@ fn first_piece(text: &[u8]) -> usize
         byte if is_in_number(byte) => 1 + bytes_of_number(rest),
         _ => 1,
     }
+}
+
+/// Whether a byte is a piece of its own that stays as it is.
+fn stands_alone(byte: u8) -> bool
+    ensures { result ≡ (not (byte == 34) && not (is_number_byte byte)) }
+{
+    byte != MARK && !is_in_number(byte)
 }
 
 /// How many bytes a string takes behind its first mark, its last mark included.
