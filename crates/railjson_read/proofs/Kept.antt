@@ -1,7 +1,8 @@
 -- A file reads as what is kept of its halves.
 use Rattle.rail_types.specs.InfraIds.{id_of_placed, id_of_point, id_of_route, id_of_signal, id_of_speed, id_of_switch, id_of_track}
-use Rattle.std.proofs.Common.{◌≡◌, ℕ, pos, List, [], ◌∷◌, ◌++◌, length, map, nat_le, Bool, true, false, if◌then◌else◌, codes, is_some, Option, Some, None, option_and_then, Result, Ok, Err, refl, ap, ◌∙◌, subst, true≢false}
+use Rattle.std.proofs.Common.{◌≡◌, ℕ, pos, List, [], ◌∷◌, ◌++◌, length, map, nat_le, Bool, true, false, if◌then◌else◌, codes, is_some, Option, Some, None, option_and_then, Result, Ok, Err, refl, ap, sym, ◌∙◌, subst, true≢false}
 use Rattle.std.specs.List.{list_any}
+use Rattle.std.specs.Result.{IsErrAnd}
 use Rattle.serde_json.specs.Data.{Data}
 use Rattle.serde_json.specs.Find.{as_object, get}
 use Rattle.rail_types.specs.declared.infra_types.signals.Signal.{Signal}
@@ -14,7 +15,7 @@ use Rattle.json_fields.specs.Reading.{◌>>=◌, or_fault}
 use Rattle.json_fields.specs.Texts.{data_of}
 use Rattle.json_fields.specs.declared.spots.Spot.{Spot}
 use Rattle.infra_fields.specs.declared.faults.InfraFault.{InfraFault}
-use Rattle.infra_fields.specs.declared.faults.InfraFault.TheVariants.{Kind, Limit, NotJson}
+use Rattle.infra_fields.specs.declared.faults.InfraFault.TheVariants.{Kind, Limit, Memory, NotJson}
 use Rattle.infra_fields.specs.declared.faults.What.TheVariants as what
 use Rattle.infra_fields.specs.Fields.{Gives, elements_in, few, list_at, list_or_none, new_id_at, object_at, read_each}
 use Rattle.infra_fields.specs.Kept.{is_in, is_list, is_read, BothOrNone, Each, Keeps, KeepsBy, KeepsHalf, KeepsObject}
@@ -245,6 +246,13 @@ by_halves quoted = by_value (data_of quoted)
 
 pub behind_first : (quoted : List ℕ) (first : FirstLists) → first_at quoted ≡ Ok first → text_at quoted ≡ (others_at first.landmarks quoted >>= λ others. Ok (joined first others))
 behind_first quoted first e = by_halves quoted ∙ ap (λ lists. with_others lists (λ first. others_at first.landmarks quoted)) e
+
+-- a text that has no value is not read
+pub no_text : (r : Result Infra InfraFault) (fault : InfraFault) (quoted : List ℕ) → IsErrAnd r (λ (told : InfraFault). told ≡ fault) → ((fault ≡ Memory → ⊥) → (fault ≡ NotJson) × (data_of quoted ≡ None)) → Gives (λ (infra : Infra). infra) r (text_at quoted)
+no_text (Ok x) fault quoted is why = absurd is
+no_text (Err told) fault quoted is why = λ some.
+    let none = why (λ memory. some (is ∙ memory)) in
+    rw none.1 (ap Err (sym (is ∙ none.0)))
 
 -- what is made of what was read is what is made of the reading
 pub made : {X Y : Type 0} (f : X → Y) (r m : Result X InfraFault) → Gives (λ x. x) r m → Gives (λ y. y) (r >>= λ x. Ok (f x)) (m >>= λ x. Ok (f x))

@@ -1,10 +1,11 @@
 //! From the bytes of a file to its infrastructure.
 
-ghost use Rattle.std.specs.Prelude.{◌≡◌, ℕ, List as list_of, IfOk};
+ghost use Rattle.std.specs.Prelude.{◌≡◌, ℕ, List as list_of, None, IfErr, IfOk};
 ghost use Rattle.serde_json.specs.View.{view};
 ghost use Rattle.decimal_quote.specs.Quoted.{IsQuoted};
 ghost use Rattle.json_fields.specs.Texts.{data_of};
 ghost use Rattle.infra_fields.specs.Fields.{Gives};
+ghost use Rattle.infra_fields.specs.declared.faults.InfraFault.TheVariants.{Memory, NotJson};
 ghost use Rattle.infra_fields.specs.declared.file_values.halves.Half.TheVariants.{Second};
 ghost use Rattle.rail_types.specs.Infras.{IsInfra};
 ghost use Rattle.railjson_read.specs.Files.{first_at, first_of, infra_at, others_at, text_at};
@@ -45,10 +46,24 @@ fn read_text(alloc: Global, bytes: Vec<u8>) -> Result<Infra, InfraFault>
         Gives (λ infra. infra) result (text_at quoted) }
     ensures sound { IfOk result IsInfra }
 {
-    let mut file = QuotedFile::of(alloc, bytes)?;
+    let mut file = quoted(alloc, bytes)?;
     let first = read_first(alloc, &mut file)?;
     let others = read_others(alloc, file, &first.landmarks);
     infra_of(first, others)
+}
+
+/// The text of a file, its numbers quoted.
+fn quoted(alloc: Global, bytes: Vec<u8>) -> Result<QuotedFile, InfraFault>
+    ensures text { IfOk result
+        (λ file. (quoted : list_of ℕ) → IsQuoted bytes.items quoted → quoted ≡ file) }
+    ensures fault { IfErr result (λ fault. (fault ≡ Memory → ⊥) → (quoted : list_of ℕ)
+        → IsQuoted bytes.items quoted → (fault ≡ NotJson) × (data_of quoted ≡ None)) }
+{
+    match QuotedFile::of(alloc, bytes) {
+        Ok(file) => Ok(file),
+        Err(Unread::NotJson) => Err(InfraFault::NotJson),
+        Err(Unread::Memory) => Err(InfraFault::Memory),
+    }
 }
 
 /// The first lists of a file.

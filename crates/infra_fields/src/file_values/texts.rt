@@ -1,9 +1,10 @@
 //! From the bytes of a file to what is kept of its value.
 
-ghost use Rattle.std.specs.Prelude.{◌≡◌, ℕ, List, IfOk};
+ghost use Rattle.std.specs.Prelude.{◌≡◌, ℕ, List, Err, None, IfOk};
 ghost use Rattle.serde_json.specs.Read.{read};
 ghost use Rattle.decimal_quote.specs.Quoted.{IsQuoted};
 ghost use Rattle.json_fields.specs.Texts.{data_of};
+ghost use Rattle.json_fields.specs.declared.texts.Unread.TheVariants.{NotJson};
 ghost use Rattle.infra_fields.specs.Kept.{GivesHalf};
 
 use crate::file_values::file_lists::keep_file;
@@ -11,11 +12,9 @@ use crate::file_values::halves::Half;
 use decimal_quote::quote;
 use json::{Reader, Scratch};
 use json_fields::Unread;
-use no_memory::NoMemory;
 use serde_json::Value;
 use std::alloc::Global;
 use std::marker::Model;
-use std::str;
 
 /// How deep arrays and objects of a file may nest.
 const MAX_DEPTH: usize = 127;
@@ -24,25 +23,30 @@ const MAX_DEPTH: usize = 127;
 /// its strings are read. Contracts see the text's bytes.
 #[derive(Drop)]
 pub struct QuotedFile {
-    quoted: Vec<u8>,
+    quoted: String,
     scratch: Scratch,
 }
 
 impl Model for QuotedFile {
-    ghost use Rattle.std.specs.Prelude.{List, ℕ};
+    ghost use Rattle.std.specs.Prelude.{List, ℕ, string_bytes};
 
     ghost Value = { List ℕ };
 
-    ghost view = { λ a. a.quoted.items };
+    ghost view = { λ a. string_bytes a.quoted };
 }
 
 impl QuotedFile {
-    /// The text of a file of these bytes, which are let go.
-    pub fn of(alloc: Global, bytes: Vec<u8>) -> Result<QuotedFile, NoMemory>
-        ensures { IfOk result
+    /// The text of a file of these bytes, which are let go. What is no UTF-8 has no value.
+    pub fn of(alloc: Global, bytes: Vec<u8>) -> Result<QuotedFile, Unread>
+        ensures text { IfOk result
             (λ file. (quoted : List ℕ) → IsQuoted bytes.items quoted → quoted ≡ file) }
+        ensures none { result ≡ Err NotJson
+            → (quoted : List ℕ) → IsQuoted bytes.items quoted → data_of quoted ≡ None }
     {
         let quoted = quote(alloc, bytes.as_slice())?;
+        let Ok(quoted) = String::from_utf8(quoted) else {
+            return Err(Unread::NotJson);
+        };
         Ok(QuotedFile {
             quoted,
             scratch: Scratch::new(alloc),
@@ -55,10 +59,7 @@ impl QuotedFile {
         ensures same { self.new ≡ self.old }
         ensures kept { GivesHalf half result (data_of self.old) }
     {
-        let Ok(text) = str::from_utf8(self.quoted.as_slice()) else {
-            return Err(Unread::NotJson);
-        };
-        half_of_text(alloc, text, half, &mut self.scratch)
+        half_of_text(alloc, self.quoted.as_str(), half, &mut self.scratch)
     }
 }
 

@@ -1,15 +1,13 @@
-use Rattle.std.proofs.Common.{◌≡◌, ap, ◌∙◌, sym, arith}
+use Rattle.std.proofs.Common.{◌≡◌, ap, ◌∙◌, subst, sym}
 use Rattle.json_fields.specs.Texts.{data_of}
-use Rattle.json_fields.proofs.Bytes.{data_of_other, data_of_text}
+use Rattle.json_fields.proofs.Bytes.{data_of_text}
+use Rattle.serde_json.specs.Read.{read}
+use Rattle.infra_fields.specs.Kept.{GivesHalf}
 use Rattle.infra_fields.proofs.file_values.texts.QuotedFile.half.Goals as goal
-
-pub returns-in_default-clause-kept : goal.returns-in_default-clause-kept
-returns-in_default-clause-kept c =
-    let quoted : c.as_slice.result.now ≡ c.args.self.now = c.as_slice.ensures.value ∙ c.self.view_is in
-    sym (ap data_of quoted) ∙ data_of_other c.as_slice.result.now c.in_default.ensures.cases.0
 
 pub returns-clause-kept : goal.returns-clause-kept
 returns-clause-kept c =
-    let quoted : c.as_slice.result.now ≡ c.args.self.now = c.as_slice.ensures.value ∙ c.self.view_is in
-    let same : c.in-Ok.text.now ≡ c.as_slice.result.now = grind arith in
-    rw (sym (ap data_of quoted), data_of_text c.as_slice.result.now c.in-Ok.ensures.cases.1) (rw same at c.half_of_text.ensures)
+    let same : c.as_str.result.now ≡ c.args.self.now = c.as_str.ensures.value ∙ c.self.view_is in
+    let reads : data_of c.args.self.now ≡ read c.as_str.result.now =
+    sym (ap data_of same) ∙ data_of_text c.as_str.result.now c.as_str.utf8 in
+    subst (GivesHalf c.args.half c.half_of_text.result) (sym reads) c.half_of_text.ensures
