@@ -2,6 +2,7 @@
 use Rattle.std.proofs.Common.{◌≡◌, ℕ, Option, Result, Ok, Err, sym, subst}
 use Rattle.std.specs.Result.{IfErr, IsErrAnd}
 use mathlib.Core.Logic.{inl}
+use Rattle.book_gate.specs.Views.{StartsWith}
 use Rattle.rail_types.specs.declared.entries.Entry.{Entry}
 use Rattle.rail_types.specs.Timetables.{Timetable}
 use Rattle.ask_turns.specs.declared.client_turns.clients.Client.{Client}
@@ -26,6 +27,14 @@ known_halted timetable client NoMemory after v w halted knows =
     subst (Knows timetable client) (sym halted.same) knows
 known_halted timetable client (Ahead named front) after v w halted knows =
     subst (Knows timetable client) (sym halted.0.same) knows
+
+-- what the pass had seen is the beginning of what it has seen behind such a turn
+pub halted_grows : (halt : Halt) (after : Option ℕ) (v w : Sight) → IsHalted halt after v w
+    → StartsWith w.found.list v.seen → StartsWith w.seen v.seen
+halted_grows DiskFault after v w halted more = subst (λ l. StartsWith l v.seen) (sym halted.same) more
+halted_grows NoMemory after v w halted more = subst (λ l. StartsWith l v.seen) (sym halted.same) more
+halted_grows (Ahead named front) after v w halted more =
+    subst (λ l. StartsWith l v.seen) (sym halted.0.same) more
 
 -- such a turn added nothing
 pub halted_stops : (timetable : Timetable) (entry : Entry) (halt : Halt) (after : Option ℕ)

@@ -20,11 +20,11 @@ use Rattle.ask_turns.specs.declared.client_turns.told.Tried.{Tried}
 use Rattle.ask_turns.specs.Told.{EntersIn, StopsIn, TriesIn}
 use Rattle.ask_turns.specs.Turns.{HasEntered, HasTried, IsOpen, IsReached, IsStopped, Looks, Sight, timetable_at}
 use Rattle.ask_turns.proofs.Ended.{enters, looks, same_timetable, stands, stops, tries}
-use Rattle.ask_turns.proofs.Known.{known_longer}
+use Rattle.ask_turns.proofs.Known.{known_longer, starts_trans}
 
 module _ {D : Type 0} (faults : D → ℕ) (gate : Gate (Ledger D) Entry Footing)
-    (old new : Pass (Ledger D) Entry Footing) (client : Client) (after : Option ℕ)
-    (held book left : Ledger D) (open_now : IsOpen faults gate old new client after held)
+    (old new : Pass (Ledger D) Entry Footing) (after : Option ℕ)
+    (held book left : Ledger D) (open_now : IsOpen faults gate old new after held)
     (lent : book ≡ held) where
   pub starts : StartsWith left.entries book.entries → StartsWith left.entries (view new).found.list
   starts more =
@@ -76,17 +76,25 @@ module _ {D : Type 0} (faults : D → ℕ) (gate : Gate (Ledger D) Entry Footing
     pub list_found : book.entries ≡ w.found.list
     list_found = ap (λ (b : Ledger D). b.entries) lent ∙ open_now.list ∙ found_still
 
-    pub copied : IsCopyOf (timetable_at gate) client w.found.list
-    copied = subst (IsCopyOf (timetable_at gate) client) found_still open_now.copy
+    pub copied : (client : Client) → IsCopyOf (timetable_at gate) client (view new).found.list
+        → IsCopyOf (timetable_at gate) client w.found.list
+    copied client copy = subst (IsCopyOf (timetable_at gate) client) found_still copy
 
     pub reaches : IsReached after w.found.list
     reaches = subst (IsReached after) found_still open_now.reached
 
-    pub knows_all : StartsWith left.entries (view new).found.list
+    goes_on_to : StartsWith left.entries (view new).found.list → StartsWith w.seen (view new).found.list
+    goes_on_to more = subst (λ l. StartsWith l (view new).found.list) (sym (ap (λ (x : Sight). x.seen) ends)) more
+
+    -- what the pass had seen is the beginning of what it has seen now
+    pub grows : StartsWith left.entries book.entries → StartsWith w.seen (view old).seen
+    grows more =
+        starts_trans w.seen (view new).found.list (view old).seen (goes_on_to (starts more)) open_now.goes_on
+
+    pub knows_all : (client : Client) → StartsWith left.entries (view new).found.list
         → Knows (timetable_at gate) client (view new).found.list → Knows (timetable_at gate) client w.seen
-    knows_all more knows =
-        known_longer (timetable_at gate) client w.seen (view new).found.list
-        (subst (λ l. StartsWith l (view new).found.list) (sym (ap (λ (x : Sight). x.seen) ends)) more) knows
+    knows_all client more knows =
+        known_longer (timetable_at gate) client w.seen (view new).found.list (goes_on_to more) knows
 
     pub turn_looks : left ≡ book → Looks (view old) w
     turn_looks same =

@@ -16,14 +16,12 @@ use Rattle.path_commit.specs.Footings.{footing_of}
 use Rattle.path_commit.specs.Ledgers.{Ledger, settled_of}
 use Rattle.rail_types.specs.declared.entries.Entry.{Entry}
 use Rattle.rail_types.specs.Timetables.{Timetable}
-use Rattle.ask_turns.specs.declared.client_turns.clients.Client.{Client}
 use Rattle.ask_turns.specs.declared.client_turns.halts.Halt.{Halt}
 use Rattle.ask_turns.specs.declared.client_turns.halts.Halt.TheVariants.{DiskFault, NoMemory, Ahead}
 use Rattle.ask_turns.specs.declared.client_turns.told.Entered.{Entered}
 use Rattle.ask_turns.specs.declared.client_turns.told.Entered.TheVariants.{Settled, Unsettled}
 use Rattle.ask_turns.specs.declared.client_turns.told.Entered.TheVariants.{Refused, Full}
 use Rattle.ask_turns.specs.declared.client_turns.told.Refusal.{Refusal}
-use Rattle.ask_turns.specs.Clients.{IsCopyOf}
 use Rattle.ask_turns.specs.declared.client_turns.told.Tried.{Tried}
 use Rattle.ask_turns.specs.declared.client_turns.told.Tried.TheVariants.{Entered as Judged, Missed}
 use Rattle.ask_turns.specs.Told.{IsRefusal, IsTakenBefore, IsTakenSince, MayEnter}
@@ -138,10 +136,10 @@ IsStopped timetable entry DiskFault after v w =
     CannotSettle v w ⊎ (CannotBegin timetable entry v w × IsReached after w.found.list)
 IsStopped timetable entry halt after v w = IsHalted halt after v w
 
--- *inside*: the turn is open, with nothing pending in the book, and the client's copy is up
+-- *inside*: the turn is open, with nothing pending in the book
 pub record IsOpen {D : Type 0} (faults : D → ℕ) (gate : Gate (Ledger D) Entry Footing)
-    (old new : Pass (Ledger D) Entry Footing) (client : Client) (after : Option ℕ)
-    (book : Ledger D) : Type 0 where
+    (old new : Pass (Ledger D) Entry Footing) (after : Option ℕ) (book : Ledger D)
+    : Type 0 where
   pub own : IsOf footing_of gate new
   pub turn : IsInTurn new
   pub opens : OpensTurn old new
@@ -151,5 +149,4 @@ pub record IsOpen {D : Type 0} (faults : D → ℕ) (gate : Gate (Ledger D) Entr
   pub counts : faults book.disk ≡ (view new).found.count
   pub settled : settled_of book ≡ length book.entries
   pub footing : footing_of book ≡ footing_of (opened gate)
-  pub copy : IsCopyOf (timetable_at gate) client (view new).found.list
   pub reached : IsReached after (view new).found.list

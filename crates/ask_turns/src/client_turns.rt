@@ -9,5 +9,5 @@ mod turns;
 
 pub use clients::Client;
 pub use halts::Halt;
-pub use told::{Entered, Refusal, Standing, Tried};
+pub use told::{Entered, Judged, Refusal, Standing, Tried};
 pub use turns::{enter_entry, find_again, look, show, try_entry};

@@ -100,6 +100,7 @@ pub fn answer_one<R: Wait, L: Rule, D: Disk, B: Between>(
 
 // Prints a reply behind what stands in the buffer of its text. For want of memory nothing comes
 // there, and the buffer of the proof is emptied.
+#[inline(always)]
 fn print(reply: Reply, text: &mut Buffer, proof: &mut Buffer) -> Result<Reply, NoMemory>
     ensures same { IfOk result (λ told. told ≡ reply) }
     ensures text { IfOk result (λ told. text.new.held ≡ text.old.held ++ text_of told) }
@@ -125,6 +126,7 @@ fn refuse(_reply: Reply, proof: &mut Buffer) -> Result<Reply, NoMemory>
 
 // Reads a line and answers it. There is room for the reply, or it tells of no entry
 // that was added and of no fault.
+#[inline(always)]
 fn answer_bytes<R: Wait, L: Rule, D: Disk, B: Between>(
     rt: &R,
     alloc: Global,
@@ -176,6 +178,7 @@ fn answer_bytes<R: Wait, L: Rule, D: Disk, B: Between>(
 }
 
 // Answers a line that was read and that no rule denies, by its word.
+#[inline(always)]
 pub(crate) fn answer_line<R: Wait, D: Disk, B: Between>(
     rt: &R,
     alloc: Global,
@@ -220,7 +223,7 @@ pub(crate) fn answer_line<R: Wait, D: Disk, B: Between>(
                 alloc,
                 shared,
                 &mut guest.pass,
-                &mut guest.client,
+                &guest.client,
                 sent,
                 claims,
                 reason,
@@ -237,7 +240,7 @@ pub(crate) fn answer_line<R: Wait, D: Disk, B: Between>(
                 alloc,
                 shared,
                 &mut guest.pass,
-                &mut guest.client,
+                &guest.client,
                 sent,
                 path,
             )
@@ -261,7 +264,7 @@ pub(crate) fn answer_line<R: Wait, D: Disk, B: Between>(
                 alloc,
                 shared,
                 &mut guest.pass,
-                &mut guest.client,
+                &guest.client,
                 sent,
                 freed,
             )

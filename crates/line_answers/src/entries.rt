@@ -7,6 +7,7 @@ use rail_types::{Deed, Entry};
 use std::alloc::Global;
 
 // The client's entry with this number and deed, for the line of that number.
+#[inline(always)]
 pub(crate) fn entry_of(
     alloc: Global,
     client: &Client,

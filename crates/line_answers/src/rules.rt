@@ -43,6 +43,7 @@ use std::alloc::Global;
 use std::sync::Wait;
 
 // Answers a line that was read. A client without rules takes no turn for them.
+#[inline(always)]
 pub(crate) fn answer_ruled<R: Wait, L: Rule, D: Disk, B: Between>(
     rt: &R,
     alloc: Global,

@@ -17,7 +17,7 @@ use crate::entries::entry_of;
 use crate::lines::Sent;
 use crate::replies::{free_refused, halted, hold_refused, pin_refused};
 use ask_turns::Shared;
-use ask_turns::client_turns::{Client, Entered, enter_entry, look, show};
+use ask_turns::client_turns::{Client, Entered, Judged, enter_entry, look, show};
 use book_gate::Pass;
 use client_lines::reply_texts::Reply;
 use outside_io::Disk;
@@ -27,27 +27,27 @@ use std::alloc::Global;
 use std::sync::Wait;
 
 // Holds claims for a reason.
+#[inline(always)]
 pub(crate) fn hold<R: Wait, D: Disk>(
     rt: &R,
     alloc: Global,
     shared: &Shared<D>,
     pass: &mut Pass<Book<D>>,
-    client: &mut Client,
+    client: &Client,
     sent: Sent,
     claims: Claims,
     reason: Name,
 ) -> Reply
     requires ready { IsReady shared.now.gate pass.old }
     requires budget { 1 ≤ turns_left pass.old }
-    requires knows { Knows (timetable_at shared.now.gate) client.old (view pass.old).seen }
-    requires name { IsClientName client.old.name }
+    requires knows { Knows (timetable_at shared.now.gate) client.now (view pass.old).seen }
+    requires name { IsClientName client.now.name }
     requires within { IsAskWithin (timetable_at shared.now.gate).net
         (hold_of sent.number claims reason) }
     ensures ready { IsReady shared.now.gate pass.new }
     ensures budget { turns_left pass.old ≤ turns_left pass.new + 1 }
-    ensures name { client.new.name ≡ client.old.name }
-    ensures knows { Knows (timetable_at shared.now.gate) client.new (view pass.new).seen }
-    ensures answers { AnswersAllowed shared.now client.old.name sent.line
+    ensures knows { Knows (timetable_at shared.now.gate) client.now (view pass.new).seen }
+    ensures answers { AnswersAllowed shared.now client.now.name sent.line
         (record { after = sent.after; ask = hold_of sent.number claims reason }) result
         (view pass.old) (view pass.new) }
     ensures short { IsBehindEntry 0 result ⊎ AddsNothing result }
@@ -60,21 +60,41 @@ pub(crate) fn hold<R: Wait, D: Disk>(
     let Ok(entry) = entry_of(alloc, client, line, number, Deed::Hold(claims, reason)) else {
         return Reply::NoMemory;
     };
-    match enter_entry(rt, alloc, &shared.gate, pass, client, after, entry) {
-        Ok(Entered::Settled { at, front }) => Reply::Held {
+    match enter_entry(rt, alloc, &shared.gate, pass, after, entry) {
+        Ok(
+            Judged {
+                entered: Entered::Settled { at, front },
+                ..
+            },
+        ) => Reply::Held {
             number,
             entry: at,
             front,
         },
-        Ok(Entered::Unsettled { at, front }) => Reply::Unsettled {
+        Ok(
+            Judged {
+                entered: Entered::Unsettled { at, front },
+                ..
+            },
+        ) => Reply::Unsettled {
             number,
             entry: at,
             front,
         },
-        Ok(Entered::Refused(told)) => hold_refused(number, told, client.front()),
-        Ok(Entered::Full) => Reply::Full {
+        Ok(
+            Judged {
+                entered: Entered::Refused(told),
+                found,
+            },
+        ) => hold_refused(number, told, found),
+        Ok(
+            Judged {
+                entered: Entered::Full,
+                found,
+            },
+        ) => Reply::Full {
             number,
-            front: client.front(),
+            front: found,
         },
         Err(halt) => halted(halt),
     }
@@ -86,20 +106,19 @@ pub(crate) fn pin<R: Wait, D: Disk>(
     alloc: Global,
     shared: &Shared<D>,
     pass: &mut Pass<Book<D>>,
-    client: &mut Client,
+    client: &Client,
     sent: Sent,
     path: Path,
 ) -> Reply
     requires ready { IsReady shared.now.gate pass.old }
     requires budget { 1 ≤ turns_left pass.old }
-    requires knows { Knows (timetable_at shared.now.gate) client.old (view pass.old).seen }
-    requires name { IsClientName client.old.name }
+    requires knows { Knows (timetable_at shared.now.gate) client.now (view pass.old).seen }
+    requires name { IsClientName client.now.name }
     requires within { IsAskWithin (timetable_at shared.now.gate).net (pin_of sent.number path) }
     ensures ready { IsReady shared.now.gate pass.new }
     ensures budget { turns_left pass.old ≤ turns_left pass.new + 1 }
-    ensures name { client.new.name ≡ client.old.name }
-    ensures knows { Knows (timetable_at shared.now.gate) client.new (view pass.new).seen }
-    ensures answers { AnswersAllowed shared.now client.old.name sent.line
+    ensures knows { Knows (timetable_at shared.now.gate) client.now (view pass.new).seen }
+    ensures answers { AnswersAllowed shared.now client.now.name sent.line
         (record { after = sent.after; ask = pin_of sent.number path }) result
         (view pass.old) (view pass.new) }
     ensures short { IsBehindEntry 0 result ⊎ AddsNothing result }
@@ -118,21 +137,41 @@ pub(crate) fn pin<R: Wait, D: Disk>(
     ) else {
         return Reply::NoMemory;
     };
-    match enter_entry(rt, alloc, &shared.gate, pass, client, after, entry) {
-        Ok(Entered::Settled { at, front }) => Reply::Pinned {
+    match enter_entry(rt, alloc, &shared.gate, pass, after, entry) {
+        Ok(
+            Judged {
+                entered: Entered::Settled { at, front },
+                ..
+            },
+        ) => Reply::Pinned {
             number,
             entry: at,
             front,
         },
-        Ok(Entered::Unsettled { at, front }) => Reply::Unsettled {
+        Ok(
+            Judged {
+                entered: Entered::Unsettled { at, front },
+                ..
+            },
+        ) => Reply::Unsettled {
             number,
             entry: at,
             front,
         },
-        Ok(Entered::Refused(told)) => pin_refused(number, told, client.front()),
-        Ok(Entered::Full) => Reply::Full {
+        Ok(
+            Judged {
+                entered: Entered::Refused(told),
+                found,
+            },
+        ) => pin_refused(number, told, found),
+        Ok(
+            Judged {
+                entered: Entered::Full,
+                found,
+            },
+        ) => Reply::Full {
             number,
-            front: client.front(),
+            front: found,
         },
         Err(halt) => halted(halt),
     }
@@ -144,20 +183,19 @@ pub(crate) fn free<R: Wait, D: Disk>(
     alloc: Global,
     shared: &Shared<D>,
     pass: &mut Pass<Book<D>>,
-    client: &mut Client,
+    client: &Client,
     sent: Sent,
     freed: u64,
 ) -> Reply
     requires ready { IsReady shared.now.gate pass.old }
     requires budget { 1 ≤ turns_left pass.old }
-    requires knows { Knows (timetable_at shared.now.gate) client.old (view pass.old).seen }
-    requires name { IsClientName client.old.name }
+    requires knows { Knows (timetable_at shared.now.gate) client.now (view pass.old).seen }
+    requires name { IsClientName client.now.name }
     requires within { IsAskWithin (timetable_at shared.now.gate).net (free_of sent.number freed) }
     ensures ready { IsReady shared.now.gate pass.new }
     ensures budget { turns_left pass.old ≤ turns_left pass.new + 1 }
-    ensures name { client.new.name ≡ client.old.name }
-    ensures knows { Knows (timetable_at shared.now.gate) client.new (view pass.new).seen }
-    ensures answers { AnswersAllowed shared.now client.old.name sent.line
+    ensures knows { Knows (timetable_at shared.now.gate) client.now (view pass.new).seen }
+    ensures answers { AnswersAllowed shared.now client.now.name sent.line
         (record { after = sent.after; ask = free_of sent.number freed }) result
         (view pass.old) (view pass.new) }
     ensures short { IsBehindEntry 0 result ⊎ AddsNothing result }
@@ -170,22 +208,42 @@ pub(crate) fn free<R: Wait, D: Disk>(
     let Ok(entry) = entry_of(alloc, client, line, number, Deed::Free(freed)) else {
         return Reply::NoMemory;
     };
-    match enter_entry(rt, alloc, &shared.gate, pass, client, after, entry) {
-        Ok(Entered::Settled { at, front }) => Reply::Freed {
+    match enter_entry(rt, alloc, &shared.gate, pass, after, entry) {
+        Ok(
+            Judged {
+                entered: Entered::Settled { at, front },
+                ..
+            },
+        ) => Reply::Freed {
             number,
             entry: at,
             freed,
             front,
         },
-        Ok(Entered::Unsettled { at, front }) => Reply::Unsettled {
+        Ok(
+            Judged {
+                entered: Entered::Unsettled { at, front },
+                ..
+            },
+        ) => Reply::Unsettled {
             number,
             entry: at,
             front,
         },
-        Ok(Entered::Refused(told)) => free_refused(number, freed, told, client.front()),
-        Ok(Entered::Full) => Reply::Full {
+        Ok(
+            Judged {
+                entered: Entered::Refused(told),
+                found,
+            },
+        ) => free_refused(number, freed, told, found),
+        Ok(
+            Judged {
+                entered: Entered::Full,
+                found,
+            },
+        ) => Reply::Full {
             number,
-            front: client.front(),
+            front: found,
         },
         Err(halt) => halted(halt),
     }

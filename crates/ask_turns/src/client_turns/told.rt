@@ -41,6 +41,13 @@ pub enum Entered {
     Full,
 }
 
+/// What became of an entry, and the front that its turn found.
+#[derive(Debug, Drop)]
+pub struct Judged {
+    pub entered: Entered,
+    pub found: u64,
+}
+
 /// What became of an entry whose path was searched for.
 #[derive(Debug, Drop)]
 pub enum Tried {
@@ -115,6 +122,7 @@ pub(crate) fn told_again(
 }
 
 // Judges an entry, and takes it into a book with nothing pending.
+#[inline(always)]
 pub(crate) fn enter_in<D: Disk>(
     alloc: Global,
     book: &mut Book<D>,
@@ -140,6 +148,7 @@ pub(crate) fn enter_in<D: Disk>(
 
 // Judges an entry whose path was searched for where the book had so many entries, and takes it into
 // a book with nothing pending.
+#[inline(always)]
 pub(crate) fn try_in<D: Disk>(
     alloc: Global,
     book: &mut Book<D>,

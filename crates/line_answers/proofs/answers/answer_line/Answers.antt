@@ -82,7 +82,7 @@ pub returns-in-Hold-clause-ready : goal.returns-in-Hold-clause-ready
 returns-in-Hold-clause-ready g c = c.hold.ensures.ready
 
 pub returns-in-Hold-clause-name : goal.returns-in-Hold-clause-name
-returns-in-Hold-clause-name g c = c.hold.ensures.name
+returns-in-Hold-clause-name g c = refl
 
 pub returns-in-Hold-clause-knows : goal.returns-in-Hold-clause-knows
 returns-in-Hold-clause-knows g c = c.hold.ensures.knows
@@ -115,7 +115,7 @@ pub returns-in-Pin-clause-ready : goal.returns-in-Pin-clause-ready
 returns-in-Pin-clause-ready g c = c.pin.ensures.ready
 
 pub returns-in-Pin-clause-name : goal.returns-in-Pin-clause-name
-returns-in-Pin-clause-name g c = c.pin.ensures.name
+returns-in-Pin-clause-name g c = refl
 
 pub returns-in-Pin-clause-knows : goal.returns-in-Pin-clause-knows
 returns-in-Pin-clause-knows g c = c.pin.ensures.knows
@@ -148,7 +148,7 @@ pub returns-in-Free-clause-ready : goal.returns-in-Free-clause-ready
 returns-in-Free-clause-ready g c = c.free.ensures.ready
 
 pub returns-in-Free-clause-name : goal.returns-in-Free-clause-name
-returns-in-Free-clause-name g c = c.free.ensures.name
+returns-in-Free-clause-name g c = refl
 
 pub returns-in-Free-clause-knows : goal.returns-in-Free-clause-knows
 returns-in-Free-clause-knows g c = c.free.ensures.knows

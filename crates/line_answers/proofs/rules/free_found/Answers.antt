@@ -69,7 +69,7 @@ pub returns-in-Ok-Some-clause-short : goal.returns-in-Ok-Some-clause-short
 returns-in-Ok-Some-clause-short g c = c.free-reply.ensures.short
 
 pub returns-in-Ok-Some-clause-name : goal.returns-in-Ok-Some-clause-name
-returns-in-Ok-Some-clause-name g c = c.free-reply.ensures.name ∙ c.in-Ok-Some.ensures.name
+returns-in-Ok-Some-clause-name g c = c.in-Ok-Some.ensures.name
 
 pub returns-in-Err-clause-ready : goal.returns-in-Err-clause-ready
 returns-in-Err-clause-ready g c = c.in-Err.ensures.ready

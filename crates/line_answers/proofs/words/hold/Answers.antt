@@ -1,4 +1,5 @@
 use Rattle.std.proofs.Common.{◌⊎◌, refl, sym, ◌∙◌, subst}
+use Rattle.ask_turns.proofs.Known.{known_longer}
 use Rattle.book_gate.specs.Passes.{turns_left, view}
 use Rattle.client_lines.specs.declared.asks.Line.{Line}
 use Rattle.client_lines.specs.declared.asks.Ask.TheVariants as asks
@@ -64,8 +65,8 @@ returns-in-Ok-Refused-clause-answers g c rules allowed =
     let told = c.in-Ok-Refused.told in
     let so = subst (λ (x : Entered). HasEntered timetable c.in-Ok.entry x v w) c.in-Ok-Refused.field-0-is c.in-Ok-Refused.ensures.entered in
     let refused = subst (λ (e : Entry). IsRefusedIn timetable e told v w) c.in-Ok.ensures so in
-    hold_refused caller line c.args.sent.number deed refl refl v w c.in-Ok-Refused.ensures.reached may narrow c.front.result
-    (c.front.ensures ∙ c.in-Ok-Refused.ensures.copy.front) tt told c.hold_refused.result refused c.hold_refused.ensures.tells
+    hold_refused caller line c.args.sent.number deed refl refl v w c.in-Ok-Refused.ensures.reached may narrow c.in-Ok-Refused.found
+    c.in-Ok-Refused.ensures.found tt told c.hold_refused.result refused c.hold_refused.ensures.tells
 
 pub returns-in-Ok-Full-clause-answers : goal.returns-in-Ok-Full-clause-answers
 returns-in-Ok-Full-clause-answers g c rules allowed =
@@ -78,8 +79,8 @@ returns-in-Ok-Full-clause-answers g c rules allowed =
     let narrow : IsNarrowLine caller line = λ request sought. absurd sought in
     let so = subst (λ (x : Entered). HasEntered timetable c.in-Ok.entry x v w) c.in-Ok-Full.field-0-is c.in-Ok-Full.ensures.entered in
     let full = subst (λ (e : Entry). IsFullIn timetable e v w) c.in-Ok.ensures so in
-    full_line caller line c.args.sent.number deed refl refl v w c.in-Ok-Full.ensures.reached may narrow c.front-in-Ok-Full.result
-    (c.front-in-Ok-Full.ensures ∙ c.in-Ok-Full.ensures.copy.front) full
+    full_line caller line c.args.sent.number deed refl refl v w c.in-Ok-Full.ensures.reached may narrow c.in-Ok-Full.found
+    c.in-Ok-Full.ensures.found full
 
 pub returns-in-Err-clause-answers : goal.returns-in-Err-clause-answers
 returns-in-Err-clause-answers g c rules allowed =
@@ -99,56 +100,48 @@ returns-in_default-clause-ready g c = c.requires.ready
 pub returns-in_default-clause-knows : goal.returns-in_default-clause-knows
 returns-in_default-clause-knows g c = c.requires.knows
 
-pub returns-in_default-clause-name : goal.returns-in_default-clause-name
-returns-in_default-clause-name g c = refl
-
 pub returns-in_default-clause-short : goal.returns-in_default-clause-short
 returns-in_default-clause-short g c = inr tt
 
 pub returns-in-Ok-Settled-clause-ready : goal.returns-in-Ok-Settled-clause-ready
 returns-in-Ok-Settled-clause-ready g c = c.in-Ok-Settled.ensures.ready
 
-pub returns-in-Ok-Settled-clause-name : goal.returns-in-Ok-Settled-clause-name
-returns-in-Ok-Settled-clause-name g c = c.in-Ok-Settled.ensures.name
-
 pub returns-in-Ok-Settled-clause-knows : goal.returns-in-Ok-Settled-clause-knows
-returns-in-Ok-Settled-clause-knows g c = c.in-Ok-Settled.ensures.knows
+returns-in-Ok-Settled-clause-knows g c =
+    known_longer (timetable_at c.args.shared.now.gate) c.args.client.now (view c.enter_entry.new.pass).seen
+    (view c.args.pass.now).seen c.in-Ok-Settled.ensures.grows c.requires.knows
 
 pub returns-in-Ok-Unsettled-clause-ready : goal.returns-in-Ok-Unsettled-clause-ready
 returns-in-Ok-Unsettled-clause-ready g c = c.in-Ok-Unsettled.ensures.ready
 
-pub returns-in-Ok-Unsettled-clause-name : goal.returns-in-Ok-Unsettled-clause-name
-returns-in-Ok-Unsettled-clause-name g c = c.in-Ok-Unsettled.ensures.name
-
 pub returns-in-Ok-Unsettled-clause-knows : goal.returns-in-Ok-Unsettled-clause-knows
-returns-in-Ok-Unsettled-clause-knows g c = c.in-Ok-Unsettled.ensures.knows
+returns-in-Ok-Unsettled-clause-knows g c =
+    known_longer (timetable_at c.args.shared.now.gate) c.args.client.now (view c.enter_entry.new.pass).seen
+    (view c.args.pass.now).seen c.in-Ok-Unsettled.ensures.grows c.requires.knows
 
 pub returns-in-Ok-Refused-clause-ready : goal.returns-in-Ok-Refused-clause-ready
 returns-in-Ok-Refused-clause-ready g c = c.in-Ok-Refused.ensures.ready
 
-pub returns-in-Ok-Refused-clause-name : goal.returns-in-Ok-Refused-clause-name
-returns-in-Ok-Refused-clause-name g c = c.in-Ok-Refused.ensures.name
-
 pub returns-in-Ok-Refused-clause-knows : goal.returns-in-Ok-Refused-clause-knows
-returns-in-Ok-Refused-clause-knows g c = c.in-Ok-Refused.ensures.knows
+returns-in-Ok-Refused-clause-knows g c =
+    known_longer (timetable_at c.args.shared.now.gate) c.args.client.now (view c.enter_entry.new.pass).seen
+    (view c.args.pass.now).seen c.in-Ok-Refused.ensures.grows c.requires.knows
 
 pub returns-in-Ok-Full-clause-ready : goal.returns-in-Ok-Full-clause-ready
 returns-in-Ok-Full-clause-ready g c = c.in-Ok-Full.ensures.ready
 
-pub returns-in-Ok-Full-clause-name : goal.returns-in-Ok-Full-clause-name
-returns-in-Ok-Full-clause-name g c = c.in-Ok-Full.ensures.name
-
 pub returns-in-Ok-Full-clause-knows : goal.returns-in-Ok-Full-clause-knows
-returns-in-Ok-Full-clause-knows g c = c.in-Ok-Full.ensures.knows
+returns-in-Ok-Full-clause-knows g c =
+    known_longer (timetable_at c.args.shared.now.gate) c.args.client.now (view c.enter_entry.new.pass).seen
+    (view c.args.pass.now).seen c.in-Ok-Full.ensures.grows c.requires.knows
 
 pub returns-in-Err-clause-ready : goal.returns-in-Err-clause-ready
 returns-in-Err-clause-ready g c = c.in-Err.ensures.ready
 
-pub returns-in-Err-clause-name : goal.returns-in-Err-clause-name
-returns-in-Err-clause-name g c = c.in-Err.ensures.name
-
 pub returns-in-Err-clause-knows : goal.returns-in-Err-clause-knows
-returns-in-Err-clause-knows g c = c.in-Err.ensures.knows
+returns-in-Err-clause-knows g c =
+    known_longer (timetable_at c.args.shared.now.gate) c.args.client.now (view c.enter_entry.new.pass).seen
+    (view c.args.pass.now).seen c.in-Err.ensures.grows c.requires.knows
 
 pub returns-in-Ok-Full-clause-short : goal.returns-in-Ok-Full-clause-short
 returns-in-Ok-Full-clause-short g c = inr tt
@@ -165,9 +158,6 @@ enter_entry-requires-clause-ready g c = c.requires.ready
 
 pub enter_entry-requires-clause-budget : goal.enter_entry-requires-clause-budget
 enter_entry-requires-clause-budget g c = c.requires.budget
-
-pub enter_entry-requires-clause-knows : goal.enter_entry-requires-clause-knows
-enter_entry-requires-clause-knows g c = c.requires.knows
 
 pub returns-in-Ok-Settled-clause-budget : goal.returns-in-Ok-Settled-clause-budget
 returns-in-Ok-Settled-clause-budget g c = one_taken (turns_left c.args.pass.now) (turns_left c.enter_entry.new.pass) c.in-Ok-Settled.ensures.budget

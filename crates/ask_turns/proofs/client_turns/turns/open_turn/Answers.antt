@@ -5,11 +5,9 @@ use Rattle.book_gate.specs.Views.{StartsWith}
 use Rattle.path_commit.specs.Footings.{footing_of}
 use Rattle.path_commit.specs.Ledgers.{Ledger}
 use Rattle.rail_types.specs.declared.entries.Entry.{Entry}
-use Rattle.rail_types.specs.Timetables.{Timetable}
-use Rattle.ask_turns.specs.Clients.{IsCopyOf, Knows}
-use Rattle.ask_turns.specs.Turns.{IsReached, Sight, timetable_at}
-use Rattle.ask_turns.proofs.Ended.{fails_to_settle, looks, same_timetable}
-use Rattle.ask_turns.proofs.Known.{known_longer, none_there, not_err}
+use Rattle.ask_turns.specs.Turns.{IsReached, Sight}
+use Rattle.ask_turns.proofs.Ended.{fails_to_settle, looks}
+use Rattle.ask_turns.proofs.Known.{none_there}
 use Rattle.ask_turns.proofs.Opened as settling
 use Rattle.ask_turns.proofs.client_turns.turns.open_turn.Goals as goal
 
@@ -20,13 +18,6 @@ leave-requires-clause-list g c =
       settling.list g.D.Disk.faults m c.enter-held.result c.book.result.now c.settle.new.self
           c.enter-held.ensures.found c.book.ensures.found c.settle.ensures.entries ∙ sym (append-nil m.found.list),
     )
-
-pub returns-in-Fault-clause-knows : goal.returns-in-Fault-clause-knows
-returns-in-Fault-clause-knows g c =
-    let v : Sight = view c.args.pass.now in let w : Sight = view c.leave.new.pass in
-    let list = ap (λ (x : Sight). x.found.list) c.leave.ensures.served ∙ ap (λ s. s.list) c.enter-held.ensures.found in
-    known_longer (timetable_at c.args.gate.now) c.args.client.now w.found.list v.seen
-    (subst (λ (l : List Entry). StartsWith l v.seen) (sym list) c.enter-held.ensures.seen) c.requires.knows
 
 pub returns-in-Fault-clause-halted : goal.returns-in-Fault-clause-halted
 returns-in-Fault-clause-halted g c =
@@ -43,51 +34,6 @@ returns-in-Fault-clause-halted g c =
     (subst (λ (l : List Entry). StartsWith l v.seen) (sym (ap (λ s. s.list) found)) c.enter-held.ensures.seen)
     list (settling.still_pending faults m given old left found lent entries c.settle.ensures.footing c.in-Fault.ensures.settles.1)
     (settling.pending faults m given old left found lent entries c.in-Fault.ensures.settles.0) (omega arith) rose
-
-pub catch_up-requires : goal.catch_up-requires
-catch_up-requires g c =
-    let v : Sight = view c.args.pass.now in
-    let given : Ledger g.row.D.Denot = c.enter-held.result in let old : Ledger g.row.D.Denot = c.book.result.now in
-    let left : Ledger g.row.D.Denot = c.settle.new.self in let now : Ledger g.row.D.Denot = c.book-2.result.now in
-    let again = c.book-2.ensures.found in let lent = c.book.ensures.found in
-    let entries : given.entries ≡ now.entries =
-    sym (ap (λ (b : Ledger g.row.D.Denot). b.entries) again ∙ c.settle.ensures.entries ∙ ap (λ (b : Ledger g.row.D.Denot). b.entries) lent) in
-    let footing : footing_of (opened c.args.gate.now) ≡ footing_of now =
-    sym (ap footing_of again ∙ c.settle.ensures.footing ∙ ap footing_of lent ∙ c.enter-held.ensures.footing) in
-    let timetable : timetable_at c.args.gate.now ≡ now.timetable = same_timetable (opened c.args.gate.now) now footing in
-    record {
-      knows = known_longer now.timetable c.args.client.now now.entries v.seen
-          (subst (λ (l : List Entry). StartsWith l v.seen) entries c.enter-held.ensures.seen)
-          (subst (λ (t : Timetable). Knows t c.args.client.now v.seen) timetable c.requires.knows);
-    }
-
-pub leave-requires-then-is_err-clause-list : goal.leave-requires-then-is_err-clause-list
-leave-requires-then-is_err-clause-list g c =
-    let faults = g.D.Disk.faults in
-    let m : Sight = view c.enter-held.new.pass in
-    let given : Ledger g.row.D.Denot = c.enter-held.result in let old : Ledger g.row.D.Denot = c.book.result.now in
-    let left : Ledger g.row.D.Denot = c.settle.new.self in let now : Ledger g.row.D.Denot = c.book-2.result.now in
-    let put = settling.settled_put g.D.Disk old left (faults old.disk) (faults left.disk) c.settle.result
-    c.in_default.not-Fault c.settle.ensures.settles c.settle.ensures.cause in
-    let up = settling.up faults m given old left now c.enter-held.ensures.found c.book.ensures.found
-    c.settle.ensures.entries put c.book-2.ensures.found in
-    ([], up.list ∙ sym (append-nil m.found.list))
-
-pub returns-then-is_err-clause-halted : goal.returns-then-is_err-clause-halted
-returns-then-is_err-clause-halted g c =
-    let faults = g.D.Disk.faults in
-    let m : Sight = view c.enter-held.new.pass in
-    let given : Ledger g.row.D.Denot = c.enter-held.result in let old : Ledger g.row.D.Denot = c.book.result.now in
-    let left : Ledger g.row.D.Denot = c.settle.new.self in let now : Ledger g.row.D.Denot = c.book-2.result.now in
-    let put = settling.settled_put g.D.Disk old left (faults old.disk) (faults left.disk) c.settle.result
-    c.in_default.not-Fault c.settle.ensures.settles c.settle.ensures.cause in
-    let up = settling.up faults m given old left now c.enter-held.ensures.found c.book.ensures.found
-    c.settle.ensures.entries put c.book-2.ensures.found in
-    let v : Sight = view c.args.pass.now in
-    let goes_on : StartsWith m.found.list v.seen =
-    subst (λ (l : List Entry). StartsWith l v.seen) (sym (ap (λ s. s.list) c.enter-held.ensures.found)) c.enter-held.ensures.seen in
-    looks faults v m now now c.enter-held.ensures.opens goes_on up.within up.list up.counts (omega arith)
-    (view c.leave-then-is_err.new.pass) c.leave-then-is_err.ensures.served refl up.settled
 
 pub leave-requires-in-Some-clause-list : goal.leave-requires-in-Some-clause-list
 leave-requires-in-Some-clause-list g c =
@@ -114,14 +60,12 @@ returns-in-Some-clause-halted g c =
     let v : Sight = view c.args.pass.now in
     let goes_on : StartsWith m.found.list v.seen =
     subst (λ (l : List Entry). StartsWith l v.seen) (sym (ap (λ s. s.list) c.enter-held.ensures.found)) c.enter-held.ensures.seen in
-    let copy : IsCopyOf now.timetable c.catch_up.new.self now.entries =
-    not_err _ c.catch_up.result (sym c.is_err.ensures.value ∙ c.if-is_err.false) c.catch_up.ensures.copy in
     let w : Sight = view c.leave-in-Some.new.pass in (
       looks faults v m now now c.enter-held.ensures.opens goes_on up.within up.list up.counts (omega arith)
           w c.leave-in-Some.ensures.served refl up.settled,
       record {
         asked = c.in-Some.ensures.some.0;
-        stands = copy.front ∙ ap length up.list ∙ ap (λ (x : Sight). length x.found.list) (sym c.leave-in-Some.ensures.served);
+        stands = c.front-front.ensures ∙ ap length up.list ∙ ap (λ (x : Sight). length x.found.list) (sym c.leave-in-Some.ensures.served);
         beyond = c.in-Some.ensures.some.1;
       },
     )
@@ -139,18 +83,12 @@ returns-clause-open g c =
     let v : Sight = view c.args.pass.now in
     let goes_on : StartsWith m.found.list v.seen =
     subst (λ (l : List Entry). StartsWith l v.seen) (sym (ap (λ s. s.list) c.enter-held.ensures.found)) c.enter-held.ensures.seen in
-    let copy : IsCopyOf now.timetable c.catch_up.new.self now.entries =
-    not_err _ c.catch_up.result (sym c.is_err.ensures.value ∙ c.if-is_err.false) c.catch_up.ensures.copy in
     let footing : footing_of now ≡ footing_of (opened c.args.gate.now) =
     ap footing_of c.book-2.ensures.found ∙ c.settle.ensures.footing ∙ ap footing_of c.book.ensures.found
     ∙ c.enter-held.ensures.footing in
-    let timetable : now.timetable ≡ timetable_at c.args.gate.now = same_timetable now (opened c.args.gate.now) footing in
-    let its : IsCopyOf (timetable_at c.args.gate.now) c.catch_up.new.self m.found.list =
-    subst (λ (t : Timetable). IsCopyOf t c.catch_up.new.self m.found.list) timetable
-    (subst (IsCopyOf now.timetable c.catch_up.new.self) up.list copy) in
     let reached : IsReached c.args.after m.found.list = λ front asked.
     let near = c.beyond.ensures.none (none_there c.beyond.result c.in_default-beyond.not-Some) front asked in
-    let here = its.front in omega arith in record {
+    let here = c.front-front.ensures ∙ ap length up.list in omega arith in record {
       own = c.enter-held.ensures.own;
       turn = c.enter-held.ensures.turn;
       opens = c.enter-held.ensures.opens;
@@ -160,7 +98,6 @@ returns-clause-open g c =
       counts = up.counts;
       settled = up.settled;
       footing = footing;
-      copy = its;
       reached = reached;
     }
 
@@ -193,63 +130,11 @@ leave-requires-clause-count g c =
     (sym (settling.count_then faults m given old left c.enter-held.ensures.found c.book.ensures.found c.settle.ensures.entries))
     c.settle.ensures.later
 
-pub returns-in-Fault-clause-name : goal.returns-in-Fault-clause-name
-returns-in-Fault-clause-name g c = refl
-
 pub returns-in-Fault-clause-budget : goal.returns-in-Fault-clause-budget
 returns-in-Fault-clause-budget g c = ap (λ (left : ℕ). left + 1) c.leave.ensures.budget ∙ c.enter-held.ensures.budget
 
 pub returns-in-Fault-clause-ready : goal.returns-in-Fault-clause-ready
 returns-in-Fault-clause-ready g c = (c.leave.ensures.own, c.leave.ensures.idle)
-
-pub leave-requires-then-is_err-clause-own : goal.leave-requires-then-is_err-clause-own
-leave-requires-then-is_err-clause-own g c = c.enter-held.ensures.own
-
-pub leave-requires-then-is_err-clause-turn : goal.leave-requires-then-is_err-clause-turn
-leave-requires-then-is_err-clause-turn g c = c.enter-held.ensures.turn
-
-pub leave-requires-then-is_err-clause-footing : goal.leave-requires-then-is_err-clause-footing
-leave-requires-then-is_err-clause-footing g c =
-    ap footing_of c.book-2.ensures.found ∙ c.settle.ensures.footing ∙ ap footing_of c.book.ensures.found
-    ∙ c.enter-held.ensures.footing
-
-pub leave-requires-then-is_err-clause-count : goal.leave-requires-then-is_err-clause-count
-leave-requires-then-is_err-clause-count g c =
-    let faults = g.D.Disk.faults in
-    let m : Sight = view c.enter-held.new.pass in
-    let given : Ledger g.row.D.Denot = c.enter-held.result in let old : Ledger g.row.D.Denot = c.book.result.now in
-    let left : Ledger g.row.D.Denot = c.settle.new.self in let now : Ledger g.row.D.Denot = c.book-2.result.now in
-    let put = settling.settled_put g.D.Disk old left (faults old.disk) (faults left.disk) c.settle.result
-    c.in_default.not-Fault c.settle.ensures.settles c.settle.ensures.cause in
-    let up = settling.up faults m given old left now c.enter-held.ensures.found c.book.ensures.found
-    c.settle.ensures.entries put c.book-2.ensures.found in
-    settling.no_more m.found.count (faults now.disk) up.counts
-
-pub returns-then-is_err-clause-name : goal.returns-then-is_err-clause-name
-returns-then-is_err-clause-name g c = c.catch_up.ensures.name
-
-pub returns-then-is_err-clause-knows : goal.returns-then-is_err-clause-knows
-returns-then-is_err-clause-knows g c =
-    let faults = g.D.Disk.faults in
-    let m : Sight = view c.enter-held.new.pass in
-    let given : Ledger g.row.D.Denot = c.enter-held.result in let old : Ledger g.row.D.Denot = c.book.result.now in
-    let left : Ledger g.row.D.Denot = c.settle.new.self in let now : Ledger g.row.D.Denot = c.book-2.result.now in
-    let put = settling.settled_put g.D.Disk old left (faults old.disk) (faults left.disk) c.settle.result
-    c.in_default.not-Fault c.settle.ensures.settles c.settle.ensures.cause in
-    let up = settling.up faults m given old left now c.enter-held.ensures.found c.book.ensures.found
-    c.settle.ensures.entries put c.book-2.ensures.found in
-    let footing = ap footing_of c.book-2.ensures.found ∙ c.settle.ensures.footing ∙ ap footing_of c.book.ensures.found
-    ∙ c.enter-held.ensures.footing in
-    subst (λ (list : List Entry). Knows (timetable_at c.args.gate.now) c.catch_up.new.self list)
-    (up.list ∙ ap (λ (x : Sight). x.found.list) (sym c.leave-then-is_err.ensures.served))
-    (subst (λ (t : Timetable). Knows t c.catch_up.new.self now.entries)
-    (same_timetable now (opened c.args.gate.now) footing) c.catch_up.ensures.knows)
-
-pub returns-then-is_err-clause-budget : goal.returns-then-is_err-clause-budget
-returns-then-is_err-clause-budget g c = ap (λ (left : ℕ). left + 1) c.leave-then-is_err.ensures.budget ∙ c.enter-held.ensures.budget
-
-pub returns-then-is_err-clause-ready : goal.returns-then-is_err-clause-ready
-returns-then-is_err-clause-ready g c = (c.leave-then-is_err.ensures.own, c.leave-then-is_err.ensures.idle)
 
 pub leave-requires-in-Some-clause-own : goal.leave-requires-in-Some-clause-own
 leave-requires-in-Some-clause-own g c = c.enter-held.ensures.own
@@ -274,51 +159,26 @@ leave-requires-in-Some-clause-count g c =
     c.settle.ensures.entries put c.book-2.ensures.found in
     settling.no_more m.found.count (faults now.disk) up.counts
 
-pub returns-in-Some-clause-name : goal.returns-in-Some-clause-name
-returns-in-Some-clause-name g c = c.catch_up.ensures.name
-
-pub returns-in-Some-clause-knows : goal.returns-in-Some-clause-knows
-returns-in-Some-clause-knows g c =
-    let faults = g.D.Disk.faults in
-    let m : Sight = view c.enter-held.new.pass in
-    let given : Ledger g.row.D.Denot = c.enter-held.result in let old : Ledger g.row.D.Denot = c.book.result.now in
-    let left : Ledger g.row.D.Denot = c.settle.new.self in let now : Ledger g.row.D.Denot = c.book-2.result.now in
-    let put = settling.settled_put g.D.Disk old left (faults old.disk) (faults left.disk) c.settle.result
-    c.in_default.not-Fault c.settle.ensures.settles c.settle.ensures.cause in
-    let up = settling.up faults m given old left now c.enter-held.ensures.found c.book.ensures.found
-    c.settle.ensures.entries put c.book-2.ensures.found in
-    let footing = ap footing_of c.book-2.ensures.found ∙ c.settle.ensures.footing ∙ ap footing_of c.book.ensures.found
-    ∙ c.enter-held.ensures.footing in
-    subst (λ (list : List Entry). Knows (timetable_at c.args.gate.now) c.catch_up.new.self list)
-    (up.list ∙ ap (λ (x : Sight). x.found.list) (sym c.leave-in-Some.ensures.served))
-    (subst (λ (t : Timetable). Knows t c.catch_up.new.self now.entries)
-    (same_timetable now (opened c.args.gate.now) footing) c.catch_up.ensures.knows)
-
 pub returns-in-Some-clause-budget : goal.returns-in-Some-clause-budget
 returns-in-Some-clause-budget g c = ap (λ (left : ℕ). left + 1) c.leave-in-Some.ensures.budget ∙ c.enter-held.ensures.budget
 
 pub returns-in-Some-clause-ready : goal.returns-in-Some-clause-ready
 returns-in-Some-clause-ready g c = (c.leave-in-Some.ensures.own, c.leave-in-Some.ensures.idle)
 
-pub returns-clause-name : goal.returns-clause-name
-returns-clause-name g c = c.catch_up.ensures.name
-
-pub returns-clause-knows : goal.returns-clause-knows
-returns-clause-knows g c =
-    let faults = g.D.Disk.faults in
-    let m : Sight = view c.enter-held.new.pass in
-    let given : Ledger g.row.D.Denot = c.enter-held.result in let old : Ledger g.row.D.Denot = c.book.result.now in
-    let left : Ledger g.row.D.Denot = c.settle.new.self in let now : Ledger g.row.D.Denot = c.book-2.result.now in
-    let put = settling.settled_put g.D.Disk old left (faults old.disk) (faults left.disk) c.settle.result
-    c.in_default.not-Fault c.settle.ensures.settles c.settle.ensures.cause in
-    let up = settling.up faults m given old left now c.enter-held.ensures.found c.book.ensures.found
-    c.settle.ensures.entries put c.book-2.ensures.found in
-    let footing = ap footing_of c.book-2.ensures.found ∙ c.settle.ensures.footing ∙ ap footing_of c.book.ensures.found
-    ∙ c.enter-held.ensures.footing in
-    subst (λ (list : List Entry). Knows (timetable_at c.args.gate.now) c.catch_up.new.self list)
-    up.list
-    (subst (λ (t : Timetable). Knows t c.catch_up.new.self now.entries)
-    (same_timetable now (opened c.args.gate.now) footing) c.catch_up.ensures.knows)
-
 pub returns-clause-budget : goal.returns-clause-budget
 returns-clause-budget g c = c.enter-held.ensures.budget
+
+pub returns-in-Fault-clause-goes_on : goal.returns-in-Fault-clause-goes_on
+returns-in-Fault-clause-goes_on g c =
+    let list = ap (λ (x : Sight). x.found.list) c.leave.ensures.served ∙ ap (λ s. s.list) c.enter-held.ensures.found in
+    subst (λ (l : List Entry). StartsWith l (view c.args.pass.now).seen) (sym list) c.enter-held.ensures.seen
+
+pub returns-in-Some-clause-goes_on : goal.returns-in-Some-clause-goes_on
+returns-in-Some-clause-goes_on g c =
+    let list = ap (λ (x : Sight). x.found.list) c.leave-in-Some.ensures.served ∙ ap (λ s. s.list) c.enter-held.ensures.found in
+    subst (λ (l : List Entry). StartsWith l (view c.args.pass.now).seen) (sym list) c.enter-held.ensures.seen
+
+pub returns-clause-goes_on : goal.returns-clause-goes_on
+returns-clause-goes_on g c =
+    subst (λ (l : List Entry). StartsWith l (view c.args.pass.now).seen)
+    (sym (ap (λ s. s.list) c.enter-held.ensures.found)) c.enter-held.ensures.seen

@@ -9,33 +9,33 @@ use Rattle.ask_turns.proofs.Handed.{handed, known_halted}
 use Rattle.ask_turns.proofs.Turned as turned
 use Rattle.ask_turns.proofs.client_turns.turns.show.Goals as goal
 
-pub open_turn-requires-clause-ready : goal.open_turn-requires-clause-ready
-open_turn-requires-clause-ready g c = c.requires.ready
+pub open_known-requires-clause-ready : goal.open_known-requires-clause-ready
+open_known-requires-clause-ready g c = c.requires.ready
 
-pub open_turn-requires-clause-budget : goal.open_turn-requires-clause-budget
-open_turn-requires-clause-budget g c = c.requires.budget
+pub open_known-requires-clause-budget : goal.open_known-requires-clause-budget
+open_known-requires-clause-budget g c = c.requires.budget
 
-pub open_turn-requires-clause-knows : goal.open_turn-requires-clause-knows
-open_turn-requires-clause-knows g c = c.requires.knows
+pub open_known-requires-clause-knows : goal.open_known-requires-clause-knows
+open_known-requires-clause-knows g c = c.requires.knows
 
 pub returns-in_err-held-clause-ready : goal.returns-in_err-held-clause-ready
 returns-in_err-held-clause-ready g c = c.in_err-held.ensures.ready
 
 pub returns-in_err-held-clause-name : goal.returns-in_err-held-clause-name
-returns-in_err-held-clause-name g c = c.open_turn.ensures.name
+returns-in_err-held-clause-name g c = c.open_known.ensures.name
 
 pub returns-in_err-held-clause-knows : goal.returns-in_err-held-clause-knows
 returns-in_err-held-clause-knows g c =
-    known_halted (timetable_at c.args.gate.now) c.open_turn.new.client c.in_err-held.field-0.0 c.args.after
-    (view c.args.pass.now) (view c.open_turn.new.pass) c.in_err-held.ensures.halted c.open_turn.ensures.knows
+    known_halted (timetable_at c.args.gate.now) c.open_known.new.client c.in_err-held.field-0.0 c.args.after
+    (view c.args.pass.now) (view c.open_known.new.pass) c.in_err-held.ensures.halted c.open_known.ensures.knows
 
 pub returns-in_err-held-clause-budget : goal.returns-in_err-held-clause-budget
-returns-in_err-held-clause-budget g c = c.open_turn.ensures.budget
+returns-in_err-held-clause-budget g c = c.open_known.ensures.budget
 
 pub returns-in_err-held-clause-halted : goal.returns-in_err-held-clause-halted
 returns-in_err-held-clause-halted g c =
     handed c.from_residual.result
-    (λ (halt : Halt). IsHalted halt c.args.after (view c.args.pass.now) (view c.open_turn.new.pass))
+    (λ (halt : Halt). IsHalted halt c.args.after (view c.args.pass.now) (view c.open_known.new.pass))
     c.in_err-held.field-0.0 c.from_residual.ensures.1 c.in_err-held.ensures.halted
 
 pub leave-requires-clause-own : goal.leave-requires-clause-own
@@ -46,49 +46,50 @@ leave-requires-clause-turn g c = c.in_ok-held.ensures.open.turn
 
 pub leave-requires-clause-footing : goal.leave-requires-clause-footing
 leave-requires-clause-footing g c =
-    turned.footing_still g.D.Disk.faults c.args.gate.now c.args.pass.now c.open_turn.new.pass
-    c.open_turn.new.client c.args.after c.in_ok-held.held c.book.result.now c.book.result.now
+    turned.footing_still g.D.Disk.faults c.args.gate.now c.args.pass.now c.open_known.new.pass
+    c.args.after c.in_ok-held.held c.book.result.now c.book.result.now
     c.in_ok-held.ensures.open c.book.ensures.found refl
 
 pub leave-requires-clause-list : goal.leave-requires-clause-list
 leave-requires-clause-list g c =
-    turned.same_starts g.D.Disk.faults c.args.gate.now c.args.pass.now c.open_turn.new.pass
-    c.open_turn.new.client c.args.after c.in_ok-held.held c.book.result.now c.book.result.now
+    turned.same_starts g.D.Disk.faults c.args.gate.now c.args.pass.now c.open_known.new.pass
+    c.args.after c.in_ok-held.held c.book.result.now c.book.result.now
     c.in_ok-held.ensures.open c.book.ensures.found refl
 
 pub leave-requires-clause-count : goal.leave-requires-clause-count
 leave-requires-clause-count g c =
-    turned.count_still g.D.Disk.faults c.args.gate.now c.args.pass.now c.open_turn.new.pass
-    c.open_turn.new.client c.args.after c.in_ok-held.held c.book.result.now c.book.result.now
+    turned.count_still g.D.Disk.faults c.args.gate.now c.args.pass.now c.open_known.new.pass
+    c.args.after c.in_ok-held.held c.book.result.now c.book.result.now
     c.in_ok-held.ensures.open c.book.ensures.found refl
 
 pub returns-in_err-standing-clause-ready : goal.returns-in_err-standing-clause-ready
 returns-in_err-standing-clause-ready g c = (c.leave.ensures.own, c.leave.ensures.idle)
 
 pub returns-in_err-standing-clause-name : goal.returns-in_err-standing-clause-name
-returns-in_err-standing-clause-name g c = c.open_turn.ensures.name
+returns-in_err-standing-clause-name g c = c.open_known.ensures.name
 
 pub returns-in_err-standing-clause-knows : goal.returns-in_err-standing-clause-knows
 returns-in_err-standing-clause-knows g c =
-    turned.knows_all g.D.Disk.faults c.args.gate.now c.args.pass.now c.open_turn.new.pass
-    c.open_turn.new.client c.args.after c.in_ok-held.held c.book.result.now c.book.result.now
+    turned.knows_all g.D.Disk.faults c.args.gate.now c.args.pass.now c.open_known.new.pass
+    c.args.after c.in_ok-held.held c.book.result.now c.book.result.now
     c.in_ok-held.ensures.open c.book.ensures.found
     (view c.leave.new.pass) c.leave.ensures.served
-    (turned.same_starts g.D.Disk.faults c.args.gate.now c.args.pass.now c.open_turn.new.pass
-    c.open_turn.new.client c.args.after c.in_ok-held.held c.book.result.now c.book.result.now
+    c.open_known.new.client
+    (turned.same_starts g.D.Disk.faults c.args.gate.now c.args.pass.now c.open_known.new.pass
+    c.args.after c.in_ok-held.held c.book.result.now c.book.result.now
     c.in_ok-held.ensures.open c.book.ensures.found refl)
-    c.open_turn.ensures.knows
+    c.open_known.ensures.knows
 
 pub returns-in_err-standing-clause-budget : goal.returns-in_err-standing-clause-budget
-returns-in_err-standing-clause-budget g c = ap (λ (left : ℕ). left + 1) c.leave.ensures.budget ∙ c.open_turn.ensures.budget
+returns-in_err-standing-clause-budget g c = ap (λ (left : ℕ). left + 1) c.leave.ensures.budget ∙ c.open_known.ensures.budget
 
 pub returns-in_err-standing-clause-halted : goal.returns-in_err-standing-clause-halted
 returns-in_err-standing-clause-halted g c =
     handed c.from_residual-in_err-standing.result
     (λ (halt : Halt). IsHalted halt c.args.after (view c.args.pass.now) (view c.leave.new.pass))
     NoMemory c.from_residual-in_err-standing.ensures.1
-    (turned.turn_looks g.D.Disk.faults c.args.gate.now c.args.pass.now c.open_turn.new.pass
-    c.open_turn.new.client c.args.after c.in_ok-held.held c.book.result.now c.book.result.now
+    (turned.turn_looks g.D.Disk.faults c.args.gate.now c.args.pass.now c.open_known.new.pass
+    c.args.after c.in_ok-held.held c.book.result.now c.book.result.now
     c.in_ok-held.ensures.open c.book.ensures.found
     (view c.leave.new.pass) c.leave.ensures.served refl)
 
@@ -96,48 +97,50 @@ pub returns-clause-ready : goal.returns-clause-ready
 returns-clause-ready g c = (c.leave.ensures.own, c.leave.ensures.idle)
 
 pub returns-clause-name : goal.returns-clause-name
-returns-clause-name g c = c.open_turn.ensures.name
+returns-clause-name g c = c.open_known.ensures.name
 
 pub returns-clause-knows : goal.returns-clause-knows
 returns-clause-knows g c =
-    turned.knows_all g.D.Disk.faults c.args.gate.now c.args.pass.now c.open_turn.new.pass
-    c.open_turn.new.client c.args.after c.in_ok-held.held c.book.result.now c.book.result.now
+    turned.knows_all g.D.Disk.faults c.args.gate.now c.args.pass.now c.open_known.new.pass
+    c.args.after c.in_ok-held.held c.book.result.now c.book.result.now
     c.in_ok-held.ensures.open c.book.ensures.found
     (view c.leave.new.pass) c.leave.ensures.served
-    (turned.same_starts g.D.Disk.faults c.args.gate.now c.args.pass.now c.open_turn.new.pass
-    c.open_turn.new.client c.args.after c.in_ok-held.held c.book.result.now c.book.result.now
+    c.open_known.new.client
+    (turned.same_starts g.D.Disk.faults c.args.gate.now c.args.pass.now c.open_known.new.pass
+    c.args.after c.in_ok-held.held c.book.result.now c.book.result.now
     c.in_ok-held.ensures.open c.book.ensures.found refl)
-    c.open_turn.ensures.knows
+    c.open_known.ensures.knows
 
 pub returns-clause-budget : goal.returns-clause-budget
-returns-clause-budget g c = ap (λ (left : ℕ). left + 1) c.leave.ensures.budget ∙ c.open_turn.ensures.budget
+returns-clause-budget g c = ap (λ (left : ℕ). left + 1) c.leave.ensures.budget ∙ c.open_known.ensures.budget
 
 pub returns-clause-looks : goal.returns-clause-looks
 returns-clause-looks g c =
-    turned.turn_looks g.D.Disk.faults c.args.gate.now c.args.pass.now c.open_turn.new.pass
-    c.open_turn.new.client c.args.after c.in_ok-held.held c.book.result.now c.book.result.now
+    turned.turn_looks g.D.Disk.faults c.args.gate.now c.args.pass.now c.open_known.new.pass
+    c.args.after c.in_ok-held.held c.book.result.now c.book.result.now
     c.in_ok-held.ensures.open c.book.ensures.found
     (view c.leave.new.pass) c.leave.ensures.served refl
 
 pub returns-clause-shows : goal.returns-clause-shows
 returns-clause-shows g c =
     subst (λ (list : List Entry). IsStanding list c.args.at c.in_ok-standing.standing)
-    (c.history.ensures.entries ∙ turned.list_found g.D.Disk.faults c.args.gate.now c.args.pass.now c.open_turn.new.pass
-    c.open_turn.new.client c.args.after c.in_ok-held.held c.book.result.now c.book.result.now
+    (c.history.ensures.entries ∙ turned.list_found g.D.Disk.faults c.args.gate.now c.args.pass.now c.open_known.new.pass
+    c.args.after c.in_ok-held.held c.book.result.now c.book.result.now
     c.in_ok-held.ensures.open c.book.ensures.found
     (view c.leave.new.pass) c.leave.ensures.served)
     c.in_ok-standing.ensures
 
 pub returns-clause-copy : goal.returns-clause-copy
 returns-clause-copy g c =
-    turned.copied g.D.Disk.faults c.args.gate.now c.args.pass.now c.open_turn.new.pass
-    c.open_turn.new.client c.args.after c.in_ok-held.held c.book.result.now c.book.result.now
+    turned.copied g.D.Disk.faults c.args.gate.now c.args.pass.now c.open_known.new.pass
+    c.args.after c.in_ok-held.held c.book.result.now c.book.result.now
     c.in_ok-held.ensures.open c.book.ensures.found
     (view c.leave.new.pass) c.leave.ensures.served
+    c.open_known.new.client c.in_ok-held.ensures.copy
 
 pub returns-clause-reached : goal.returns-clause-reached
 returns-clause-reached g c =
-    turned.reaches g.D.Disk.faults c.args.gate.now c.args.pass.now c.open_turn.new.pass
-    c.open_turn.new.client c.args.after c.in_ok-held.held c.book.result.now c.book.result.now
+    turned.reaches g.D.Disk.faults c.args.gate.now c.args.pass.now c.open_known.new.pass
+    c.args.after c.in_ok-held.held c.book.result.now c.book.result.now
     c.in_ok-held.ensures.open c.book.ensures.found
     (view c.leave.new.pass) c.leave.ensures.served
