@@ -61,41 +61,26 @@ pub(crate) fn hold<R: Wait, D: Disk>(
         return Reply::NoMemory;
     };
     match enter_entry(rt, alloc, &shared.gate, pass, after, entry) {
-        Ok(
-            Judged {
-                entered: Entered::Settled { at, front },
-                ..
-            },
-        ) => Reply::Held {
-            number,
-            entry: at,
-            front,
-        },
-        Ok(
-            Judged {
-                entered: Entered::Unsettled { at, front },
-                ..
-            },
-        ) => Reply::Unsettled {
-            number,
-            entry: at,
-            front,
-        },
-        Ok(
-            Judged {
-                entered: Entered::Refused(told),
-                found,
-            },
-        ) => hold_refused(number, told, found),
-        Ok(
-            Judged {
-                entered: Entered::Full,
-                found,
-            },
-        ) => Reply::Full {
-            number,
-            front: found,
-        },
+        Ok(judged) => {
+            let Judged { entered, found } = judged;
+            match entered {
+                Entered::Settled { at, front } => Reply::Held {
+                    number,
+                    entry: at,
+                    front,
+                },
+                Entered::Unsettled { at, front } => Reply::Unsettled {
+                    number,
+                    entry: at,
+                    front,
+                },
+                Entered::Refused(told) => hold_refused(number, told, found),
+                Entered::Full => Reply::Full {
+                    number,
+                    front: found,
+                },
+            }
+        }
         Err(halt) => halted(halt),
     }
 }
@@ -138,41 +123,26 @@ pub(crate) fn pin<R: Wait, D: Disk>(
         return Reply::NoMemory;
     };
     match enter_entry(rt, alloc, &shared.gate, pass, after, entry) {
-        Ok(
-            Judged {
-                entered: Entered::Settled { at, front },
-                ..
-            },
-        ) => Reply::Pinned {
-            number,
-            entry: at,
-            front,
-        },
-        Ok(
-            Judged {
-                entered: Entered::Unsettled { at, front },
-                ..
-            },
-        ) => Reply::Unsettled {
-            number,
-            entry: at,
-            front,
-        },
-        Ok(
-            Judged {
-                entered: Entered::Refused(told),
-                found,
-            },
-        ) => pin_refused(number, told, found),
-        Ok(
-            Judged {
-                entered: Entered::Full,
-                found,
-            },
-        ) => Reply::Full {
-            number,
-            front: found,
-        },
+        Ok(judged) => {
+            let Judged { entered, found } = judged;
+            match entered {
+                Entered::Settled { at, front } => Reply::Pinned {
+                    number,
+                    entry: at,
+                    front,
+                },
+                Entered::Unsettled { at, front } => Reply::Unsettled {
+                    number,
+                    entry: at,
+                    front,
+                },
+                Entered::Refused(told) => pin_refused(number, told, found),
+                Entered::Full => Reply::Full {
+                    number,
+                    front: found,
+                },
+            }
+        }
         Err(halt) => halted(halt),
     }
 }
@@ -209,42 +179,27 @@ pub(crate) fn free<R: Wait, D: Disk>(
         return Reply::NoMemory;
     };
     match enter_entry(rt, alloc, &shared.gate, pass, after, entry) {
-        Ok(
-            Judged {
-                entered: Entered::Settled { at, front },
-                ..
-            },
-        ) => Reply::Freed {
-            number,
-            entry: at,
-            freed,
-            front,
-        },
-        Ok(
-            Judged {
-                entered: Entered::Unsettled { at, front },
-                ..
-            },
-        ) => Reply::Unsettled {
-            number,
-            entry: at,
-            front,
-        },
-        Ok(
-            Judged {
-                entered: Entered::Refused(told),
-                found,
-            },
-        ) => free_refused(number, freed, told, found),
-        Ok(
-            Judged {
-                entered: Entered::Full,
-                found,
-            },
-        ) => Reply::Full {
-            number,
-            front: found,
-        },
+        Ok(judged) => {
+            let Judged { entered, found } = judged;
+            match entered {
+                Entered::Settled { at, front } => Reply::Freed {
+                    number,
+                    entry: at,
+                    freed,
+                    front,
+                },
+                Entered::Unsettled { at, front } => Reply::Unsettled {
+                    number,
+                    entry: at,
+                    front,
+                },
+                Entered::Refused(told) => free_refused(number, freed, told, found),
+                Entered::Full => Reply::Full {
+                    number,
+                    front: found,
+                },
+            }
+        }
         Err(halt) => halted(halt),
     }
 }
