@@ -22,7 +22,8 @@ use Rattle.ask_turns.specs.declared.client_turns.told.Refusal.{Refusal}
 use Rattle.ask_turns.specs.declared.client_turns.told.Refusal.TheVariants.{Kept, Other}
 use Rattle.ask_turns.specs.declared.client_turns.told.Standing.{Standing}
 use Rattle.ask_turns.specs.declared.client_turns.told.Tried.{Tried}
-use Rattle.ask_turns.specs.declared.client_turns.told.Tried.TheVariants.{Entered as Judged, Missed}
+use Rattle.ask_turns.specs.declared.client_turns.told.Tried.TheVariants.{Entered as EntryTried}
+use Rattle.ask_turns.specs.declared.client_turns.told.Tried.TheVariants.{Missed}
 
 -- the entry at a position with the later one that frees it, or that none stands there
 abbrev pub IsStanding : List Entry → ℕ → Option Standing → Type 0
@@ -108,9 +109,9 @@ StopsIn faults entry old new (halt.Ahead after front) = ⊥
 
 -- what became in a book of an entry whose path was searched for at a front
 abbrev pub TriesIn : {D : Type 0} → (D → ℕ) → Entry → ℕ → Ledger D → Ledger D → Tried → Type 0
-TriesIn faults entry searched old new (Judged (Refused told)) =
+TriesIn faults entry searched old new (EntryTried (Refused told)) =
     EntersIn faults entry old new (Refused told)
     × IsTakenBefore old.timetable old.entries entry searched
-TriesIn faults entry searched old new (Judged entered) = EntersIn faults entry old new entered
+TriesIn faults entry searched old new (EntryTried entered) = EntersIn faults entry old new entered
 TriesIn faults entry searched old new (Missed at) =
     (new ≡ old) × IsTakenSince old.timetable old.entries entry searched at

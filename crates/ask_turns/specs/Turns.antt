@@ -23,7 +23,8 @@ use Rattle.ask_turns.specs.declared.client_turns.told.Entered.TheVariants.{Settl
 use Rattle.ask_turns.specs.declared.client_turns.told.Entered.TheVariants.{Refused, Full}
 use Rattle.ask_turns.specs.declared.client_turns.told.Refusal.{Refusal}
 use Rattle.ask_turns.specs.declared.client_turns.told.Tried.{Tried}
-use Rattle.ask_turns.specs.declared.client_turns.told.Tried.TheVariants.{Entered as Judged, Missed}
+use Rattle.ask_turns.specs.declared.client_turns.told.Tried.TheVariants.{Entered as EntryTried}
+use Rattle.ask_turns.specs.declared.client_turns.told.Tried.TheVariants.{Missed}
 use Rattle.ask_turns.specs.Told.{IsRefusal, IsTakenBefore, IsTakenSince, MayEnter}
 
 -- what a pass knows of a book
@@ -125,9 +126,9 @@ pub record IsMissedIn (timetable : Timetable) (entry : Entry) (searched at : ℕ
 
 -- a turn that judged an entry whose path was searched for where there were so many entries
 abbrev pub HasTried : Timetable → Entry → ℕ → Tried → Sight → Sight → Type 0
-HasTried timetable entry searched (Judged (Refused told)) v w =
+HasTried timetable entry searched (EntryTried (Refused told)) v w =
     IsRefusedIn timetable entry told v w × IsTakenBefore timetable w.found.list entry searched
-HasTried timetable entry searched (Judged entered) v w = HasEntered timetable entry entered v w
+HasTried timetable entry searched (EntryTried entered) v w = HasEntered timetable entry entered v w
 HasTried timetable entry searched (Missed at) v w = IsMissedIn timetable entry searched at v w
 
 -- a turn that ended with nothing added to what it found

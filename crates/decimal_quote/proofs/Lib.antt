@@ -1,6 +1,7 @@
 pub mod Strings
 pub mod Cuts
 pub mod Longest
+pub mod Fronts
 pub mod Digits
 pub mod Points
 pub mod Ends

@@ -13,16 +13,23 @@ ghost use Rattle.decimal_quote.specs.Numbers.{is_short_whole as is_short_whole_t
 pub fn is_number(text: &[u8]) -> bool
     ensures { result ≡ is_number_text text.now }
 {
-    let Some(rest) = behind_whole(behind_minus(text)) else {
-        return false;
-    };
-    let Some(rest) = behind_fraction(rest) else {
-        return false;
-    };
-    let Some(rest) = behind_exponent(rest) else {
+    let Some(rest) = behind_number(text) else {
         return false;
     };
     rest.is_empty()
+}
+
+/// What follows the number at the front of a text, the longest that JSON's grammar reads there.
+pub(crate) fn behind_number(text: &[u8]) -> Option<&[u8]>
+    ensures { option_map (λ rest. rest.now) result ≡ after_number text.now }
+{
+    let Some(rest) = behind_whole(behind_minus(text)) else {
+        return None;
+    };
+    let Some(rest) = behind_fraction(rest) else {
+        return None;
+    };
+    behind_exponent(rest)
 }
 
 /// Whether the text is 0, or 1 to 18 digits, the first not 0, behind a minus or none.

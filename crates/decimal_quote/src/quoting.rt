@@ -1,12 +1,13 @@
 //! One pass over a text, piece by piece.
 
 ghost use Rattle.std.specs.Prelude.{◌≡◌, ℕ, List, length, ◌<◌, ◌≤◌, IfOk, OnOk, OnErr, ◌++◌};
-ghost use Rattle.std.specs.Prelude.{IsTrue, ◌↔◌, ◌==◌, ◌&&◌, not, true};
+ghost use Rattle.std.specs.Prelude.{IsTrue, ◌↔◌, ◌==◌, ◌&&◌, ◌||◌, not, true, slice_index, take};
 ghost use Rattle.std.specs.List.{prefix_len};
 ghost use Rattle.decimal_quote.specs.Quoted.{AreCut, HaveLongestRuns, IsQuoted, piece_length};
 ghost use Rattle.decimal_quote.specs.Quoted.{string_length, shown, needs_marks, is_number_byte};
+ghost use Rattle.decimal_quote.specs.Quoted.{begins_run, mark};
 
-use crate::numbers::{is_number, is_short_whole};
+use crate::numbers::{behind_first, behind_number, is_short_whole};
 use no_memory::NoMemory;
 use std::alloc::Global;
 
@@ -26,19 +27,19 @@ pub fn quote(alloc: Global, text: &[u8]) -> Result<Vec<u8>, NoMemory>
     let mut held = text;
     let mut plain = 0;
     'pieces: while plain < held.len() {
-        let (front, rest) = held.split_at(plain);
-        if stands_alone(rest[0]) {
+        if stands_alone(held[plain]) {
             plain += 1;
             continue;
         }
-        let length = first_piece(rest);
-        let (piece, behind) = rest.split_at(length);
-        if is_to_be_marked(piece) {
-            push_marked(&mut quoted, front, piece)?;
+        let (front, rest) = held.split_at(plain);
+        let piece = first_piece(rest);
+        if piece.is_marked {
+            let (number, behind) = rest.split_at(piece.length);
+            push_marked(&mut quoted, front, number)?;
             held = behind;
             plain = 0;
         } else {
-            plain += length;
+            plain += piece.length;
         }
     }
     quoted.extend_from_slice(held)?;
@@ -60,24 +61,66 @@ pub fn runs_are_longest()
     ensures { (pieces : List (List ℕ)) → AreCut pieces → HaveLongestRuns pieces }
 {}
 
-/// How many bytes the first piece of a text takes.
-fn first_piece(text: &[u8]) -> usize
-    requires { 0 < length text.now }
-    ensures length { result ≡ piece_length text.now }
-    ensures some { 0 < result }
-    ensures within { result ≤ length text.now }
+/// The first piece of a text: how many bytes it takes, and whether marks are put round it.
+#[derive(Clone, Copy)]
+struct Piece {
+    length: usize,
+    is_marked: bool,
+}
+
+/// The first piece of a text that begins with a mark or a byte of numbers.
+fn first_piece(text: &[u8]) -> Piece
+    requires some { 0 < length text.now }
+    requires kind { (slice_index text.now 0 == mark || is_number_byte (slice_index text.now 0))
+        ≡ true }
+    ensures length { result.length ≡ piece_length text.now }
+    ensures some { 0 < result.length }
+    ensures within { result.length ≤ length text.now }
+    ensures marks { result.is_marked ≡ needs_marks (take result.length text.now) }
 {
-    let (_, rest) = text.split_at(1);
-    match text[0] {
-        MARK => 1 + bytes_of_string(rest),
-        byte if is_in_number(byte) => 1 + bytes_of_number(rest),
-        _ => 1,
+    if text[0] == MARK {
+        Piece {
+            length: 1 + bytes_of_string(behind_first(text)),
+            is_marked: false,
+        }
+    } else {
+        piece_of_number(text)
+    }
+}
+
+/// The piece of a text that begins with a byte of numbers.
+fn piece_of_number(text: &[u8]) -> Piece
+    ensures length { result.length ≡ prefix_len is_number_byte text.now }
+    ensures marks { result.is_marked ≡ needs_marks (take result.length text.now) }
+{
+    if let Some(behind) = behind_number(text) {
+        if !begins_in_number(behind) {
+            let (number, _) = text.split_at(text.len() - behind.len());
+            return Piece {
+                length: number.len(),
+                is_marked: !is_short_whole(number),
+            };
+        }
+    }
+    Piece {
+        length: bytes_of_number(text),
+        is_marked: false,
+    }
+}
+
+/// Whether a text begins with a byte of numbers.
+fn begins_in_number(text: &[u8]) -> bool
+    ensures { result ≡ begins_run text.now }
+{
+    match text {
+        [first, ..] => is_in_number(*first),
+        [] => false,
     }
 }
 
 /// Whether a byte is a piece of its own that stays as it is.
 fn stands_alone(byte: u8) -> bool
-    ensures { result ≡ (not (byte == 34) && not (is_number_byte byte)) }
+    ensures { result ≡ (not (byte == mark) && not (is_number_byte byte)) }
 {
     byte != MARK && !is_in_number(byte)
 }
@@ -122,10 +165,4 @@ fn push_marked(to: &mut Vec<u8>, front: &[u8], number: &[u8]) -> Result<(), NoMe
     to.extend_from_slice(number)?;
     to.push(MARK)?;
     Ok(())
-}
-
-fn is_to_be_marked(piece: &[u8]) -> bool
-    ensures { result ≡ needs_marks piece.now }
-{
-    piece.len() > 1 && is_number(piece) && !is_short_whole(piece)
 }

@@ -52,7 +52,8 @@ fn read_text(alloc: Global, bytes: Vec<u8>) -> Result<Infra, InfraFault>
     infra_of(first, others)
 }
 
-/// The text of a file, its numbers quoted.
+/// The text of a file, its numbers quoted. `NotJson` where it is no UTF-8, which has no value;
+/// `Memory` where memory was wanted.
 fn quoted(alloc: Global, bytes: Vec<u8>) -> Result<QuotedFile, InfraFault>
     ensures text { IfOk result
         (λ file. (quoted : list_of ℕ) → IsQuoted bytes.items quoted → quoted ≡ file) }

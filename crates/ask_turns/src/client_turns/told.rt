@@ -44,7 +44,9 @@ pub enum Entered {
 /// What became of an entry, and the front that its turn found.
 #[derive(Debug, Drop)]
 pub struct Judged {
+    /// What became of the entry.
     pub entered: Entered,
+    /// The front that the turn found: how many entries stood when it began.
     pub found: u64,
 }
 

@@ -188,7 +188,8 @@ pub fn find_again<R: Wait, D: Disk>(
 }
 
 /// A turn that judges an entry by what it found, and takes it in where it is
-/// fresh and its record has room. No client's copy is needed for it.
+/// fresh and its record has room. No client's copy is needed for it. Tells what
+/// became of the entry, and the front that the turn found, at `after` or behind it.
 #[inline(always)]
 pub fn enter_entry<R: Wait, D: Disk>(
     rt: &R,

@@ -14,6 +14,7 @@ use json_fields::Unread;
 
 /// Passes over one value, in which arrays and objects nest no deeper than this.
 #[cycle(pass)]
+#[inline(always)]
 pub(crate) fn pass(reader: &mut Reader<'_>, depth: usize) -> Result<(), Unread>
     ensures ok { OnOk result (Passes (converted of_json (value depth reader.old)) reader.new) }
     ensures shorter { OnOk result (length reader.new < length reader.old) }
@@ -41,6 +42,7 @@ pub(crate) fn pass(reader: &mut Reader<'_>, depth: usize) -> Result<(), Unread>
 }
 
 #[cycle(pass)]
+#[inline(never)]
 fn pass_items(reader: &mut Reader<'_>, depth: usize) -> Result<(), Unread>
     ensures ok { OnOk result (Passes
         (converted of_items (items (value depth) (length reader.old) reader.old)) reader.new) }
@@ -55,6 +57,7 @@ fn pass_items(reader: &mut Reader<'_>, depth: usize) -> Result<(), Unread>
 }
 
 #[cycle(pass)]
+#[inline(never)]
 fn pass_members(reader: &mut Reader<'_>, depth: usize) -> Result<(), Unread>
     ensures ok { OnOk result (Passes
         (converted (λ found. of_members found no_members)

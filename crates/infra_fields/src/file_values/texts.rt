@@ -36,7 +36,8 @@ impl Model for QuotedFile {
 }
 
 impl QuotedFile {
-    /// The text of a file of these bytes, which are let go. What is no UTF-8 has no value.
+    /// The quoted text of a file of these bytes, which are let go. `NotJson` where it is no UTF-8,
+    /// which has no value; `Memory` where memory was wanted.
     pub fn of(alloc: Global, bytes: Vec<u8>) -> Result<QuotedFile, Unread>
         ensures text { IfOk result
             (λ file. (quoted : List ℕ) → IsQuoted bytes.items quoted → quoted ≡ file) }

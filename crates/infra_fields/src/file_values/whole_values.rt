@@ -17,6 +17,7 @@ use std::alloc::Global;
 
 /// Reads one value, in which arrays and objects nest no deeper than this.
 #[cycle(read)]
+#[inline(always)]
 pub(crate) fn read(alloc: Global, reader: &mut Reader<'_>, depth: usize) -> Result<Value, Unread>
     ensures ok { IfOk result (λ found.
         converted of_json (value depth reader.old) ≡ Some (view found, reader.new)) }
@@ -30,6 +31,7 @@ pub(crate) fn read(alloc: Global, reader: &mut Reader<'_>, depth: usize) -> Resu
 
 /// Reads the value that begins with this token.
 #[cycle(read)]
+#[inline(always)]
 pub(crate) fn read_from(
     alloc: Global,
     token: Token<'_>,
@@ -62,6 +64,7 @@ pub(crate) fn read_from(
 }
 
 #[cycle(read)]
+#[inline(never)]
 fn read_items(alloc: Global, reader: &mut Reader<'_>, depth: usize) -> Result<Vec<Value>, Unread>
     ensures ok { IfOk result (λ found.
         converted of_items (items (value depth) (length reader.old) reader.old)
@@ -81,6 +84,7 @@ fn read_items(alloc: Global, reader: &mut Reader<'_>, depth: usize) -> Result<Ve
 }
 
 #[cycle(read)]
+#[inline(never)]
 fn read_members(
     alloc: Global,
     reader: &mut Reader<'_>,
@@ -106,6 +110,7 @@ fn read_members(
 }
 
 /// A key, or none at the brace that closes an object.
+#[inline(always)]
 pub(crate) fn next_key<'a>(reader: &mut Reader<'a>) -> Result<Option<&'a str>, Unread>
     ensures { MatchResult result
         (λ key. read_key reader.old ≡ Some (option_map (λ text. text.now) key, reader.new))

@@ -1,4 +1,4 @@
-use Rattle.std.proofs.Common.{◌⊎◌, refl, sym, ◌∙◌, subst}
+use Rattle.std.proofs.Common.{◌⊎◌, refl, sym, subst}
 use Rattle.ask_turns.proofs.Known.{known_longer}
 use Rattle.book_gate.specs.Passes.{turns_left, view}
 use Rattle.client_lines.specs.declared.asks.Line.{Line}

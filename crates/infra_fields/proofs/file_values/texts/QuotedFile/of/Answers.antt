@@ -1,4 +1,4 @@
-use Rattle.std.proofs.Common.{◌≡◌, ap, ◌∙◌, ℕ, List, Vec, Global, subst, sym, true≢false}
+use Rattle.std.proofs.Common.{ap, ◌∙◌, ℕ, List, Vec, Global, subst, sym, true≢false}
 use Rattle.decimal_quote.specs.Quoted.{IsQuoted}
 use Rattle.json_fields.specs.Texts.{data_of}
 use Rattle.json_fields.proofs.Bytes.{data_of_other}
