@@ -8,7 +8,7 @@ use std::alloc::Global;
 use std::marker::Model;
 use std::slice;
 
-/// Claims, which contracts see as their list. That of `one`, as of most holds, has no memory of its
+/// Claims, which contracts see as their list. One claim, as most holds have, takes no memory of its
 /// own.
 #[derive(Debug, Drop)]
 pub struct Claims {

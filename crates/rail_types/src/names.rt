@@ -14,7 +14,7 @@ const BYTES_IN_PLACE: usize = 15;
 pub struct Name {
     // The bytes of a short name, so many as `len`; none of a longer one.
     len: u8,
-    place: [u8; 15],
+    place: [u8; BYTES_IN_PLACE],
     // The bytes of a longer name; none of a short one.
     rest: Vec<u8>,
 }
@@ -36,7 +36,7 @@ impl Name {
     {
         Name {
             len: 0,
-            place: [0; 15],
+            place: [0; BYTES_IN_PLACE],
             rest: Vec::new(alloc),
         }
     }
@@ -49,7 +49,7 @@ impl Name {
             let rest = Vec::from_slice(alloc, bytes)?;
             return Ok(Name {
                 len: 0,
-                place: [0; 15],
+                place: [0; BYTES_IN_PLACE],
                 rest,
             });
         }
@@ -86,7 +86,7 @@ fn short_name(alloc: Global, bytes: &[u8]) -> Name
     requires { length bytes.now ≤ 15 }
     ensures { result ≡ bytes.now }
 {
-    let mut place = [0; 15];
+    let mut place = [0; BYTES_IN_PLACE];
     let (front, _) = place.split_at_mut(bytes.len());
     front.copy_from_slice(bytes);
     Name {
