@@ -28,7 +28,7 @@ same_place =
     (on (λ place. entry_number place.entered) nat_eq)
     (eq_of_both (on (λ place. place.standing) beq) (on (λ place. place.made) nat_eq)))
 
--- a number, with one more behind it
+-- the word of all numbers so far and this one
 abbrev pub word_with : ℕ → ℕ → ℕ
 word_with word number = (word * SPREAD + number) % 2 ^ 64
 

@@ -25,7 +25,7 @@ use std::alloc::Global;
 use std::hash::{Hash, Hasher};
 
 // By what the number of a place is multiplied for each block under the train: odd, and its bits in
-// no order, 2^64 by the golden ratio.
+// no order, 2^64 divided by the golden ratio.
 const SPREAD: u64 = 0x9e37_79b9_7f4a_7c15;
 
 /// Where a train is at the end of a run: the blocks from the oldest that is still under it to that
@@ -168,14 +168,14 @@ fn number_of(entered: Enter) -> u64
     }
 }
 
-// A number, with one more behind it.
+// The word of all numbers so far and this one, modulo 2^64.
 fn word_with(word: u64, number: u64) -> u64
     ensures { result ≡ word_with word number }
 {
     word.wrapping_mul(SPREAD).wrapping_add(number)
 }
 
-// One number for the blocks under a train, from that of all else of a place.
+// The word of a place: that of the blocks under the train behind the word of all else.
 fn word_of(tail: &[u32], other: u64) -> u64
     ensures { result ≡ fold word_with other tail.now }
 {
