@@ -1,5 +1,6 @@
 pub mod Strings
 pub mod Cuts
+pub mod Lanes
 pub mod Longest
 pub mod Fronts
 pub mod Digits

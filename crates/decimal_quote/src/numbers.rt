@@ -1,13 +1,20 @@
 //! Which texts are numbers.
 
-ghost use Rattle.std.specs.Prelude.{◌≡◌, ◌^◌, ◌<◌, ◌≤◌, drop, length, option_map};
+ghost use Rattle.std.specs.Prelude.{◌≡◌, ◌^◌, ◌<◌, ◌≤◌, drop, length, map, option_map};
 ghost use Rattle.std.specs.List.{list_all, prefix_len};
 ghost use Rattle.std.specs.Char.{is_ascii_digit};
+ghost use Rattle.std.specs.Simd.Lanes.{mask_l};
 ghost use Rattle.decimal_quote.specs.Numbers.{after_number, after_minus, after_whole};
 ghost use Rattle.decimal_quote.specs.Numbers.{after_fraction, after_exponent, after_sign};
 ghost use Rattle.decimal_quote.specs.Numbers.{after_digits, begins, is_number as is_number_text};
+ghost use Rattle.decimal_quote.specs.Numbers.{is_no_digit};
 ghost use Rattle.decimal_quote.specs.Numbers.{is_short_natural as is_short_natural_text};
 ghost use Rattle.decimal_quote.specs.Numbers.{is_short_whole as is_short_whole_text};
+
+use std::simd::prelude::*;
+
+/// How many bytes a vector has.
+pub(crate) const LANES: usize = 16;
 
 /// Whether the whole text is a number.
 pub fn is_number(text: &[u8]) -> bool
@@ -19,7 +26,9 @@ pub fn is_number(text: &[u8]) -> bool
     rest.is_empty()
 }
 
-/// What follows the number at the front of a text, the longest that JSON's grammar reads there.
+/// What follows the number at the front of a text. None where no number stands there, or where no
+/// digit stands behind its point, or in its exponent.
+#[inline(always)]
 pub(crate) fn behind_number(text: &[u8]) -> Option<&[u8]>
     ensures { option_map (λ rest. rest.now) result ≡ after_number text.now }
 {
@@ -51,11 +60,39 @@ fn are_digits(text: &[u8]) -> bool
     text.iter().all(|byte| byte.is_ascii_digit())
 }
 
+/// How many digits stand at the front of a text.
 pub(crate) fn digits_at_front(text: &[u8]) -> usize
     ensures digits { result ≡ prefix_len is_ascii_digit text.now }
     ensures within { result ≤ length text.now }
 {
+    let mut at = 0;
+    'vectors: while text.len() - at >= LANES {
+        let others = non_digits(u8x16::from_slice(&text[at..]));
+        if others != 0 {
+            return at + others.trailing_zeros() as usize;
+        }
+        at += LANES;
+    }
+    let (_, rest) = text.split_at(at);
+    at + digits_one_by_one(rest)
+}
+
+// The same, looked at byte by byte.
+fn digits_one_by_one(text: &[u8]) -> usize
+    ensures digits { result ≡ prefix_len is_ascii_digit text.now }
+    ensures within { result ≤ length text.now }
+{
     text.iter().take_while(|byte| byte.is_ascii_digit()).count()
+}
+
+// A bit for each byte, the lowest for the first: whether that one is no digit.
+#[inline(always)]
+fn non_digits(bytes: u8x16) -> u64
+    ensures { result ≡ mask_l (map is_no_digit bytes) }
+{
+    u8x16::splat(9)
+        .simd_lt(bytes - u8x16::splat(b'0'))
+        .to_bitmask()
 }
 
 pub(crate) fn begins_with(text: &[u8], byte: u8) -> bool

@@ -1,15 +1,17 @@
 //! One pass over a text, piece by piece.
 
-ghost use Rattle.std.specs.Prelude.{◌≡◌, ℕ, List, length, ◌<◌, ◌≤◌, IfOk, OnOk, OnErr, ◌++◌};
+ghost use Rattle.std.specs.Prelude.{◌≡◌, ℕ, List, length, map, ◌<◌, ◌≤◌, IfOk, OnOk, OnErr, ◌++◌};
 ghost use Rattle.std.specs.Prelude.{IsTrue, ◌↔◌, ◌==◌, ◌&&◌, ◌||◌, not, true, slice_index, take};
 ghost use Rattle.std.specs.List.{prefix_len};
+ghost use Rattle.std.specs.Simd.Lanes.{mask_l};
 ghost use Rattle.decimal_quote.specs.Quoted.{AreCut, HaveLongestRuns, IsQuoted, piece_length};
 ghost use Rattle.decimal_quote.specs.Quoted.{string_length, shown, needs_marks, is_number_byte};
 ghost use Rattle.decimal_quote.specs.Quoted.{begins_run, mark};
 
-use crate::numbers::{behind_first, behind_number, is_short_whole};
+use crate::numbers::{LANES, behind_first, behind_number, is_short_whole};
 use no_memory::NoMemory;
 use std::alloc::Global;
+use std::simd::prelude::*;
 
 const MARK: u8 = b'"';
 
@@ -132,6 +134,17 @@ fn bytes_of_string(text: &[u8]) -> usize
 {
     let mut at = 0;
     'bytes: while at < text.len() {
+        if text.len() - at >= LANES {
+            let bytes = u8x16::from_slice(&text[at..]);
+            if lanes_equal_to(bytes, BACKSLASH) == 0 {
+                let marks = lanes_equal_to(bytes, MARK);
+                if marks != 0 {
+                    return at + marks.trailing_zeros() as usize + 1;
+                }
+                at += LANES;
+                continue;
+            }
+        }
         let byte = text[at];
         if byte == MARK {
             return at + 1;
@@ -139,6 +152,14 @@ fn bytes_of_string(text: &[u8]) -> usize
         at += if byte == BACKSLASH { 2 } else { 1 };
     }
     text.len()
+}
+
+/// A bit for each of `bytes`, the lowest for the first: whether that one is `byte`.
+#[inline(always)]
+fn lanes_equal_to(bytes: u8x16, byte: u8) -> u64
+    ensures { result ≡ mask_l (map (λ one. one == byte) bytes) }
+{
+    bytes.simd_eq(u8x16::splat(byte)).to_bitmask()
 }
 
 /// How many bytes of numbers stand at the front.
