@@ -11,6 +11,9 @@ use std::{env, io};
 // Bytes of the room that is made once.
 const ROOM: usize = 31 << 20;
 
+// Bytes of each of the two pieces that leave room at the end of the heap.
+const HALF_AHEAD: usize = 24 << 20;
+
 fn main(rt: HostRuntime) -> ExitCode {
     keep_freed_room(rt.alloc());
     let words = match words_of(&rt) {
@@ -30,9 +33,15 @@ fn main(rt: HostRuntime) -> ExitCode {
 
 // Makes room and gives it back untouched. From then on the C library keeps pieces of up to that
 // size that are let go, and twice that in all, for those that ask next: without it a search over a
-// large network has its memory from the system anew, page by page.
+// large network has its memory from the system anew, page by page. Two pieces more, made behind
+// that and held at once, leave 48 MiB at the end of its heap, less than it would give back: there a
+// file's bytes grow to 32 MiB where they stand, and what is made once they are let go takes their
+// pages.
 fn keep_freed_room(alloc: Global) {
-    let _room: Result<Vec<u8>, AllocError> = Vec::with_capacity(alloc, ROOM);
+    let room: Result<Vec<u8>, AllocError> = Vec::with_capacity(alloc, ROOM);
+    drop(room);
+    let _one: Result<Vec<u8>, AllocError> = Vec::with_capacity(alloc, HALF_AHEAD);
+    let _other: Result<Vec<u8>, AllocError> = Vec::with_capacity(alloc, HALF_AHEAD);
 }
 
 // The words behind the program's own name.
