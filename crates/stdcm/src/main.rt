@@ -1,7 +1,8 @@
 //! The program: it runs the command of its words over real files, pipes and standard streams.
 #![tactic(auto)]
 
-use osrd_stdcm::{Status, rules_of_words, run};
+use command_reports::{Refusal, finish};
+use osrd_stdcm::{rules_of_words, run};
 use outside_io::{FileOutside, Locking};
 use std::alloc::{AllocError, Global};
 use std::io::ErrorKind;
@@ -21,13 +22,21 @@ fn main(rt: HostRuntime) -> ExitCode {
         // No word that is understood has bytes that are no text: these are
         // refused as no words at all are.
         Err(error) if error.kind() == ErrorKind::InvalidData => Vec::new(rt.alloc()),
-        Err(_) => return ExitCode::from(Status::Memory.number()),
+        Err(_) => return end_without_memory(rt),
     };
     let Ok(rules) = rules_of_words(rt.alloc(), &words) else {
-        return ExitCode::from(Status::Memory.number());
+        return end_without_memory(rt);
     };
     let mut outside = FileOutside::new(rt, locking_of(&words));
     let status = run(&rt, &words, &mut outside, rules);
+    ExitCode::from(status.number())
+}
+
+// Ends where memory was wanted for the words or their rules: it is reported as want of memory
+// within a command is.
+fn end_without_memory(rt: HostRuntime) -> ExitCode {
+    let mut outside = FileOutside::new(rt, Locking::Unlocked);
+    let status = finish(Err(Refusal::Memory), &mut outside);
     ExitCode::from(status.number())
 }
 
