@@ -35,7 +35,7 @@ fn read_all_at(file: &File, at: u64, into: &mut [u8]) -> Option<usize>
 }
 
 impl FileDisk {
-    // A file that was opened to be read and written.
+    // A file that was opened, to be read at least.
     pub(crate) fn new(file: File) -> FileDisk
         ensures { result.faults ≡ 0 }
     {

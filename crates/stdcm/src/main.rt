@@ -2,8 +2,8 @@
 #![tactic(auto)]
 
 use command_reports::{Refusal, finish};
-use osrd_stdcm::{rules_of_words, run};
-use outside_io::{FileOutside, Locking};
+use osrd_stdcm::{access_of_words, rules_of_words, run};
+use outside_io::{DiskAccess, FileOutside};
 use std::alloc::{AllocError, Global};
 use std::io::ErrorKind;
 use std::process::ExitCode;
@@ -27,15 +27,18 @@ fn main(rt: HostRuntime) -> ExitCode {
     let Ok(rules) = rules_of_words(rt.alloc(), &words) else {
         return end_without_memory(rt);
     };
-    let mut outside = FileOutside::new(rt, locking_of(&words));
+    let Ok(access) = access_of_words(rt.alloc(), &words) else {
+        return end_without_memory(rt);
+    };
+    let mut outside = FileOutside::new(rt, access);
     let status = run(&rt, &words, &mut outside, rules);
     ExitCode::from(status.number())
 }
 
-// Ends where memory was wanted for the words or their rules: it is reported as want of memory
-// within a command is.
+// Ends where memory was wanted for the words, or for what is made of them: it is reported as want
+// of memory within a command is.
 fn end_without_memory(rt: HostRuntime) -> ExitCode {
-    let mut outside = FileOutside::new(rt, Locking::Unlocked);
+    let mut outside = FileOutside::new(rt, DiskAccess::Reading);
     let status = finish(Err(Refusal::Memory), &mut outside);
     ExitCode::from(status.number())
 }
@@ -60,15 +63,4 @@ fn words_of(rt: &HostRuntime) -> io::Result<Vec<String>> {
         words.push(word)?;
     }
     Ok(words)
-}
-
-// How the command of these words holds a journal. Those that only read one go on beside a server.
-fn locking_of(words: &[String]) -> Locking {
-    let Some(command) = words.first() else {
-        return Locking::Exclusive;
-    };
-    match command.as_str() {
-        "stairs" | "capacity" | "check" => Locking::Unlocked,
-        _ => Locking::Exclusive,
-    }
 }

@@ -9,7 +9,7 @@ use crate::words::{
 };
 use crate::worlds::{known, step};
 use outside_io::{
-    FileDisk, FileOutside, FileSink, FileSource, Fuse, Locking, MemDisk, MemOutside, MemSink,
+    DiskAccess, FileDisk, FileOutside, FileSink, FileSource, Fuse, MemDisk, MemOutside, MemSink,
     MemSource,
 };
 use plan_core::World;
@@ -40,7 +40,7 @@ impl Table {
         Table {
             memory: MemOutside::new(alloc, Vec::new(alloc)),
             of_memory: Held::new(),
-            machine: FileOutside::new(rt, Locking::Exclusive),
+            machine: FileOutside::new(rt, DiskAccess::Writing),
             of_machine: Held::new(),
             is_machine: false,
             pipe: Pipe::none(),
@@ -223,7 +223,7 @@ fn use_machine(rt: &HostRuntime, table: &mut Table, word: &str, rest: &str) -> i
     match word {
         "machine" => {
             table.is_machine = true;
-            table.machine = FileOutside::new(*rt, locking_of(rest)?);
+            table.machine = FileOutside::new(*rt, access_of(rt, &table.pipe, rest)?);
             Ok(())
         }
         "pipe" => {
@@ -247,11 +247,15 @@ fn content_text(rt: &HostRuntime, path: &str) -> io::Result<String> {
     shown(rt.alloc(), bytes.as_slice())
 }
 
-// How a machine holds its disks that was turned to by this word.
-fn locking_of(word: &str) -> io::Result<Locking> {
+// How a machine opens its disks that was turned to by these words.
+fn access_of(rt: &HostRuntime, pipe: &Pipe, words: &str) -> io::Result<DiskAccess> {
+    let (word, name) = first_word(words);
     match word {
-        "" => Ok(Locking::Exclusive),
-        "unlocked" => Ok(Locking::Unlocked),
+        "" => Ok(DiskAccess::Writing),
+        "reading" => Ok(DiskAccess::Reading),
+        "moving" => Ok(DiskAccess::Moving {
+            from: name_of(rt, pipe, name)?,
+        }),
         _ => Err(not_understood()),
     }
 }
