@@ -3,17 +3,13 @@ from __future__ import annotations
 
 import random
 import subprocess
-import sys
 import time
 from dataclasses import dataclass, field
 from pathlib import Path
 
-from served import TRAINS, World, make_world, peak_of, without_syncs
-
-sys.path.insert(0, str(Path(__file__).resolve().parent.parent / "tools"))
-
-from blocking_times import HORIZON, Ask, Railway, Run, blocks_of, train_of  # noqa: E402
-from table_file import read_table_text  # noqa: E402
+from bench.served import TRAINS, World, make_world, peak_of, without_syncs
+from kidrofemba.network.blocking_times import HORIZON, Ask, Railway, Run, blocks_of, train_of
+from kidrofemba.network.table_file import read_table_text
 
 NAMES = "ABCD"
 BLOCKS_OF_SECTION = 8

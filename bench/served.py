@@ -7,7 +7,7 @@ import subprocess
 from dataclasses import dataclass
 from pathlib import Path
 
-from corridor import Corridor, corridor
+from bench.corridor import Corridor, corridor
 
 PROGRAM = Path(__file__).resolve().parent.parent / "crates/stdcm/out/stdcm"
 TRAINS = [{"name": "F1", "length_m": 400, "speed": 20000, "accel": 200, "brake": 250, "allowance": 0}]
@@ -41,7 +41,7 @@ class World:
 def make_world(folder: Path, sections: int = 8, blocks: int = 4, trains: list[dict] | None = None) -> World:
     """A corridor of so many sections of so many blocks, with these planned trains, and a journal without entries."""
     if not PROGRAM.is_file():
-        raise SystemExit(f"no program at {PROGRAM}: tools/build makes it")
+        raise SystemExit(f"no program at {PROGRAM}: dev/build makes it")
     made = corridor(sections, blocks)
     base = {"tick_s": 10, "setting": 1, "release": 1, "horizon": 17280, "journal_bytes": 268435456, "trains": trains or []}
     (folder / "network").write_text(json.dumps(made.infra))

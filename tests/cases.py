@@ -7,7 +7,6 @@ import contextlib
 import io
 import json
 import subprocess
-import sys
 import tempfile
 from collections.abc import Callable, Iterator
 from dataclasses import dataclass
@@ -52,7 +51,7 @@ def program_of(description: str | None) -> Path:
     if Path("/dev/shm").is_dir():
         tempfile.tempdir = "/dev/shm"
     if not program.is_file():
-        raise SystemExit(f"{program} is not there: tools/build makes it")
+        raise SystemExit(f"{program} is not there: dev/build makes it")
     return program
 
 
@@ -67,16 +66,12 @@ class Ran:
 
 def run(companion: ModuleType, *words: object) -> Ran:
     """Runs a companion's `main` with these words."""
-    out, err, before = io.StringIO(), io.StringIO(), sys.argv
-    sys.argv = [companion.__name__, *map(str, words)]
-    try:
-        with contextlib.redirect_stdout(out), contextlib.redirect_stderr(err):
-            try:
-                status = companion.main()
-            except SystemExit as end:
-                status = end.code if isinstance(end.code, int) else 1
-    finally:
-        sys.argv = before
+    out, err = io.StringIO(), io.StringIO()
+    with contextlib.redirect_stdout(out), contextlib.redirect_stderr(err):
+        try:
+            status = companion.main([*map(str, words)])
+        except SystemExit as end:
+            status = end.code if isinstance(end.code, int) else 1
     return Ran(status, out.getvalue(), err.getvalue())
 
 

@@ -1,11 +1,10 @@
-#!/usr/bin/env python3
 """Tries a built program from outside by scenarios: real files, pipes, kills in between.
 
 Each scenario of tests/scenarios runs in a fresh folder. A line is printed for each: `ok NAME`, or
 `FAILED NAME:` with the step and the first difference. The last line is `N passed, M failed`, and
 the exit status is 0 only where M is 0.
 
-    tests/conformance.py --program crates/stdcm/out/stdcm --only crash "killed behind a free"
+    tests/conformance --program crates/stdcm/out/stdcm --only crash "killed behind a free"
 """
 from __future__ import annotations
 
@@ -16,12 +15,10 @@ import tempfile
 from concurrent.futures import ThreadPoolExecutor
 from pathlib import Path
 
-sys.dont_write_bytecode = True
-
-from runner.calls import Program  # noqa: E402
-from runner.compare import Difference  # noqa: E402
-from runner.steps import Runner  # noqa: E402
-from runner.texts import Place  # noqa: E402
+from tests.runner.calls import Program
+from tests.runner.compare import Difference
+from tests.runner.steps import Runner
+from tests.runner.texts import Place
 
 HERE = Path(__file__).resolve().parent
 PROGRAM = HERE.parent / "crates/stdcm/out/stdcm"
@@ -73,7 +70,7 @@ def parse(arguments: list[str]) -> argparse.Namespace:
     parser.add_argument("--jobs", type=int, default=2, help="scenarios side by side (2)")
     options = parser.parse_args(arguments)
     if not options.list and not options.program.is_file():
-        parser.error(f"no program at {options.program}: tools/build makes it")
+        parser.error(f"no program at {options.program}: dev/build makes it")
     return options
 
 

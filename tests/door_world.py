@@ -16,9 +16,9 @@ from dataclasses import dataclass, field
 from pathlib import Path
 
 HERE = Path(__file__).resolve().parent
-TOOLS = HERE.parent / "tools"
 EXAMPLES = HERE.parent / "examples"
 PROGRAM = HERE.parent / "crates/stdcm/out/stdcm"
+KIDROFEMBA = HERE.parent / "kidrofemba"
 
 
 LONG_S = 120.0
@@ -83,7 +83,7 @@ class World:
 
     def door_words(self, clients: Sequence[str], *options: str) -> list[str]:
         named = [word for name in clients for word in ("--client", name)]
-        return [sys.executable, str(TOOLS / "door.py"), "--folder", str(self.sockets), *named,
+        return [sys.executable, str(KIDROFEMBA), "door", "--folder", str(self.sockets), *named,
                 *options, "--", *self.serve_words()]
 
     def socket_of(self, client: str) -> Path:

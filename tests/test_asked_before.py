@@ -1,4 +1,3 @@
-#!/usr/bin/env python3
 """Tests that what a client asked before changes no reply, and of a proof no more than the order of
 its members: a client keeps what searches of its last requests had worked out, and finds by it what a
 client finds that has asked nothing yet.
@@ -8,7 +7,7 @@ of its own, is begun anew for each ask. More relations are asked for than are ke
 several times, in windows of its own; holds come in between. One client asks for more trains than are
 kept charts of, one for more stops of one train than a chart tells of.
 
-    tests/test_asked_before.py --program crates/stdcm/out/stdcm
+    PYTHONPATH=python python3 -m tests.test_asked_before --program crates/stdcm/out/stdcm
 """
 from __future__ import annotations
 
@@ -19,13 +18,13 @@ from dataclasses import dataclass
 from pathlib import Path
 from typing import Any
 
-REPOSITORY = Path(__file__).resolve().parent.parent
-sys.path[:0] = [str(REPOSITORY / name) for name in ("tools", "bench")]
+from bench.corridor import corridor
+from kidrofemba.network.blocking_times import Railway, Settings, Train, blocks_of
+from kidrofemba.network.table_file import read_table
+from tests.cases import Cases, World, program_of
 
-from blocking_times import Railway, Settings, Train, blocks_of  # noqa: E402
-from cases import Cases, World, program_of  # noqa: E402
-from corridor import corridor  # noqa: E402
-from table_file import read_table  # noqa: E402
+REPOSITORY = Path(__file__).resolve().parent.parent
+
 
 HORIZON, LATEST, PLANNED = 3_000, 1_500, 10
 FIRST = {"name": "F1", "length_m": 400, "speed": 20_000, "accel": 200, "brake": 250, "allowance": 0}

@@ -1,8 +1,7 @@
-#!/usr/bin/env python3
 """Tests the plain model of running times, blocking times and proofs by rows that were worked out by
 hand, and by what the program itself grants and prints.
 
-    tests/test_blocking_times.py --program crates/stdcm/out/stdcm
+    PYTHONPATH=python python3 -m tests.test_blocking_times --program crates/stdcm/out/stdcm
 """
 from __future__ import annotations
 
@@ -12,13 +11,13 @@ import tempfile
 from pathlib import Path
 from typing import Any
 
-REPOSITORY = Path(__file__).resolve().parent.parent
-sys.path[:0] = [str(REPOSITORY / name) for name in ("tools", "tests")]
+from kidrofemba.network.blocking_times import Railway, Run, Settings, Train, blocks_of, joined
+from kidrofemba.network.table_file import read_table
+from kidrofemba.why.members import Judge, Line, busy_of, read_proofs
+from tests.cases import Cases, World, program_of
 
-from blocking_times import Railway, Run, Settings, Train, blocks_of, joined  # noqa: E402
-from cases import Cases, World, program_of  # noqa: E402
-from proof_members import Judge, Line, busy_of, read_proofs  # noqa: E402
-from table_file import read_table  # noqa: E402
+REPOSITORY = Path(__file__).resolve().parent.parent
+
 
 EXAMPLES = REPOSITORY / "examples"
 BASE = {"tick_s": 10, "setting": 1, "release": 1, "horizon": 17_280, "journal_bytes": 268_435_456,

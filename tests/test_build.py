@@ -1,7 +1,6 @@
-#!/usr/bin/env python3
-"""Tries tools/build in a repository of four small crates, with a stand-in for the toolchain.
+"""Tries dev/build in a repository of four small crates, with a stand-in for the toolchain.
 
-    tests/test_build.py
+    PYTHONPATH=python python3 -m tests.test_build
 """
 from __future__ import annotations
 
@@ -21,7 +20,7 @@ from dataclasses import dataclass
 from pathlib import Path
 
 HERE = Path(__file__).resolve().parent
-TOOLS = HERE.parent / "tools"
+DEV = HERE.parent / "dev"
 RIGHT = "demo of the right program\n"
 CRATES = {"lowest": "", "middle": "lowest", "stdcm": "middle lowest", "apart": "lowest"}
 
@@ -33,9 +32,9 @@ class Clone:
     root: Path
 
     def __post_init__(self) -> None:
-        (self.root / "tools").mkdir()
-        for name in ("build", "processes.py", "repository.py"):
-            shutil.copy2(TOOLS / name, self.root / "tools" / name)
+        (self.root / "dev").mkdir()
+        for name in ("build", "build.py", "processes.py", "repository.py"):
+            shutil.copy2(DEV / name, self.root / "dev" / name)
         (self.root / "HANDLES").write_text("Handles allowed: none.\n")
         rows = [f"{name}: {libraries}\n" for name, libraries in CRATES.items()]
         (self.root / "crates.txt").write_text("".join(rows))
@@ -51,12 +50,12 @@ class Clone:
 
     def start(self, *words: str, fake: str = "", path: str | None = None,
               before: tuple[str, ...] = (), **how) -> subprocess.Popen:
-        """Starts tools/build, as a child of another command where one is given."""
+        """Starts dev/build, as a child of another command where one is given."""
         environment = {**os.environ, "FAKE": fake, "NOTES": str(self.root / "noted")}
         environment["PATH"] = path if path is not None else f"{HERE / 'fakes'}:{os.environ['PATH']}"
         environment.update(how.pop("environment", {}))
         how = {"stdout": subprocess.PIPE, "stderr": subprocess.PIPE, **how}
-        return subprocess.Popen([*before, sys.executable, "-B", str(self.root / "tools/build"),
+        return subprocess.Popen([*before, sys.executable, "-B", str(self.root / "dev/build"),
                                  *words], cwd=self.root, env=environment, text=True, **how)
 
     def build(self, *words: str, limit_s: float = 180, **how) -> subprocess.CompletedProcess:

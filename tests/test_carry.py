@@ -1,15 +1,13 @@
-#!/usr/bin/env python3
 """Tests of the command `carry` over real files: a full journal that goes on, sold paths that a new
 timetable is in the way of, drawn journals beside a plain model, servers at both journals, disks
 that are full, and kills.
 
-    tests/test_carry.py --program crates/stdcm/out/stdcm
+    PYTHONPATH=python python3 -m tests.test_carry --program crates/stdcm/out/stdcm
 """
 from __future__ import annotations
 
 import fcntl
 import hashlib
-import json
 import os
 import random
 import resource
@@ -23,12 +21,11 @@ from contextlib import contextmanager
 from dataclasses import dataclass, field
 from pathlib import Path
 
-sys.dont_write_bytecode = True
-REPOSITORY = Path(__file__).resolve().parent.parent
-sys.path[:0] = [str(REPOSITORY / name) for name in ("tools", "tests")]
+from kidrofemba.journal.journal_file import Claim, Entry, read_journal
+from tests.cases import Cases, World, program_of
 
-from cases import Cases, World, program_of  # noqa: E402
-from journal_file import Claim, Entry, read_journal  # noqa: E402
+REPOSITORY = Path(__file__).resolve().parent.parent
+
 
 EXAMPLES = REPOSITORY / "examples"
 SETTINGS = {"tick_s": 10, "setting": 1, "release": 1, "horizon": 17280,

@@ -1,5 +1,4 @@
-#!/usr/bin/env python3
-"""Tests of tools/client.py: before a door with real processes, and before a socket that replies as
+"""Tests of `kidrofemba ask`: before a door with real processes, and before a socket that replies as
 a failing server does."""
 from __future__ import annotations
 
@@ -15,13 +14,11 @@ from collections.abc import Iterator, Sequence
 from contextlib import contextmanager
 from pathlib import Path
 
-from door_world import (EXAMPLES, LONG_S, PROGRAM, TOOLS, Talk, World, in_memory, new_world,
-                        run_cases, wait_until, want)
-
-sys.path.insert(0, str(TOOLS))
-from client import Numbers, PathClient  # noqa: E402
-from companion import Refused  # noqa: E402
-from journal_file import read_journal  # noqa: E402
+from kidrofemba.common.companion import Refused
+from kidrofemba.door.client import Numbers, PathClient
+from kidrofemba.journal.journal_file import read_journal
+from tests.door_world import (EXAMPLES, KIDROFEMBA, LONG_S, PROGRAM, Talk, World, in_memory,
+                              new_world, run_cases, wait_until, want)
 
 BASE = {"tick_s": 10, "setting": 1, "release": 1, "horizon": 17280, "journal_bytes": 268435456,
         "trains": []}
@@ -29,7 +26,7 @@ LINE3 = EXAMPLES / "line3.json"
 
 
 def client_words(path: Path, *options: str) -> list[str]:
-    return [sys.executable, str(TOOLS / "client.py"), "--socket", str(path), *options]
+    return [sys.executable, str(KIDROFEMBA), "ask", "--socket", str(path), *options]
 
 
 def told_by(path: Path, lines: str, *options: str) -> tuple[int, list[str], str]:
@@ -131,7 +128,7 @@ def numbers_are_kept_over_runs(program: Path) -> None:
         numbers = Numbers(state)
         try:
             status, _, wrong = told_by(path, "front\n", *given)
-            want(status == 2 and wrong == f"client: {state}: another client has this file\n", wrong)
+            want(status == 2 and wrong == f"ask: {state}: another client has this file\n", wrong)
         finally:
             numbers.close()
 
@@ -187,7 +184,7 @@ def journals_that_were_set_back_are_noticed(program: Path) -> None:
         with world.door(["A"]):
             status, told, wrong = told_by(path, "front\n", "--state", str(state))
             want(status == 2 and not told, f"{status} {told}")
-            want(wrong == f"client: {path}: ahead 3 at 1: the server has fewer than the 3 entries "
+            want(wrong == f"ask: {path}: ahead 3 at 1: the server has fewer than the 3 entries "
                  "that this client has seen: its journal was set back, or is a new one; where its "
                  "operator told you so, go on with --forget-front\n", wrong)
             # Numbers and open lines stay; what the client sees from then on counts again.
@@ -230,7 +227,7 @@ def open_lines_stay_with_their_base_file(program: Path) -> None:
         for base in ([*day, str(tuesday)], day[:2]):
             status, told, wrong = told_by(path, "hold - 0 20 21\n", *base)
             want((status, told) == (2, []), f"{status} {told}")
-            want(wrong.startswith(f"client: {state}: open lines of another base file are not sent")
+            want(wrong.startswith(f"ask: {state}: open lines of another base file are not sent")
                  and wrong.endswith(": hold 2 0 7 8; free 3 0\n"), wrong)
         want(len(read_journal(world.journal).entries) == 1, "something is sent")
         # Beside their own base file they are sent, though other runs refused them.
@@ -316,7 +313,7 @@ def refusals_have_a_place(program: Path) -> None:
         begun = time.monotonic()
         status, told, wrong = told_by(nowhere, "front\n", "--give-up", "1")
         want(status == 2 and not told, f"{status} {told}")
-        want(wrong == f"client: {nowhere}: no answer: [Errno 2] No such file or directory\n", wrong)
+        want(wrong == f"ask: {nowhere}: no answer: [Errno 2] No such file or directory\n", wrong)
         want(0.3 < time.monotonic() - begun < LONG_S, "it waits about a second")
         for text, place in (("front\nask 1 F1 W E 25:00 1 1 1 0\n", "line 2: no clock time"),
                             ("hold 1 0 5 6\u00e9\n", "line 1: a byte that no line has"),):
@@ -324,12 +321,12 @@ def refusals_have_a_place(program: Path) -> None:
             status, told, wrong = told_by(nowhere, "", "--file", str(lines), "--give-up", "0.1",
                                           "--base", str(base)) if text[0] == "h" else \
                 with_door(program, lines, base)
-            want(status == 2 and wrong.startswith(f"client: {lines}: {place}"), wrong)
+            want(status == 2 and wrong.startswith(f"ask: {lines}: {place}"), wrong)
         status, _, wrong = told_by(nowhere, "hold - 0 5 6\n")
         want(status == 2 and wrong.endswith("a number `-` needs --state\n"), wrong)
         base.write_text(json.dumps({"tick_s": "ten"}))
         status, _, wrong = told_by(nowhere, "front\n", "--base", str(base))
-        want(status == 2 and wrong == f"client: {base}: `tick_s` is no whole number of seconds\n",
+        want(status == 2 and wrong == f"ask: {base}: `tick_s` is no whole number of seconds\n",
              wrong)
         for option in ("--forget-front", "--drop-open"):
             status, _, wrong = told_by(nowhere, "front\n", option)

@@ -1,7 +1,6 @@
-#!/usr/bin/env python3
 """Tests clock times of ticks, by values that were worked out by hand, and there and back.
 
-    tests/test_clock.py
+    PYTHONPATH=python python3 -m tests.test_clock
 """
 from __future__ import annotations
 
@@ -10,11 +9,11 @@ from collections.abc import Callable
 from datetime import datetime, timedelta, timezone
 from pathlib import Path
 
-REPOSITORY = Path(__file__).resolve().parent.parent
-sys.path[:0] = [str(REPOSITORY / name) for name in ("tools", "tests")]
+from kidrofemba.common.clock import Clock, clock_of, moment_of
+from tests.cases import Cases
 
-from cases import Cases  # noqa: E402
-from clock import Clock, clock_of, moment_of  # noqa: E402
+REPOSITORY = Path(__file__).resolve().parent.parent
+
 
 EVENING = datetime(2026, 11, 29, 22, 0, tzinfo=timezone(timedelta(hours=1)))
 TEXTS = [  # seconds a tick, tick 0, a tick, its clock time

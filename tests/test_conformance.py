@@ -1,10 +1,9 @@
-#!/usr/bin/env python3
 """Shows that the conformance runner passes a right program, and fails wrong ones.
 
 A toy of tests/selftest is run as it is, then with one fault after another; the scenario that must
 find the fault must fail, with the words that tell it.
 
-    tests/test_conformance.py
+    PYTHONPATH=python python3 -m tests.test_conformance
 """
 from __future__ import annotations
 
@@ -46,7 +45,7 @@ def run(fault: str) -> tuple[int, list[str]]:
     """Runs the runner over the toy with a fault, and the scenarios that must find it."""
     named = [scenario for one, scenario, _ in FAULTS if one == fault]
     limit = SHORT_LIMIT if fault in SLOW else LIMIT
-    words = [sys.executable, "-B", str(HERE / "conformance.py"), "--program", str(TOY / "toy.py"),
+    words = [sys.executable, "-B", str(HERE / "conformance"), "--program", str(TOY / "toy.py"),
              "--scenarios", str(TOY / "scenarios"), "--limit", str(limit),
              *(["--only", *named] if named else [])]
     done = subprocess.run(words, env={**os.environ, "TOY": fault}, capture_output=True, text=True,

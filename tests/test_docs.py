@@ -1,4 +1,3 @@
-#!/usr/bin/env python3
 """Holds the pages of the repository to what is there.
 
 Each name that docs/DEFINITIONS.md and docs/MAP.md cite stands in the crates that they name: an item
@@ -12,7 +11,7 @@ page: in one with lines `$ COMMAND` the lines behind each are what it must print
 any lines; without such lines each command must succeed. `<!-- run, status 7 -->` is one whose last
 command must end so.
 
-    tests/test_docs.py --only links blocks
+    PYTHONPATH=python python3 -m tests.test_docs --only links blocks
 """
 from __future__ import annotations
 
@@ -31,13 +30,13 @@ from dataclasses import dataclass, field
 from functools import cached_property
 from pathlib import Path
 
-sys.dont_write_bytecode = True
-ROOT = Path(__file__).resolve().parent.parent
-sys.path.insert(0, str(ROOT / "tools"))
+from dev.repository import Repository
+from kidrofemba.cli import COMPANIONS
+from tests.runner.compare import show
+from tests.runner.words import OPTIONS
 
-from repository import Repository  # noqa: E402
-from runner.compare import show  # noqa: E402
-from runner.words import OPTIONS  # noqa: E402
+ROOT = Path(__file__).resolve().parent.parent
+
 
 PROGRAM = ROOT / "crates/stdcm/out/stdcm"
 #: The most bytes of README.md; None as long as it has no limit.
@@ -376,19 +375,32 @@ def fault_of_words(text: str) -> str | None:
     """What is wrong with a command that is not run: what it calls is there, and has its options."""
     name, words = first_word(text)
     used = [word.partition("=")[0] for word in words if word.startswith("--")]
-    if name.rpartition("/")[2] == "stdcm":
+    command = name.rpartition("/")[2]
+    if command == "kidrofemba" and words and words[0] in COMPANIONS:
+        return fault_of_companion(words[0], used)
+    if command in ("stdcm", "kidrofemba"):
         if not words or words[0] not in OPTIONS:
             return f"{' '.join([name, *words[:1]])} is no command"
         lost = [word for word in used if word[2:] not in OPTIONS[words[0]]]
         return f"{words[0]} has no option {lost[0]}" if lost else None
     path = name.removeprefix("./")
-    if not (name == "./demo" or path.startswith(("tools/", "bench/", "tests/", ".ci/"))):
+    if not (name == "./demo" or path.startswith(("dev/", "bench/", "tests/", ".ci/"))):
         return None
     if not os.access(ROOT / path, os.X_OK):
         return f"{name} is not there, or cannot be run"
-    told = (ROOT / path).read_text(errors="replace")
+    module = ROOT / f"{path}.py"
+    told = (module if module.is_file() else ROOT / path).read_text(errors="replace")
     lost = [word for word in used if not re.search(re.escape(word) + r"\b", told)]
     return f"{name} has no option {lost[0]}" if lost else None
+
+
+def fault_of_companion(name: str, used: list[str]) -> str | None:
+    """What is wrong with options of a companion; behind `--` stand those of another command."""
+    file = ROOT / "python/kidrofemba" / f"{COMPANIONS[name].module.replace('.', '/')}.py"
+    told = file.read_text()
+    own = used[:used.index("--")] if "--" in used else used
+    lost = [word for word in own if not re.search(rf"{word}\b|\"{word[2:]}\"", told)]
+    return f"kidrofemba {name} has no option {lost[0]}" if lost else None
 
 
 def words_of_blocks() -> list[str]:
@@ -513,7 +525,7 @@ def main() -> int:
     failed = 0
     for name, call in chosen:
         if name == "runs of blocks" and not options.program.is_file():
-            faults = [f"no program at {options.program}: tools/build makes it"]
+            faults = [f"no program at {options.program}: dev/build makes it"]
         else:
             faults = call()
         failed += bool(faults)

@@ -1,6 +1,5 @@
-#!/usr/bin/env python3
-"""Tests of tools/door.py with real processes: crashes of servers and of clients, floods, rights,
-limits, and the end in order. `--long` runs the crashes at full length: 16 clients, 100,000 lines,
+"""Tests of `kidrofemba door` with real processes: crashes of servers and of clients, floods,
+rights, limits, and the end in order. `--long` runs the crashes at full length: 16 clients, 100,000 lines,
 20 kills of the server and 100 of clients.
 """
 from __future__ import annotations
@@ -22,12 +21,10 @@ from dataclasses import dataclass, field
 from datetime import datetime, timedelta, timezone
 from pathlib import Path
 
-from crashing_client import entry_of, noted, span_of
-from door_world import (LONG_S, PROGRAM, TOOLS, Door, Failed, Talk, World, in_memory, new_world,
-                        run_cases, wait_until, want)
-
-sys.path.insert(0, str(TOOLS))
-from journal_file import Claim, Entry, Kind, read_journal  # noqa: E402
+from kidrofemba.journal.journal_file import Claim, Entry, Kind, read_journal
+from tests.crashing_client import entry_of, noted, span_of
+from tests.door_world import (LONG_S, PROGRAM, Door, Failed, Talk, World, in_memory,
+                              new_world, run_cases, wait_until, want)
 
 CLIENT = Path(__file__).resolve().parent / "crashing_client.py"
 REPLIES = {"hold": {"held", "kept"}, "taken": {"taken"}, "front": {"front"},

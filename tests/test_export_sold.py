@@ -1,8 +1,7 @@
-#!/usr/bin/env python3
 """Tests the schedules that are made of sold paths: by hand on a line of three blocks, and back
 again into runs on a corridor.
 
-    tests/test_export_sold.py --program crates/stdcm/out/stdcm
+    PYTHONPATH=python python3 -m tests.test_export_sold --program crates/stdcm/out/stdcm
 """
 from __future__ import annotations
 
@@ -14,12 +13,12 @@ from datetime import datetime
 from pathlib import Path
 from typing import Any
 
-REPOSITORY = Path(__file__).resolve().parent.parent
-sys.path[:0] = [str(REPOSITORY / name) for name in ("tools", "tests", "bench")]
+from bench.corridor import corridor
+from kidrofemba.journal import export_sold
+from tests.cases import Cases, Ran, World, leftovers, program_of, run
 
-import export_sold  # noqa: E402
-from cases import Cases, Ran, World, leftovers, program_of, run  # noqa: E402
-from corridor import corridor  # noqa: E402
+REPOSITORY = Path(__file__).resolve().parent.parent
+
 
 EXAMPLES = REPOSITORY / "examples"
 BEGINS = "2026-11-29T22:59:00+01:00"
@@ -130,7 +129,7 @@ def try_bad_input(cases: Cases, world: World) -> None:
 
     def try_one(name: str, wanted: str, *options: object) -> None:
         done = export(world, *options)
-        cases.holds(f"{name}: told", done.err.startswith("export_sold: ") and wanted in done.err
+        cases.holds(f"{name}: told", done.err.startswith("export: ") and wanted in done.err
                     and len(done.err.splitlines()) == 1, done.err)
         cases.holds(f"{name}: nothing made", done.status == 2 and not world.path("out").exists()
                     and not list(leftovers(world.folder)))

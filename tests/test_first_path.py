@@ -1,8 +1,7 @@
-#!/usr/bin/env python3
 """Tests the way from an export to a first path, with nothing planned yet: for each made export the
 network, a journal, a path that is sold, and a train graph of it.
 
-    tests/test_first_path.py --program crates/stdcm/out/stdcm
+    PYTHONPATH=python python3 -m tests.test_first_path --program crates/stdcm/out/stdcm
 """
 from __future__ import annotations
 
@@ -14,15 +13,12 @@ from itertools import permutations
 from pathlib import Path
 from xml.etree import ElementTree
 
-from cases import REPOSITORY, Cases, World, program_of, run
-
-sys.path.insert(0, str(REPOSITORY / "tools"))
-
-import import_osrd  # noqa: E402
-import progress  # noqa: E402
-import train_graph  # noqa: E402
-from companion import Refused, escaped  # noqa: E402
-from made_exports import Json, fractions, oddities, small  # noqa: E402
+from kidrofemba.common import progress
+from kidrofemba.common.companion import Refused, escaped
+from kidrofemba.graph import train_graph
+from kidrofemba.osrd import import_network
+from tests.cases import REPOSITORY, Cases, World, program_of, run
+from tests.made_exports import Json, fractions, oddities, small
 
 # A busy machine may take longer than two seconds, and what is told of that is no refusal.
 progress.FIRST_S = 3600.0
@@ -34,7 +30,7 @@ def import_export(cases: Cases, name: str, world: World, export: Json) -> None:
              str(world.path("report"))]
     try:
         with contextlib.redirect_stdout(io.StringIO()):
-            import_osrd.import_network(words)
+            import_network.import_network(words)
         cases.holds(f"{name}: the report is written", world.path("report").stat().st_size > 0)
     except Refused as refusal:
         cases.holds(f"{name}: the export is taken", False, refusal)

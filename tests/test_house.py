@@ -1,7 +1,6 @@
-#!/usr/bin/env python3
-"""Tries tools/house on a small repository, whose counts were made by hand.
+"""Tries dev/house on a small repository, whose counts were made by hand.
 
-    tests/test_house.py
+    PYTHONPATH=python python3 -m tests.test_house
 """
 from __future__ import annotations
 
@@ -10,10 +9,10 @@ import sys
 import tempfile
 from pathlib import Path
 
-REPOSITORY = Path(__file__).resolve().parent.parent
-sys.path[:0] = [str(REPOSITORY / name) for name in ("tools", "tests")]
+from tests.cases import Cases
 
-from cases import Cases  # noqa: E402
+REPOSITORY = Path(__file__).resolve().parent.parent
+
 
 KIT = " ".join(f"kit_{number}" for number in range(11))
 # A chain of four: lowest, middle, program, bench. The program names 13 libraries, the bench 14.
@@ -146,7 +145,7 @@ def bare_numbers(number: str, name: str) -> str:
 
 def told_of(root: Path, *words: str) -> tuple[int, str]:
     """The exit status of the tool for a repository, and what it tells."""
-    done = subprocess.run([sys.executable, "-B", str(REPOSITORY / "tools/house"), "--root",
+    done = subprocess.run([sys.executable, "-B", str(REPOSITORY / "dev/house"), "--root",
                            str(root), *words], capture_output=True, text=True)
     return done.returncode, done.stdout + done.stderr
 

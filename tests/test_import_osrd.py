@@ -1,10 +1,9 @@
-#!/usr/bin/env python3
 """Tests of the importer of OSRD's exports: rounding, walks, blocks, switches, regions, bad input.
 
 What is wanted comes from paper and pencil, from a walk in real metres of its own, and from the
 plain model of `list`; the built program reads what the importer makes.
 
-    tests/test_import_osrd.py --program crates/stdcm/out/stdcm
+    PYTHONPATH=python python3 -m tests.test_import_osrd --program crates/stdcm/out/stdcm
 """
 from __future__ import annotations
 
@@ -24,18 +23,18 @@ from collections.abc import Callable
 from pathlib import Path
 from typing import Any
 
-REPOSITORY = Path(__file__).resolve().parent.parent
-sys.path[:0] = [str(REPOSITORY / name) for name in ("tools", "tests")]
+from kidrofemba.common import progress
+from kidrofemba.common.companion import Refused
+from kidrofemba.osrd import export as osrd_export
+from kidrofemba.osrd import import_network
+from kidrofemba.osrd.blocks import sides_of
+from kidrofemba.osrd.whole_metres import Ruler, spread
+from tests import made_exports
+from tests.made_exports import BACKWARD, FORWARD, TYPES, Json
+from tests.oracles.plain_list import table
 
-import import_osrd  # noqa: E402
-import made_exports  # noqa: E402
-import osrd_export  # noqa: E402
-import progress  # noqa: E402
-from companion import Refused  # noqa: E402
-from made_exports import BACKWARD, FORWARD, TYPES, Json  # noqa: E402
-from osrd_blocks import sides_of  # noqa: E402
-from plain_list import table  # noqa: E402
-from whole_metres import Ruler, spread  # noqa: E402
+REPOSITORY = Path(__file__).resolve().parent.parent
+
 
 RANDOM_TRACKS = 100_000
 RANDOM_CHANGES = 500
@@ -102,7 +101,7 @@ def run_quietly(words: list[str]) -> str:
     """Runs the importer in this process, and gives what it printed; a refusal is raised."""
     out = io.StringIO()
     with contextlib.redirect_stdout(out), contextlib.redirect_stderr(out):
-        import_osrd.import_network(words)
+        import_network.import_network(words)
     return out.getvalue()
 
 
@@ -810,15 +809,16 @@ def refusal_of(words: list[str]) -> list[str]:
     told = io.StringIO()
     with contextlib.redirect_stdout(io.StringIO()), contextlib.redirect_stderr(told):
         try:
-            import_osrd.import_network(words)
+            import_network.import_network(words)
         except Refused as refusal:
-            return faults_in(f"{told.getvalue()}import_osrd: {refusal}")
+            return faults_in(f"{told.getvalue()}import-network: {refusal}")
     return []
 
 
 def faults_in(told: str) -> list[str]:
     """The lines of a report but those of progress, which a busy machine may have."""
-    return [line for line in told.splitlines() if not re.match(r"import_osrd: \d+ of \d+ ", line)]
+    progress_told = re.compile(r"import-network: \d+ of \d+ ")
+    return [line for line in told.splitlines() if not progress_told.match(line)]
 
 
 def command(
@@ -826,7 +826,7 @@ def command(
 ) -> tuple[int, list[str], str]:
     """The status, report and output of the importer as a command."""
     done = subprocess.run(
-        [sys.executable, REPOSITORY / "tools/import_osrd.py", *words],
+        [sys.executable, REPOSITORY / "kidrofemba", "import-network", *words],
         capture_output=True,
         text=True,
         cwd=cases.folder,
@@ -852,7 +852,7 @@ def bad_input(cases: Cases) -> None:
         told = refusal_of(words)
         cases.holds(
             f"refusal of {name}",
-            told != [] and told[0].startswith(f"import_osrd: {export}: {wanted}"),
+            told != [] and told[0].startswith(f"import-network: {export}: {wanted}"),
             told[:2],
         )
         cases.check(f"nothing written for {name}", before, sorted(os.listdir(cases.folder)))
@@ -926,12 +926,12 @@ def bad_words(cases: Cases) -> None:
         there = sorted(os.listdir(folder))
         status, lines, out = command(cases, words, before)
         cases.check(f"{name}: status", (2, 1, ""), (status, len(lines), out))
-        cases.holds(name, lines[0].startswith(f"import_osrd: {wanted}"), lines)
+        cases.holds(name, lines[0].startswith(f"import-network: {wanted}"), lines)
         cases.check(f"{name}: nothing written", there, sorted(os.listdir(folder)))
     cases.holds("the device is one still", not Path("/dev/full").is_file())
     status, lines, out = command(cases, ["--help"])
     cases.holds(
-        "help with an example", status == 0 and "tools/import_osrd.py export.json" in out, out
+        "help with an example", status == 0 and "kidrofemba import-network export.json" in out, out
     )
 
 
@@ -944,8 +944,8 @@ def too_large(cases: Cases) -> None:
     file = cases.folder / "large.json"
     file.write_text(json.dumps(make.export()))
     wanted = (
-        f"import_osrd: {file}: the network would have 65538 directed points (two for each detector"
-        " and buffer stop), and the server reads at most 65536: choose fewer lines by --lines"
+        f"import-network: {file}: the network would have 65538 directed points (two for each "
+        "detector and buffer stop), and the server reads at most 65536: choose fewer lines by --lines"
     )
     told = refusal_of([str(file), str(cases.folder / "n"), "--report", str(cases.folder / "r")])
     cases.check("a network that is too large", [wanted], told)

@@ -1,8 +1,7 @@
-#!/usr/bin/env python3
 """Tests the making of train files and base files from what OSRD knows, over made plans and single
 cases that were worked out by hand.
 
-    tests/test_import_planned.py --program crates/stdcm/out/stdcm
+    PYTHONPATH=python python3 -m tests.test_import_planned --program crates/stdcm/out/stdcm
 """
 from __future__ import annotations
 
@@ -17,12 +16,12 @@ from math import ceil, floor
 from pathlib import Path
 from typing import Any
 
-REPOSITORY = Path(__file__).resolve().parent.parent
-sys.path[:0] = [str(REPOSITORY / name) for name in ("tools", "tests")]
+from kidrofemba.plan import import_plan
+from tests.cases import Cases, Ran, World, changed, leftovers, program_of, run
+from tests.made_plans import BEGIN, MadeNetwork, made_plan, need, train, zone_numbers
 
-import import_planned  # noqa: E402
-from cases import Cases, Ran, World, changed, leftovers, program_of, run  # noqa: E402
-from made_plans import BEGIN, MadeNetwork, made_plan, need, train, zone_numbers  # noqa: E402
+REPOSITORY = Path(__file__).resolve().parent.parent
+
 
 PLANS = 60
 STOCK = {"name": "freight 1800t", "length": 649.5, "mass": 1_800_000.0, "max_speed": 25.0,
@@ -48,7 +47,7 @@ class Made:
         for name in ("base", "report"):
             self.world.path(name).unlink(missing_ok=True)
         self.world.write("plan", plan)
-        return run(import_planned, "base", self.world.path("base"), self.world.path("plan"),
+        return run(import_plan, "base", self.world.path("base"), self.world.path("plan"),
                    *self.world.files("network", "table", "report"), "--begin", BEGIN, *options)
 
     def zone(self, at: int) -> str:
@@ -76,7 +75,7 @@ class Made:
         number = {zone.name: at for zone, at in zip(self.network.zones, self.numbers)}
         taken: Ticks = defaultdict(set)
         for one in plan["trains"]:
-            start = import_planned.moment_of(one["start_time"]) - import_planned.moment_of(BEGIN)
+            start = import_plan.moment_of(one["start_time"]) - import_plan.moment_of(BEGIN)
             for told in one["spacing_requirements"]:
                 begin, end = (Fraction(1000 * round(start.total_seconds()) + told[key],
                                        1000 * tick_s) for key in ("begin_time", "end_time"))
@@ -159,7 +158,7 @@ def try_conflicts(cases: Cases, made: Made) -> None:
     plan = {"trains": [train("IC 7", 3_600, [need(zone, 0, 20_000)]),
                        train("FRET 8", 3_600, [need(zone, 10_500, 40_000)])]}
     done = made.base(plan)
-    told = (f"import_planned: {made.world.path('plan')}: zone {number} (A 0-700 m): IC 7 and FRET 8"
+    told = (f"import-plan: {made.world.path('plan')}: zone {number} (A 0-700 m): IC 7 and FRET 8"
             " both have it from 01:00:10 to 01:00:20")
     cases.equal("conflict: status", 2, done.status)
     cases.equal("conflict: told", told, done.err.splitlines()[0])
@@ -299,7 +298,7 @@ def bad_plans(made: Made) -> list[tuple[str, Callable[[Any], object], str]]:
 def refused(cases: Cases, made: Made, name: str, done: Ran, wanted: str) -> None:
     """One line that tells what is wrong, status 2, and nothing written."""
     cases.equal(f"{name}: status", 2, done.status)
-    cases.holds(f"{name}: told", done.err.startswith("import_planned: ") and wanted in done.err
+    cases.holds(f"{name}: told", done.err.startswith("import-plan: ") and wanted in done.err
                 and len(done.err.splitlines()) == 1, done.err)
     cases.holds(f"{name}: nothing written", not made.world.path("base").exists()
                 and not made.world.path("report").exists()
@@ -328,10 +327,10 @@ def try_bad_input(cases: Cases, made: Made) -> None:
                                   ("--report", made.world.path("base"), "is named twice"),
                                   ("--report", made.world.path("no/report"), "not written")):
         refused(cases, made, f"{option} {value}", made.base(plan, option, value), wanted)
-    import_planned.MOST_CLAIMS = 1
+    import_plan.MOST_CLAIMS = 1
     refused(cases, made, "too many claims", made.base(plan), "2 claims, and the server reads at")
-    import_planned.MOST_CLAIMS = 262_144
-    words = [sys.executable, REPOSITORY / "tools/import_planned.py", "base", "x", "y"]
+    import_plan.MOST_CLAIMS = 262_144
+    words = [sys.executable, REPOSITORY / "kidrofemba", "import-plan", "base", "x", "y"]
     done = subprocess.run(words, capture_output=True, text=True)
     cases.holds("words that are wrong", done.returncode == 2 and "usage" in done.stderr)
 
@@ -339,7 +338,7 @@ def try_bad_input(cases: Cases, made: Made) -> None:
 def stock_train(made: Made, stock: Any) -> tuple[Ran, dict[str, Any]]:
     """The train that is made of a rolling stock."""
     made.world.path("made").unlink(missing_ok=True)
-    done = run(import_planned, "trains", made.world.path("made"),
+    done = run(import_plan, "trains", made.world.path("made"),
                made.world.write("stock", stock), "--allowance", 7)
     trains = made.world.read("made")["trains"] if done.status == 0 else [{}]
     return done, trains[0]

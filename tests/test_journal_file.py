@@ -1,8 +1,7 @@
-#!/usr/bin/env python3
 """Tests the reader of journals, by journals that the program wrote, and by ones that are cut or
 damaged.
 
-    tests/test_journal_file.py --program crates/stdcm/out/stdcm
+    PYTHONPATH=python python3 -m tests.test_journal_file --program crates/stdcm/out/stdcm
 """
 from __future__ import annotations
 
@@ -10,13 +9,13 @@ import sys
 import tempfile
 from pathlib import Path
 
-REPOSITORY = Path(__file__).resolve().parent.parent
-sys.path[:0] = [str(REPOSITORY / name) for name in ("tools", "tests")]
+from kidrofemba.common.companion import Refused, escaped
+from kidrofemba.journal.journal_file import (Claim, Journal, JournalTrain, Kind, Request, Run,
+                                             beginning_of, read_journal)
+from tests.cases import Cases, World, program_of
 
-from cases import Cases, World, program_of  # noqa: E402
-from companion import Refused, escaped  # noqa: E402
-from journal_file import (Claim, Journal, JournalTrain, Kind, Request, Run,  # noqa: E402
-                          beginning_of, read_journal)
+REPOSITORY = Path(__file__).resolve().parent.parent
+
 
 EXAMPLES = REPOSITORY / "examples"
 FIRST_GATE = 76

@@ -1,11 +1,10 @@
-#!/usr/bin/env python3
 """Tries the limits of large files with the built program over real files.
 
 The cases, and what must come of each, stand in tests/limits.cases, whose head tells its words. A
 case of which the program does otherwise is printed with the line of that file.
 
-    tests/test_limits.py --program crates/stdcm/out/stdcm
-    tests/test_limits.py --only zones "4,096 trains"
+    PYTHONPATH=python python3 -m tests.test_limits --program crates/stdcm/out/stdcm
+    PYTHONPATH=python python3 -m tests.test_limits --only zones "4,096 trains"
 """
 from __future__ import annotations
 
@@ -16,10 +15,8 @@ from collections.abc import Iterator
 from dataclasses import dataclass, field
 from pathlib import Path
 
-sys.dont_write_bytecode = True
-
-from runner.calls import Program  # noqa: E402
-from runner.compare import Difference  # noqa: E402
+from tests.runner.calls import Program
+from tests.runner.compare import Difference
 
 HERE = Path(__file__).resolve().parent
 PROGRAM = HERE.parent / "crates/stdcm/out/stdcm"
@@ -218,7 +215,7 @@ def main() -> int:
                         help="the cases whose titles have one of these words")
     options = parser.parse_args()
     if not options.program.is_file():
-        parser.error(f"no program at {options.program}: tools/build makes it")
+        parser.error(f"no program at {options.program}: dev/build makes it")
     program = Program(options.program.resolve(), LIMIT_S)
     failed = 0
     try:

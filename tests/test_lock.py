@@ -1,4 +1,3 @@
-#!/usr/bin/env python3
 """Tries that one process at a time writes a journal, with real processes over real files.
 
 A command that may write a journal (`serve`, `batch`, `init`) has it alone from opening it until
@@ -6,7 +5,7 @@ it is put back: another such command is refused by `open: NAME` or `disk: NAME`,
 nothing. `stairs`, `capacity` and `check` read it beside a server. A killed server holds nothing.
 What `carry` holds is tried by tests/test_carry.py.
 
-    tests/test_lock.py --program crates/stdcm/out/stdcm
+    PYTHONPATH=python python3 -m tests.test_lock --program crates/stdcm/out/stdcm
 """
 from __future__ import annotations
 
@@ -22,10 +21,8 @@ from contextlib import contextmanager
 from dataclasses import dataclass
 from pathlib import Path
 
-sys.dont_write_bytecode = True
-
-from runner.calls import Ended, Program, Session, stop  # noqa: E402
-from runner.compare import Difference  # noqa: E402
+from tests.runner.calls import Ended, Program, Session, stop
+from tests.runner.compare import Difference
 
 ROOT = Path(__file__).resolve().parent.parent
 EXAMPLES = ROOT / "examples"
@@ -444,7 +441,7 @@ def main() -> int:
     parser.add_argument("--program", type=Path, default=PROGRAM, help="the built program")
     options = parser.parse_args()
     if not options.program.is_file():
-        parser.error(f"no program at {options.program}: tools/build makes it")
+        parser.error(f"no program at {options.program}: dev/build makes it")
     program = Program(options.program.resolve(), 20.0)
     failed = 0
     for case in CASES:

@@ -1,8 +1,7 @@
-#!/usr/bin/env python3
-"""Tests of tools/mend_journal.py: each byte of a journal is spoilt, one after the other, and mended
+"""Tests of `kidrofemba mend`: each byte of a journal is spoilt, one after the other, and mended
 by a backup; and beginnings that the program opens.
 
-    tests/test_mend_journal.py --program crates/stdcm/out/stdcm
+    PYTHONPATH=python python3 -m tests.test_mend_journal --program crates/stdcm/out/stdcm
 """
 from __future__ import annotations
 
@@ -10,11 +9,11 @@ import sys
 import tempfile
 from pathlib import Path
 
-REPOSITORY = Path(__file__).resolve().parent.parent
-sys.path[:0] = [str(REPOSITORY / name) for name in ("tools", "tests")]
+from kidrofemba.journal import mend
+from tests.cases import Cases, Ran, World, program_of, run
 
-import mend_journal  # noqa: E402
-from cases import Cases, Ran, World, program_of, run  # noqa: E402
+REPOSITORY = Path(__file__).resolve().parent.parent
+
 
 EXAMPLES = REPOSITORY / "examples"
 HEADER, RECORD = 76, 40
@@ -23,7 +22,7 @@ HEADER, RECORD = 76, 40
 
 def mended(world: World, *words: object) -> Ran:
     world.path("mended").unlink(missing_ok=True)
-    return run(mend_journal, "--journal", world.path("damaged"), "--out", world.path("mended"),
+    return run(mend, "--journal", world.path("damaged"), "--out", world.path("mended"),
                *words)
 
 
@@ -50,7 +49,7 @@ def try_backups(cases: Cases, world: World, whole: bytes, backup: bytes) -> None
     gate = HEADER + 3 * RECORD
     world.path("damaged").write_bytes(whole[:gate + 1] + b"\x7f" + whole[gate + 2:])
     told = mended(world, "--backup", world.path("backup"))
-    cases.equal("damage behind the backup", (2, f"mend_journal: {world.path('damaged')}: byte "
+    cases.equal("damage behind the backup", (2, f"mend: {world.path('damaged')}: byte "
                 f"{gate}: an open gate with no whole record behind it\n"), (told.status, told.err))
     world.path("damaged").write_bytes(whole[:HEADER + RECORD])
     told = mended(world, "--backup", world.path("backup"))
@@ -69,9 +68,9 @@ def try_beginnings(cases: Cases, world: World, whole: bytes) -> None:
                     world.path("mended").read_bytes())
         cases.equal(f"{entries}: front", [f"front at {entries}"], front_of(world, "mended"))
     cases.equal("only its user reads it", 0o600, world.path("mended").stat().st_mode & 0o777)
-    told = run(mend_journal, "--journal", world.path("damaged"), "--entries", 1, "--out",
+    told = run(mend, "--journal", world.path("damaged"), "--entries", 1, "--out",
                world.path("mended"))
-    cases.equal("a file that is there", (2, f"mend_journal: {world.path('mended')}: is there: name "
+    cases.equal("a file that is there", (2, f"mend: {world.path('mended')}: is there: name "
                                             "a new file\n"), (told.status, told.err))
     for words, wanted in ((("--entries", 4), f"byte {gate}: an open gate"),
                           (("--entries", -1), "words: --entries: is less than 0")):

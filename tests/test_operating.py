@@ -1,4 +1,3 @@
-#!/usr/bin/env python3
 """Runs the commands of docs/OPERATING.md as a new operator would, in their order and in one shell,
 and compares what they print with what the page says. A block in `sh` is run; a block in `text`
 behind it is what it prints."""
@@ -38,7 +37,7 @@ def blocks_of(page: str) -> list[Block]:
 
 def run(blocks: list[Block], program: Path, folder: Path) -> list[str]:
     """What each block prints, in a folder that looks like the repository's top."""
-    for name in ("tools", "examples", "docs"):
+    for name in ("kidrofemba", "python", "examples", "docs"):
         (folder / name).symlink_to(TOP / name)
     place = folder / "crates/stdcm/out"
     place.mkdir(parents=True)

@@ -1,10 +1,9 @@
-#!/usr/bin/env python3
 """Compares `list` of the built program with the plain model, byte for byte.
 
 Networks: those of examples/, 360 small random ones, and corridors. The model itself is held to the
 printed table of the station, and to rows that were worked out by hand.
 
-    tests/test_plain_list.py --program crates/stdcm/out/stdcm
+    PYTHONPATH=python python3 -m tests.test_plain_list --program crates/stdcm/out/stdcm
 """
 from __future__ import annotations
 
@@ -19,13 +18,12 @@ from collections.abc import Callable
 from pathlib import Path
 from typing import Any
 
-REPOSITORY = Path(__file__).resolve().parent.parent
-sys.path[:0] = [str(REPOSITORY / name) for name in ("tools", "tests", "bench")]
+from bench.corridor import corridor
+from tests.made_networks import made_network
+from tests.oracles.plain_list import Network, NetworkFault, table
 
-from companion import Refused  # noqa: E402
-from corridor import corridor  # noqa: E402
-from made_networks import made_network  # noqa: E402
-from plain_list import Network, NetworkFault, table  # noqa: E402
+REPOSITORY = Path(__file__).resolve().parent.parent
+
 
 RANDOM_NETWORKS = 360
 
@@ -176,7 +174,8 @@ def bad_files(cases: Cases, folder: Path) -> None:
         file = folder / "bad.json"
         file.write_bytes(text if isinstance(text, bytes) else text.encode())
         done = subprocess.run(
-            [sys.executable, REPOSITORY / "tools/plain_list.py", file],
+            [sys.executable, "-m", "tests.oracles.plain_list", file],
+            cwd=REPOSITORY,
             capture_output=True,
             text=True,
         )

@@ -1,7 +1,6 @@
-#!/usr/bin/env python3
-"""Tries tools/proof_costs over a crate whose kept modules have times that were given by hand.
+"""Tries dev/proof_costs over a crate whose kept modules have times that were given by hand.
 
-    tests/test_proof_costs.py
+    PYTHONPATH=python python3 -m tests.test_proof_costs
 """
 from __future__ import annotations
 
@@ -11,11 +10,9 @@ import sys
 import tempfile
 from pathlib import Path
 
-sys.dont_write_bytecode = True
+from tests.cases import Cases
 
-from cases import Cases  # noqa: E402
-
-TOOL = Path(__file__).resolve().parent.parent / "tools/proof_costs"
+TOOL = Path(__file__).resolve().parent.parent / "dev/proof_costs"
 #: Modules of a check, each with the second at which it was written: a first one, of which nothing
 #: stands before it; two functions with three and two parts; a file of proofs/ and one of specs/;
 #: and what a check wrote on another day.

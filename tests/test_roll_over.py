@@ -1,6 +1,5 @@
-#!/usr/bin/env python3
-"""Tests of tools/roll_over.py: a day rolled over to the next one by lines of the clients, what is
-lost told, and `carry` where the program has it."""
+"""Tests of `kidrofemba roll-over`: a day rolled over to the next one by lines of the clients, what
+is lost told, and `carry` where the program has it."""
 from __future__ import annotations
 
 import argparse
@@ -12,11 +11,9 @@ import sys
 from dataclasses import dataclass
 from pathlib import Path
 
-from door_world import (EXAMPLES, LONG_S, PROGRAM, TOOLS, World, in_memory, new_world, run_cases,
-                        want)
-
-sys.path.insert(0, str(TOOLS))
-from journal_file import Claim, Entry, Kind, Run, read_journal  # noqa: E402
+from kidrofemba.journal.journal_file import Claim, Entry, Kind, Run, read_journal
+from tests.door_world import (EXAMPLES, KIDROFEMBA, LONG_S, PROGRAM, World, in_memory, new_world,
+                              run_cases, want)
 
 DAY = 8_640
 MONDAY = {"tick_s": 10, "setting": 1, "release": 1, "horizon": 17280, "journal_bytes": 268435456,
@@ -57,7 +54,7 @@ class Two:
         """The words that roll over to a base file of this content."""
         tuesday = self.folder / "tuesday.json"
         tuesday.write_text(json.dumps(base or TUESDAY))
-        return [sys.executable, str(TOOLS / "roll_over.py"), "--program", str(self.monday.program),
+        return [sys.executable, str(KIDROFEMBA), "roll-over", "--program", str(self.monday.program),
                 "--network", str(self.monday.network), "--trains", str(self.monday.trains),
                 "--base", str(tuesday), "--journal", str(self.journal), "--from",
                 str(self.monday.journal), "--from-base", str(self.monday.base), *options]
@@ -117,7 +114,7 @@ def a_day_is_rolled_over(program: Path) -> None:
         ended = subprocess.run(words, capture_output=True, text=True, timeout=LONG_S, check=False,
                                cwd=program.parent)
         status, told, wrong = ended.returncode, ended.stdout, ended.stderr
-        want(status == 0 and not [row for row in wrong.splitlines() if "roll_over" in row],
+        want(status == 0 and not [row for row in wrong.splitlines() if "roll-over" in row],
              f"{status} {told} {wrong}")
         want(told == "carried 6 left 0; 1 of them as planned trains; 3 were over\n", told)
         want(world.journal.read_bytes() == before, "the old journal is changed")
@@ -255,7 +252,7 @@ def paths_under_way_stay_sold_at_later_carries(program: Path) -> None:
         later = given.later()
         base = TUESDAY | {"journal_bytes": 200_000_000}
         status, told, wrong = later.roll(base=base)
-        want((status, told) == (2, "") and wrong == "roll_over: words: --out-base: is needed: 1 "
+        want((status, told) == (2, "") and wrong == "roll-over: words: --out-base: is needed: 1 "
              "paths are under way at the new tick 0: sold A 2\n", f"{status} {told} {wrong}")
         want(not later.journal.exists(), "a journal is made without it")
         # A train of this name at other ticks is not that train.

@@ -1,7 +1,6 @@
-#!/usr/bin/env python3
-"""Tries tools/tables on small tables of a made repository, with a stand-in for their program.
+"""Tries dev/tables on small tables of a made repository, with a stand-in for their program.
 
-    tests/test_tables.py
+    PYTHONPATH=python python3 -m tests.test_tables
 """
 from __future__ import annotations
 
@@ -12,9 +11,7 @@ import tempfile
 from dataclasses import dataclass
 from pathlib import Path
 
-sys.dont_write_bytecode = True
-
-from cases import REPOSITORY, Cases  # noqa: E402
+from tests.cases import REPOSITORY, Cases
 
 #: Carries out a table: `say TEXT` prints a text, `show NAME` a file's lines that are not empty.
 STAND_IN = """#!/usr/bin/env python3
@@ -116,7 +113,7 @@ show pair
 say behind
 = behind
 """
-STDIN = """# Made by tools/tables of tests/tables/small: change the cases there.
+STDIN = """# Made by dev/tables of tests/tables/small: change the cases there.
 #
 # How to read it.
 #
@@ -217,10 +214,11 @@ class Clone:
     root: Path
 
     def __post_init__(self) -> None:
-        for name in ("tools", "tests/tables/small", "crates/small/out"):
+        for name in ("dev", "tests/tables/small", "crates/small/out", "python/kidrofemba/common"):
             (self.root / name).mkdir(parents=True)
-        for name in ("tables", "case_tables.py", "companion.py", "repository.py"):
-            shutil.copy2(REPOSITORY / "tools" / name, self.root / "tools" / name)
+        for name in ("dev/tables", "dev/tables.py", "dev/case_tables.py", "dev/repository.py",
+                     "python/kidrofemba/common/companion.py"):
+            shutil.copy2(REPOSITORY / name, self.root / name)
         self.build("small", STAND_IN)
 
     def build(self, name: str, text: str) -> Path:
@@ -245,7 +243,7 @@ class Clone:
         return (self.root / "crates/small" / name).read_text()
 
     def run(self, *words: str) -> subprocess.CompletedProcess[str]:
-        return subprocess.run([sys.executable, "-B", str(self.root / "tools/tables"), *words],
+        return subprocess.run([sys.executable, "-B", str(self.root / "dev/tables"), *words],
                               capture_output=True, text=True)
 
     def told(self, *words: str) -> tuple[int, str]:
@@ -257,8 +255,8 @@ class Clone:
 def made_tables(clone: Clone, cases: Cases) -> None:
     """What is made of topics, and whether it is up to date."""
     clone.write(shared=SHARED, station=STATION, yard=YARD)
-    cases.equal("nothing made yet", (1, "crates/small/stdin is not what tools/tables makes of "
-                "tests/tables\ncrates/small/stdout is not what tools/tables makes of tests/tables\n"
+    cases.equal("nothing made yet", (1, "crates/small/stdin is not what dev/tables makes of "
+                "tests/tables\ncrates/small/stdout is not what dev/tables makes of tests/tables\n"
                 "0 passed, 2 failed\n"), clone.told("--check"))
     cases.equal("made", (0, "made crates/small/stdin\nmade crates/small/stdout\n"), clone.told())
     cases.equal("input", STDIN, clone.made("stdin"))
@@ -266,7 +264,7 @@ def made_tables(clone: Clone, cases: Cases) -> None:
     cases.equal("up to date", (0, "2 passed, 0 failed\n"), clone.told("--check"))
     cases.equal("nothing to make", (0, ""), clone.told())
     clone.write(shared=SHARED, station=STATION.replace("= engine", "= brake"), yard=YARD)
-    cases.equal("answers that changed", (1, "crates/small/stdout is not what tools/tables makes of "
+    cases.equal("answers that changed", (1, "crates/small/stdout is not what dev/tables makes of "
                 "tests/tables\n1 passed, 1 failed\n"), clone.told("--check"))
 
 

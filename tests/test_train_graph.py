@@ -1,5 +1,4 @@
-#!/usr/bin/env python3
-"""Tests tools/train_graph.py.
+"""Tests `kidrofemba graph`.
 
 Where lines and blocking times must lie is worked out by hand from the examples: their tracks, runs
 and ticks. The picture docs/train_graph.svg must be what the tool draws of examples/ now; where it
@@ -11,7 +10,7 @@ ought to change, from the top of the repository
     $stdcm init $files
     $stdcm serve $files --trains examples/trains.json \\
         --client A=examples/corridor.lines:$place/told
-    tools/train_graph.py $files --program $stdcm --along West East --width 1000 --height 560 \\
+    ./kidrofemba graph $files --program $stdcm --along West East --width 1000 --height 560 \\
         --out docs/train_graph.svg
 
 makes it. Where the machine has a browser, the pages are opened in it, the mouse is moved, and the
@@ -27,14 +26,11 @@ from html.parser import HTMLParser
 from pathlib import Path
 from typing import Any
 
-from browser import Browser, found_browser
-from cases import REPOSITORY, Cases, Ran, World, changed, leftovers, program_of, run
-from graph_reader import Picture
-
-sys.path.insert(0, str(REPOSITORY / "tools"))
-
-import progress  # noqa: E402
-import train_graph  # noqa: E402
+from kidrofemba.common import progress
+from kidrofemba.graph import train_graph
+from tests.browser import Browser, found_browser
+from tests.cases import REPOSITORY, Cases, Ran, World, changed, leftovers, program_of, run
+from tests.graph_reader import Picture
 
 # A busy machine may take longer than two seconds, and what is told of that is no refusal.
 progress.FIRST_S = 3600.0
@@ -401,7 +397,7 @@ def check_refusals(cases: Cases, graphs: Graphs) -> None:
         spelled = [word for key, value in told.items() if value is not None for word in
                    (f"--{key}", *(value if isinstance(value, list) else [value]))]
         ran = run(train_graph, *spelled)
-        one_line = ran.err.startswith("train_graph: ") and ran.err.count("\n") == 1
+        one_line = ran.err.startswith("graph: ") and ran.err.count("\n") == 1
         cases.holds(f"refused: {name}", (ran.status, one_line) == (2, True) and wanted in ran.err,
                     f"{ran}")
         cases.holds(f"nothing is written: {name}", not list(graphs.path("").glob("never*"))

@@ -1,8 +1,7 @@
-#!/usr/bin/env python3
 """Tests who is told to stand in the way of an ask: on corridors with planned trains, sold paths and
 holds each of them is taken out in turn, in timetables made anew, and the program is asked.
 
-    tests/test_why_not.py --program crates/stdcm/out/stdcm
+    PYTHONPATH=python python3 -m tests.test_why_not --program crates/stdcm/out/stdcm
 """
 from __future__ import annotations
 
@@ -16,14 +15,14 @@ from dataclasses import dataclass
 from pathlib import Path
 from typing import Any
 
-REPOSITORY = Path(__file__).resolve().parent.parent
-sys.path[:0] = [str(REPOSITORY / name) for name in ("tools", "tests", "bench")]
+from bench.corridor import corridor
+from kidrofemba.network.blocking_times import Railway, Settings, Train, blocks_of
+from kidrofemba.network.table_file import read_table
+from kidrofemba.why import why_not
+from tests.cases import Cases, Ran, World, changed, program_of, run
 
-import why_not  # noqa: E402
-from blocking_times import Railway, Settings, Train, blocks_of  # noqa: E402
-from cases import Cases, Ran, World, changed, program_of, run  # noqa: E402
-from corridor import corridor  # noqa: E402
-from table_file import read_table  # noqa: E402
+REPOSITORY = Path(__file__).resolve().parent.parent
+
 
 SECTIONS, BLOCKS, PLANNED = 4, 3, 14
 LATEST = 1_500
@@ -256,7 +255,7 @@ def try_bad_input(cases: Cases, world: World) -> None:
 
     def try_one(name: str, wanted: str, *options: object) -> None:
         done = explain(world, *options)
-        cases.holds(f"{name}: told", done.err.startswith("why_not: ") and wanted in done.err
+        cases.holds(f"{name}: told", done.err.startswith("why: ") and wanted in done.err
                     and len(done.err.splitlines()) == 1 and done.status == 2, done.err)
 
     try_one("no such ask", "proofs: ask 99: has no proof here", "--ask", 99)

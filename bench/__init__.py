@@ -1,0 +1,1 @@
+"""Measurements of the built program, each beside a plain model."""

@@ -1,0 +1,1 @@
+"""The companions of the path server, by subject, and the one command that starts them."""

@@ -1,0 +1,1 @@
+"""What all companions share: refusals, files written whole, clock times, progress."""

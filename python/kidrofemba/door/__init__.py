@@ -1,0 +1,1 @@
+"""The door before a server, and a client of it."""

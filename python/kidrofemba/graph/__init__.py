@@ -1,0 +1,1 @@
+"""Train graphs, as pictures and as pages."""

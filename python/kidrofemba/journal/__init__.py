@@ -1,0 +1,1 @@
+"""Journals and the files that are served: reading, mending, rolling over, exporting."""

@@ -1,0 +1,1 @@
+"""The network of a server as plain models: its tables, routes, places and blocking times."""

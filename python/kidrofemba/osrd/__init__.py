@@ -1,0 +1,1 @@
+"""Networks from exports of OSRD."""

@@ -1,0 +1,1 @@
+"""Train files and base files from rolling stocks and planned trains."""

@@ -1,0 +1,1 @@
+"""Who stood in the way of an ask that was refused."""

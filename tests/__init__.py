@@ -1,0 +1,1 @@
+"""Tests of the built program, of the companions and of the pages."""

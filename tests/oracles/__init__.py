@@ -1,0 +1,1 @@
+"""Plain models that judge the program in tests."""
