@@ -2,6 +2,8 @@ pub mod Opening
 pub mod Crashes
 pub mod Texts
 pub mod Files
+pub mod Pieces
+pub mod Served
 pub mod Failing
 pub mod Moving
 pub mod Beginning

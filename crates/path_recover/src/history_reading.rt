@@ -6,8 +6,9 @@ mod histories;
 mod joins;
 mod laws;
 mod moves;
+mod pieces;
 
 pub use files::read_journal;
 pub use histories::Found;
-pub use laws::one_reading;
+pub use laws::{one_reading, readers_see_one_moment};
 pub use moves::{MoveFault, init_from};

@@ -10,38 +10,12 @@ ghost use Rattle.rail_types.specs.declared.entries.Entry.{Entry as entry_type};
 
 use crate::history_reading::histories::{Found, read_history};
 use crate::history_reading::laws::one_reading;
+use crate::history_reading::pieces::read_file;
 use crate::journal_reading::{OpenFault, pass_header};
 use grant_journal::journal_text::bytes_are_counted;
 use grant_log::History;
 use outside_io::Disk;
 use std::alloc::Global;
-
-// All bytes of a disk, after a sync.
-pub(crate) fn read_file<D: Disk>(alloc: Global, disk: &mut D) -> Result<Vec<u8>, OpenFault>
-    ensures bytes { IfOk result
-        (λ file. IfSome (D.contents disk.old) (λ bytes. file.items ≡ bytes)) }
-    ensures durable { OnOk result ((image : List ℕ) → D.images disk.new image →
-        D.contents disk.old ≡ Some image) }
-    ensures read { IsOnlyRead D.Disk disk.old disk.new }
-    ensures tick { D.clock disk.new ≤ D.clock disk.old + 1 }
-    ensures unread { IfErr result IsUnread }
-    ensures cause { IsAsFaulty (D.faults disk.old) (D.faults disk.new) result }
-{
-    let Ok(()) = disk.sync() else {
-        return Err(OpenFault::ReadFault);
-    };
-    let Ok(count) = disk.len() else {
-        return Err(OpenFault::ReadFault);
-    };
-    let Ok(mut file) = Vec::from_elem(alloc, 0u8, count as usize) else {
-        return Err(OpenFault::Memory);
-    };
-    let Ok(got) = disk.read(0, &mut file) else {
-        return Err(OpenFault::ReadFault);
-    };
-    file.truncate(got);
-    Ok(file)
-}
 
 /// Reads a journal of a version, for a network's file and a base timetable's file with these
 /// digests: a sync, and one pass over the bytes. It begins with the empty history of their network

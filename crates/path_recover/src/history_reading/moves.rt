@@ -11,7 +11,8 @@ ghost use Rattle.path_recover.specs.Files.{IsFound, IsRefused};
 ghost use Rattle.path_recover.specs.Moving.{HasMoveCause, IsMoved, IsMoveRefused, IsUnwritten};
 ghost use Rattle.path_recover.specs.Moving.{move_fault};
 
-use crate::history_reading::files::{read_bytes, read_file};
+use crate::history_reading::files::read_bytes;
+use crate::history_reading::pieces::read_file;
 use crate::journal_reading::OpenFault;
 use grant_log::History;
 use no_memory::NoMemory;
