@@ -17,6 +17,9 @@ status is its own. The program is taken out of that very run.
     dev/build --beside           beside a run of rt ci at the top that another process makes: takes
                                    the program out of that run until it is ended by SIGTERM
     dev/build --lanes 4          prints how many proofs of 4 GB each may run side by side here
+    dev/build --standing         builds nothing: status 0 where the program is built of this very
+                                 tree, which is put in its place then, and else 1
+    dev/build --minutes          prints about how many minutes building takes here from nothing
 
 RT_JOBS in the environment tells how many proofs may run side by side, then always one processor
 each; without it there are as many as processors and memory allow. Where they hold too much memory
@@ -647,6 +650,20 @@ def own_tree(repository: Repository, crates: list[str]) -> Iterator[Path]:
         shutil.rmtree(room, ignore_errors=True)
 
 
+def stands(programs: list[Program]) -> bool:
+    """Whether each program is built of this very tree, and in its place; not while a build runs."""
+    if not all(program.kept() for program in programs):
+        return False
+    with (KEPT / "lock").open("w") as lock:
+        try:
+            fcntl.flock(lock, fcntl.LOCK_EX | fcntl.LOCK_NB)
+        except BlockingIOError:
+            return False
+        for program in programs:
+            program.put_in_place()
+    return True
+
+
 @contextmanager
 def alone(signals: Signals) -> Iterator[None]:
     """Waits until no other build runs in this folder."""
@@ -805,6 +822,10 @@ def parse(words: list[str], repository: Repository) -> argparse.Namespace:
                         help="end when the process ends that started this one")
     parser.add_argument("--lanes", type=positive, metavar="GB",
                         help="print how many proofs of so much memory may run side by side")
+    parser.add_argument("--standing", action="store_true",
+                        help="tell by the exit status whether the program is built already")
+    parser.add_argument("--minutes", action="store_true",
+                        help="print about how many minutes building takes from nothing")
     parser.add_argument("--memory", type=positive, metavar="GB",
                         help=f"the most memory that the run may hold ({MEMORY_GB:.0f}; of the gate"
                              " half of what is free, where that is more)")
@@ -821,8 +842,14 @@ def main(words: list[str]) -> int:
     if options.lanes:
         print(lanes_of(free_bytes() / 1e9, options.lanes))
         return 0
-    signals = Signals(options.with_parent)
     programs = [Program(repository, name) for name in options.programs]
+    if options.standing:
+        return 0 if stands(programs) else 1
+    memory_gb = options.memory or MEMORY_GB
+    if options.minutes:
+        print(round(Schedule(repository, needed_by(programs), lanes(memory_gb)).whole / 60))
+        return 0
+    signals = Signals(options.with_parent)
     try:
         with alone(signals):
             if options.beside:
@@ -830,7 +857,7 @@ def main(words: list[str]) -> int:
             if options.gate:
                 return run_gate(programs, options.memory or max(MEMORY_GB, free_bytes() / 2e9),
                                 signals)
-            return build(programs, options.memory or MEMORY_GB, signals)
+            return build(programs, memory_gb, signals)
     except Stopped as stopped:
         say(str(stopped))
         return stopped.status

@@ -1,10 +1,9 @@
-#!/usr/bin/env python3
-"""Tests of the program under limits of memory: wherever it ends for want of memory it says so in one
-line, and what it was to write is not begun.
+"""Tests of the program under limits of memory: wherever it ends for want of memory it says so in
+one line, and what it was to write is not begun.
 
-    python3 -m unittest tests/test_memory_limits.py
+    PYTHONPATH=python python3 -m tests.test_memory_limits
 
-STDCM in the environment may name another program than crates/stdcm/out/stdcm.
+KIDROFEMBA_STDCM in the environment may name another program than crates/stdcm/out/stdcm.
 """
 from __future__ import annotations
 
@@ -18,7 +17,7 @@ from dataclasses import dataclass
 from pathlib import Path
 
 REPOSITORY = Path(__file__).resolve().parent.parent
-PROGRAM = Path(os.environ.get("STDCM", REPOSITORY / "crates/stdcm/out/stdcm")).resolve()
+PROGRAM = Path(os.environ.get("KIDROFEMBA_STDCM", REPOSITORY / "crates/stdcm/out/stdcm")).resolve()
 EXAMPLES = REPOSITORY / "examples"
 #: How a call ends that wanted memory, and what it tells.
 NO_MEMORY, LINE = 11, "no memory\n"
@@ -29,6 +28,8 @@ NOT_LOADED = 127
 #: is.
 PAGE = os.sysconf("SC_PAGE_SIZE")
 NEAR_PAGES, FAR_PAGES, FAR_STEP = 96, 1024, 16
+#: What a call has in its environment: the loader counts it too.
+ENVIRONMENT: dict[str, str] = {}
 #: A limit below which no program is loaded, and one above which each is that can be limited.
 LEAST, MOST = 64 * PAGE, 256 << 20
 CALL_S = 60.0
@@ -48,7 +49,7 @@ def call(folder: Path, words: list[str], limit: int | None = None) -> Told:
     def limited() -> None:
         if limit is not None:
             resource.setrlimit(resource.RLIMIT_AS, (limit, limit))
-    ran = subprocess.run([str(PROGRAM), *words], cwd=folder, env={}, preexec_fn=limited,
+    ran = subprocess.run([str(PROGRAM), *words], cwd=folder, env=ENVIRONMENT, preexec_fn=limited,
                          stdin=subprocess.DEVNULL, capture_output=True, text=True,
                          timeout=CALL_S, check=False)
     return Told(ran.returncode, ran.stdout, ran.stderr)
