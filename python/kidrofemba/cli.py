@@ -163,15 +163,19 @@ def program_named(word: str | None) -> Path | None:
 
 
 def run_program(program: str | None, words: list[str]) -> int:
-    """Becomes the built program, which is given these words; the status where it is missing."""
+    """Becomes the built program, which is given these words, or runs it where something is to be
+    done or told behind it; its status, or that it is missing."""
     found = program_named(program)
     if found is None:
         named = program or os.environ.get(VARIABLE)
         lost = f"{named}: is no program" if named else \
             "the program is not built: dev/build in the checkout proves and builds it"
         return refused(f"{words[0]}: {lost}")
+    from kidrofemba.common.hand_on import hand_on, is_followed
     sys.stdout.flush()
     try:
+        if is_followed(words[0], words[1:]):
+            return hand_on(str(found), words[0], words[1:])
         os.execv(found, [str(found), *words])
     except OSError as failure:
         return refused(f"{words[0]}: {found}: {failure.strerror}")

@@ -11,6 +11,8 @@ from pathlib import Path
 from typing import Any, NoReturn
 from urllib.parse import unquote_to_bytes
 
+from kidrofemba.common.synced import sync_name
+
 
 class Refused(Exception):
     """Bad input: which file, where in it (or nowhere in particular), and what is wrong."""
@@ -56,9 +58,10 @@ def read_json(file: str | Path) -> Any:
         raise Refused(file, "", f"no JSON that can be read: {wrong}") from None
 
 
-def write_whole(file: str | Path, text: str) -> None:
+def write_whole(file: str | Path, text: str, is_synced: bool = True) -> None:
     """Writes a file beside its place and renames it there, so that nobody sees a half of it. What
-    is there and is no plain file, such as a pipe, is written to as it is."""
+    is there and is no plain file, such as a pipe, is written to as it is. Once it returns the file
+    outlasts a loss of power, unless it need not be synced."""
     target = Path(file)
     if target.exists() and not target.is_file():
         target.write_text(text, encoding="utf-8")
@@ -70,11 +73,16 @@ def write_whole(file: str | Path, text: str) -> None:
     try:
         with os.fdopen(handle, "w", encoding="utf-8") as made:
             made.write(text)
+            if is_synced:
+                made.flush()
+                os.fsync(made.fileno())
         os.chmod(beside, 0o666 & ~_mask())
         os.replace(beside, target)
     except BaseException:
         os.unlink(beside)
         raise
+    if is_synced:
+        sync_name(target)
 
 
 def _mask() -> int:

@@ -7,6 +7,7 @@ from collections.abc import Iterable, Mapping
 from pathlib import Path
 
 from kidrofemba.common.companion import Refused
+from kidrofemba.common.synced import sync_name
 
 
 def must_differ(named: Mapping[str, Path]) -> None:
@@ -19,7 +20,8 @@ def must_differ(named: Mapping[str, Path]) -> None:
 
 
 def write_together(texts: Mapping[Path, Iterable[str]]) -> None:
-    """Writes each file beside its place, and renames them there once all are on the disk.
+    """Writes each file beside its place, and renames them there once all are on the disk; once it
+    returns their names are too.
 
     What is there and is no plain file, such as a pipe or a device, is written to as it is.
     """
@@ -41,6 +43,8 @@ def write_together(texts: Mapping[Path, Iterable[str]]) -> None:
             os.chmod(name, 0o666 & ~_mask())
         for made, target in beside:
             os.replace(made, target)
+        for target in {target.parent: target for _, target in beside}.values():
+            sync_name(target)
     except OSError as failure:
         raise Refused(path, "", f"not written: {failure.strerror or failure}") from None
     finally:

@@ -36,6 +36,7 @@ from pathlib import Path
 
 from kidrofemba.common.clock import Clock, clock_of
 from kidrofemba.common.companion import Refused, read_json, run_companion, write_whole
+from kidrofemba.common.program_names import OPEN_STATUS, faults_of
 from kidrofemba.door.counts import Counts, Moment, text_of
 from kidrofemba.door.rules import WORDS, Rights
 from kidrofemba.door.server_process import LINES_A_SESSION, SET_BACK, NoReply, Server, ServerEnded
@@ -125,6 +126,9 @@ class Door:
             _tell("it ends: what to do stands in docs/OPERATING.md, at a damaged journal")
         elif status:
             _tell(f"server: it ends with {status} whenever it is started")
+        if status == OPEN_STATUS:
+            for fault in faults_of("serve", self.plan.server):
+                _tell(fault)
         return status if status >= 0 else 128 - status
 
     def _end(self) -> None:
@@ -253,7 +257,7 @@ class Door:
                         self.plan.journal, self.plan.journal_limit)
         wrong = ""
         try:
-            write_whole(self.plan.status, text_of(self.counts, moment))
+            write_whole(self.plan.status, text_of(self.counts, moment), is_synced=False)
         except (OSError, Refused) as failure:
             wrong = f"{self.plan.status}: {failure}"
         if wrong and wrong != self.status_fault:

@@ -16,6 +16,7 @@ import os
 from pathlib import Path
 
 from kidrofemba.common.companion import Refused, run_companion
+from kidrofemba.common.synced import sync_name
 from kidrofemba.journal.journal_file import beginning_of, joined
 
 NAME = "mend"
@@ -26,7 +27,8 @@ EXAMPLE = """examples:
 
 
 def _write_new(file: Path, data: bytes) -> None:
-    """Writes a file that is not there yet, for the eyes of its user alone."""
+    """Writes a file that is not there yet, for the eyes of its user alone; once it returns, the
+    file and its name are on the disk."""
     try:
         handle = os.open(file, os.O_WRONLY | os.O_CREAT | os.O_EXCL, 0o600)
     except FileExistsError:
@@ -36,6 +38,7 @@ def _write_new(file: Path, data: bytes) -> None:
             out.write(data)
             out.flush()
             os.fsync(out.fileno())
+        sync_name(file)
     except BaseException:
         file.unlink()
         raise

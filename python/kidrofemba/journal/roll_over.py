@@ -36,6 +36,8 @@ from typing import Any
 
 from kidrofemba.common.clock import Clock, clock_of
 from kidrofemba.common.companion import Refused, escaped, read_json, run_companion, write_whole
+from kidrofemba.common.program_names import report_of
+from kidrofemba.common.synced import sync_name
 from kidrofemba.door.server_process import NoReply, Server, ServerEnded
 from kidrofemba.journal.journal_file import Claim, Entry, JournalTrain, read_journal
 from kidrofemba.network.table_file import Table, read_table_text
@@ -73,7 +75,7 @@ class Side:
         """The zones and blocks of the network."""
         told = self.run("list", "--out", "stdout")
         if told.returncode:
-            raise Refused(self.network, "", told.stderr.strip())
+            raise Refused(self.network, "", report_of(told))
         return read_table_text(told.stdout, self.network)
 
 
@@ -232,7 +234,7 @@ class Roll:
         told = self.before.run("stairs", "--base", str(self.before.base), "--journal",
                                str(self.journal), "--entry", str(entry.at), "--out", "stdout")
         if told.returncode:
-            raise Refused(self.journal, f"entry {entry.at}", told.stderr.strip())
+            raise Refused(self.journal, f"entry {entry.at}", report_of(told))
         rows = [row.split() for row in told.stdout.splitlines()[1:]]
         return [Claim(int(zone), int(begin), int(end)) for zone, begin, end, _ in rows]
 
@@ -351,9 +353,11 @@ def _carry(behind: Side, options: argparse.Namespace) -> int | None:
     left = ["--left", str(options.left)] if options.left is not None else []
     told = behind.run("carry", "--base", str(behind.base), "--journal", str(options.journal),
                       "--from", str(options.old), "--from-base", str(options.from_base), *left)
-    report = told.stderr.strip()
+    report = report_of(told)
     if told.returncode == 2 and report == "words not understood":
         return None
+    if told.returncode == 0:
+        sync_name(options.journal)
     print(report)
     if told.returncode == 0:
         if options.out_base is not None:
@@ -397,7 +401,7 @@ def _by_lines(before: Side, behind: Side, options: argparse.Namespace, roll: Rol
         made = Side(behind.program, behind.network, base, behind.told, behind.clock)
         told = made.run("init", "--base", str(base), "--journal", str(journal))
         if told.returncode:
-            raise Refused(behind.base, "", told.stderr.strip())
+            raise Refused(behind.base, "", report_of(told))
         refused = asyncio.run(
             _give(made, options.trains, journal, rolled.lines, options.left is not None))
         rolled.lost += refused
@@ -420,11 +424,7 @@ def _by_lines(before: Side, behind: Side, options: argparse.Namespace, roll: Rol
 def _put(made: Path, journal: Path) -> None:
     """Puts the new journal into its place, for good."""
     os.replace(made, journal)
-    folder = os.open(journal.parent, os.O_RDONLY)
-    try:
-        os.fsync(folder)
-    finally:
-        os.close(folder)
+    sync_name(journal)
 
 
 def _parser() -> argparse.ArgumentParser:

@@ -15,6 +15,7 @@ from pathlib import Path
 from typing import Any
 
 from kidrofemba.common.companion import Refused
+from kidrofemba.common.program_names import report_of
 from kidrofemba.journal.journal_file import Journal, Run, beginning_of, runs_of_words
 from kidrofemba.journal.served_files import Base
 from kidrofemba.why.walls import Holder
@@ -115,4 +116,4 @@ class Again:
         done = subprocess.run(words, cwd=folder, stderr=subprocess.PIPE, text=True)
         if done.returncode != 0:
             raise Refused(self.program, command, f"ended with status {done.returncode}: "
-                                                 f"{' '.join(done.stderr.split())}")
+                                                 f"{report_of(done, folder)}")
