@@ -47,12 +47,21 @@ def answers_are_in_clock_times(program: Path) -> None:
                      "ask 1 F1 W E 6 6 -330 2190 0\npin 5 F1 1 0 0 15 1\nfront\nhold x\n")
             status, told, wrong = told_by(world.socket_of("A"), lines, "--base", str(world.base))
             want(status == 0 and not wrong, f"{status} {wrong}")
-            path = "departs 23:56:00, arrives 00:02:30+1d"
-            want(told == [f"granted 1 entry 0 at 1: {path}", "taken 2 zone 1 by entry 0 at 1",
-                          "held 2 entry 1 at 2", "held 3 entry 2 at 3", "freed 4 entry 3 of 1 at 4",
-                          f"shown 0 at 4 owner A number 1: {path} live",
-                          f"kept 1 entry 0 at 4: {path}", "closed pin", "front at 4",
-                          "bad 2: x (number) is not known or not in its form"],
+            path = "departs 23:56:00 from W, arrives 00:02:30+1d at E"
+            fire = "zone 0 00:05:00+1d to 00:05:10+1d, zone 1 00:05:00+1d to 00:06:40+1d"
+            want(told == [f"granted 1 entry 0 at 1: {path}",
+                          "taken 2 zone 1 by entry 0 at 1: zone 1 is not free then, entry 0, which "
+                          "`show 0` tells, has it: choose other times",
+                          "held 2 entry 1 at 2: zone 1 00:01:20+1d to 00:03:20+1d",
+                          f"held 3 entry 2 at 3: {fire}",
+                          "freed 4 entry 3 of 1 at 4: entry 1 is given back",
+                          "shown 0 at 4 owner A number 1: departs 23:56:00, arrives 00:02:30+1d "
+                          "live",
+                          f"kept 1 entry 0 at 4: done before, {path}",
+                          "closed pin: you may not send `pin` here: who runs the door has not "
+                          "allowed it", "front at 4",
+                          "bad 2: x (number) is not known or not in its form: wanted is a whole "
+                          "number, 0 to 9223372036854775807, or `-` with --state"],
                  "\n".join(told))
             lines = "show 1\nshow 2\nshow 3\nask 1 F1 W E 6 6 -330 2190 0\n"
             told = told_by(world.socket_of("A"), lines, "--base", str(world.base), "--runs")[1]
@@ -61,7 +70,7 @@ def answers_are_in_clock_times(program: Path) -> None:
                           "shown 2 at 4 owner A number 3: zone 0 00:05:00+1d to 00:05:10+1d, "
                           "zone 1 00:05:00+1d to 00:06:40+1d live",
                           "shown 3 at 4 owner A number 4 free 1 done",
-                          f"kept 1 entry 0 at 4: {path}",
+                          f"kept 1 entry 0 at 4: done before, {path}",
                           "  block 0 23:56:00 to 23:58:30", "  block 1 23:58:30 to 00:00:10+1d",
                           "  block 2 00:00:10+1d to 00:02:30+1d"], "\n".join(told))
             told = told_by(world.socket_of("A"), "show 0\n")[1]
@@ -69,30 +78,42 @@ def answers_are_in_clock_times(program: Path) -> None:
                  "without --base: " + "\n".join(told))
 
 
+def unknown(field: int, what: str, wanted: str) -> str:
+    """What is told of a field that the program does not know."""
+    return f"bad {field}: {what} is not known or not in its form: wanted is {wanted}"
+
+
 def bad_fields_are_named(program: Path) -> None:
     """Of each line the field that the program refuses, by its name and word."""
-    unknown = "is not known or not in its form"
+    point = "the name of an operational point of the network"
+    tick = "a clock time beside --base, or a tick, -100000 to 100000"
+    dwell = "how long the train stands at least, as 8min beside --base, or 0 to 17280 ticks"
     rows = {
-        "ask 1 F9 W E 6 6 0 100 0": f"bad 3: F9 (train) {unknown}",
-        "ask 1 F1 Station_2 E 6 6 0 100 0": f"bad 4: Station_2 (origin) {unknown}",
-        "ask 1 F1 W X 6 6 0 100 0": f"bad 5: X (destination) {unknown}",
-        "ask 1 F1 W E six 6 0 100 0": f"bad 6: six (begin of the departure) {unknown}",
-        "ask 1 F1 W E 6 6 0": "bad 9: end of the arrival is missing",
+        "ask 1 F9 W E 6 6 0 100 0": unknown(
+            3, "F9 (train)", "the name of a train of the train file, %20 for a space"),
+        "ask 1 F1 Station_2 E 6 6 0 100 0": unknown(4, "Station_2 (origin)", point),
+        "ask 1 F1 W X 6 6 0 100 0": unknown(5, "X (destination)", point),
+        "ask 1 F1 W E six 6 0 100 0": unknown(6, "six (begin of the departure)", tick),
+        "ask 1 F1 W E 6 6 0": f"bad 9: end of the arrival is missing: wanted is {tick}",
         "ask 1 F1 W E 6 6 0 100 0 M 6": "bad 11: M is one field too many",
-        "ask 1 F1 W E 6 6 0 100 2 M 6 N 6": f"bad 13: N (stop 2) {unknown}",
-        "ask 1 F1 W E 6 6 0 100 1 M x": f"bad 12: x (dwell at stop 1) {unknown}",
-        "ask 1 F1 W E 6 6 0 100 1": "bad 11: stop 1 is missing",
-        "after 0 ask 1 F1 X E 6 6 0 100 0": f"bad 6: X (origin) {unknown}",
-        "hold 1 7 5 6": f"bad 3: 7 (zone) {unknown}",
-        "hold 1 0 5": "bad 5: end is missing",
-        "holds 1 a%2 1 0 5 6": f"bad 3: a%2 (reason) {unknown}",
-        "holds 1 a 2 0 5 6 1 5 x": f"bad 10: x (end of span 2) {unknown}",
-        "pin 1 F1 1 9 6 21 1": f"bad 5: 9 (block of run 1) {unknown}",
-        "pin 1 F1 1 0 6 21 2": f"bad 8: 2 (stops of run 1) {unknown}",
-        "free 1 x": f"bad 3: x (entry) {unknown}",
-        "show x": f"bad 2: x (entry) {unknown}",
+        "ask 1 F1 W E 6 6 0 100 2 M 6 N 6": unknown(13, "N (stop 2)", point),
+        "ask 1 F1 W E 6 6 0 100 1 M x": unknown(12, "x (dwell at stop 1)", dwell),
+        "ask 1 F1 W E 6 6 0 100 1": f"bad 11: stop 1 is missing: wanted is {point}",
+        "after 0 ask 1 F1 X E 6 6 0 100 0": unknown(6, "X (origin)", point),
+        "hold 1 7 5 6": unknown(3, "7 (zone)", "the number of a zone of the network"),
+        "hold 1 0 5": f"bad 5: end is missing: wanted is behind the begin, {tick}",
+        "holds 1 a%2 1 0 5 6": unknown(3, "a%2 (reason)", "1 to 255 bytes, %20 for a space"),
+        "holds 1 a 2 0 5 6 1 5 x": unknown(10, "x (end of span 2)", f"behind its begin, {tick}"),
+        "pin 1 F1 1 9 6 21 1": unknown(
+            5, "9 (block of run 1)", "the number of a block of the network"),
+        "pin 1 F1 1 0 6 21 2": unknown(
+            8, "2 (stops of run 1)", "1 where the train stops at the end of the block, else 0"),
+        "free 1 x": unknown(3, "x (entry)", "the number of an entry, as replies tell it"),
+        "show x": unknown(2, "x (entry)", "the number of an entry, as replies tell it"),
         "show 0 0": "bad 3: 0 is one field too many",
-        "hodl 1 0 5 6": "bad 1",
+        "front 0": "bad 2: 0 is one field too many",
+        "hodl 1 0 5 6": "bad 1: hodl is no word of a line: wanted is one of ask, hold, holds, pin, "
+                        "free, show, front",
     }
     with new_world(program, in_memory(), network=LINE3) as world, world.door(["A"]):
         status, told, wrong = told_by(world.socket_of("A"), "".join(row + "\n" for row in rows))
@@ -102,7 +123,7 @@ def bad_fields_are_named(program: Path) -> None:
         # A front that was seen stands before the line that is sent, and is not counted.
         lines = "hold 1 0 5 6\nshow x\n"
         told = told_by(world.socket_of("A"), lines)[1]
-        want(told[1:] == [f"bad 2: x (entry) {unknown}"], f"{told}")
+        want(told[1:] == [rows["show x"]], f"{told}")
 
 
 def numbers_are_kept_over_runs(program: Path) -> None:
@@ -117,12 +138,14 @@ def numbers_are_kept_over_runs(program: Path) -> None:
             out.write("open 103 hold 103 0 8 9\nopen 104 hold 104 0 5 6\nopen 105 ho")
         want(told_by(path, "hold - 0 9 10\n", *given)[1]
              == ["left open before: held 103 entry 3 at 4",
-                 "left open before: taken 104 zone 0 by entry 0 at 4", "held 105 entry 4 at 5"],
+                 "left open before: taken 104 zone 0 by entry 0 at 4: zone 0 is not free then, "
+                 "entry 0, which `show 0` tells, has it: choose other times",
+                 "held 105 entry 4 at 5"],
              "left open")
         with state.open("a") as out:
             out.write("open 102 hold 102 0 7 8\n")
         want(told_by(path, "hold - 0 20 21\n", *given)[1]
-             == ["left open before: kept 102 entry 2 at 5: zone 0 tick 7 to tick 8",
+             == ["left open before: kept 102 entry 2 at 5: done before, zone 0 tick 7 to tick 8",
                  "held 106 entry 5 at 6"], "done before")
         want(told_by(path, "", *given)[1] == [], "nothing is open")
         numbers = Numbers(state)
@@ -205,7 +228,9 @@ def open_lines_outlast_words_that_are_closed(program: Path) -> None:
         state.write_text("last 2 0\nopen 3 hold 3 0 8 9\n")
         with world.door(["A"], "--allow", "A=front,show"):
             told = told_by(path, "front\nhold - 0 9 10\n", "--state", str(state))[1]
-            want(told == ["left open before: closed hold", "front at 0", "closed hold"], f"{told}")
+            closed = ("closed hold: you may not send `hold` here: who runs the door has not "
+                      "allowed it")
+            want(told == [f"left open before: {closed}", "front at 0", closed], f"{told}")
         with world.door(["A"]):
             told = told_by(path, "hold - 0 5 6\n", "--state", str(state))[1]
             want(told == ["left open before: held 3 entry 0 at 1", "held 5 entry 1 at 2"],
@@ -221,31 +246,35 @@ def open_lines_stay_with_their_base_file(program: Path) -> None:
         tuesday.write_text(json.dumps(BASE | {"begins": "2026-12-01T00:00:00+01:00"}))
         day = ["--state", str(state), "--base"]
         want(told_by(path, "hold - 0 5 6\n", *day, str(world.base))[1]
-             == ["held 1 entry 0 at 1"], "Monday")
+             == ["held 1 entry 0 at 1: zone 0 00:00:50 to 00:01:00"], "Monday")
         with state.open("a") as out:
             out.write("open 2 hold 2 0 7 8\nopen 3 free 3 0\n")
         for base in ([*day, str(tuesday)], day[:2]):
             status, told, wrong = told_by(path, "hold - 0 20 21\n", *base)
             want((status, told) == (2, []), f"{status} {told}")
-            want(wrong.startswith(f"ask: {state}: open lines of another base file are not sent")
-                 and wrong.endswith(": hold 2 0 7 8; free 3 0\n"), wrong)
+            want(wrong.startswith(f"ask: {state}: not sent, as ticks and entries may mean "
+                                  "something else now: hold 2 0 7 8; free 3 0: give the --base")
+                 and wrong.endswith(", and drop them by --drop-open\n"), wrong)
         want(len(read_journal(world.journal).entries) == 1, "something is sent")
         # Beside their own base file they are sent, though other runs refused them.
         with state.open("a") as out:
             out.write("done 3 0\n")
         want(told_by(path, "", *day, str(world.base))[1]
-             == ["left open before: held 2 entry 1 at 2"], "Monday again")
+             == ["left open before: held 2 entry 1 at 2: zone 0 00:01:10 to 00:01:20"],
+             "Monday again")
         with state.open("a") as out:
             out.write("open 4 hold 4 0 9 10\n")
         beside = [*day, str(tuesday), "--drop-open"]
         status, told, wrong = told_by(path, "hold - 0 20 21\n", *beside)
-        want((status, told) == (0, ["dropped: hold 4 0 9 10", "held 5 entry 2 at 3"]),
+        want((status, told) == (0, ["dropped: hold 4 0 9 10", "held 5 entry 2 at 3: zone 0 "
+                                    "00:03:20 to 00:03:30"]),
              f"{told} {wrong}")
         want(told_by(path, "", *day, str(tuesday))[:2] == (0, []), "nothing is open")
         with state.open("a") as out:
             out.write("open 6 hold 6 0 30 31\n")
         want(told_by(path, "", *beside)[1]
-             == ["left open before: held 6 entry 3 at 4"], "a line of this base file is dropped")
+             == ["left open before: held 6 entry 3 at 4: zone 0 00:05:00 to 00:05:10"],
+             "a line of this base file is dropped")
 
 
 @contextmanager
@@ -315,7 +344,8 @@ def refusals_have_a_place(program: Path) -> None:
         want(status == 2 and not told, f"{status} {told}")
         want(wrong == f"ask: {nowhere}: no answer: [Errno 2] No such file or directory\n", wrong)
         want(0.3 < time.monotonic() - begun < LONG_S, "it waits about a second")
-        for text, place in (("front\nask 1 F1 W E 25:00 1 1 1 0\n", "line 2: no clock time"),
+        for text, place in (("front\nask 1 F1 W E 25:00 1 1 1 0\n", "line 2: 25:00 (begin of the "
+                             "departure): no clock time"),
                             ("hold 1 0 5 6\u00e9\n", "line 1: a byte that no line has"),):
             lines.write_text(text)
             status, told, wrong = told_by(nowhere, "", "--file", str(lines), "--give-up", "0.1",

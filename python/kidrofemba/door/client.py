@@ -1,17 +1,31 @@
 """A client of a path server behind the door: it sends lines, sends them again after a break, and
-prints the answers in clock times.
+prints the answers in words and clock times.
 
 Lines are those of docs/FORMATS.md, from a file or a terminal; empty ones and those that begin with
-`#` are passed over. With --base the windows of an `ask` may be clock times, `06:30`, `06:30:20` or
-`00:10+1d`, and answers are told in clock times. With --state a `-` in the place of NUMBER is the
-next number of this client: numbers and open lines are kept in that file, so nothing is asked twice
-or forgotten, whatever crashes; lines that an earlier run left open are sent first. In a file that
-may be given again each line has a number of its own: `kept` then tells what was done before.
+`#` are passed over. Beside --base times are written as people write them:
+
+  windows of ask    06:30, 06:30:20, 24:00, 00:10+1d (a day later), 2026-12-02T06:30; a time without
+                    a day that lies before the one that it follows is of the next day, so that
+                    23:50 00:10 is a window over midnight; * is an arrival that does not matter
+  dwells of ask     8min, 90s, 1h30min or 00:08:00, rounded up to ticks; a bare number is refused,
+                    unless --ticks says that it counts ticks
+  hold, holds, pin  the same times, an end also as a duration from its begin, 22:00 45min; what is
+                    held covers what is named, and what is pinned is a tick exactly
+
+A bare number in any other place is a tick. Answers are told in clock times, each behind the words
+of the reply.
+
+With --state a `-` in the place of NUMBER is the next number of this client: numbers and open lines
+are kept in that file, so nothing is asked twice or forgotten, whatever crashes; lines that an
+earlier run left open are sent first. In a file that may be given again each line has a number of
+its own: `kept` then tells what was done before.
 
 An open line is sent again beside the base file of --base with which it was begun alone: beside
-another one its ticks and entries mean something else. It is told then and nothing is sent, until
---drop-open has it dropped. Where a journal was restored or is a new one, --forget-front has the
-client forget how many entries it saw of the old one.
+another one its ticks and entries mean something else. So the door is told that base file first, and
+a server of another one is given nothing. An open `free` is not sent where the entry that it names
+may be another one now: where it was begun without --base, and beside --forget-front. What is not
+sent is told, until --drop-open has it dropped. Where a journal was restored or is a new one,
+--forget-front has the client forget how many entries it saw of the old one.
 
 A line without a reply, or with one that says so, is sent again with its number, with growing pauses
 until --give-up. The exit status is 0 where each line was answered, and 2 where one was not.
@@ -29,25 +43,26 @@ import time
 from collections.abc import Iterable, Iterator
 from dataclasses import dataclass
 from pathlib import Path
-from typing import TextIO
 
-from kidrofemba.common.clock import Clock, clock_of
+from kidrofemba.common.clock import clock_of
 from kidrofemba.common.companion import Refused, escaped, read_json, run_companion, write_whole
+from kidrofemba.door.line_forms import NUMBERED
+from kidrofemba.door.line_times import Times, line_of
+from kidrofemba.door.reply_words import Answers
 
 NAME = "ask"
 EXAMPLE = """example:
   kidrofemba ask --socket /run/paths/A.sock --base base.json --state A.state
-  ask - F1 West East 06:00 06:30 06:00 09:00 0
+  ask - F1 West East 06:00 06:30 * 1 Middle 8min
 """
 # Replies after which the same line is sent again.
 _ONCE_MORE = frozenset({"unsettled", "disk-fault", "no-memory", "again"})
-_NUMBERED = frozenset({"hold", "holds", "pin", "ask", "free"})
 _FRONT = re.compile(r" at ([0-9]+)(?: |$)")
 _BASE_ROW = re.compile("base (-|[0-9a-f]{64})")
 _FIRST_PAUSE_S, _LONGEST_PAUSE_S = 0.1, 10.0
-
-
 _NO_BASE = "-"
+# Replies to `base` of a server, or of a door, that does not know this word.
+_KNOW_NO_BASE = frozenset({"bad 1", "closed base"})
 
 
 @dataclass(frozen=True)
@@ -68,8 +83,8 @@ class Numbers:
     """
 
     def __init__(self, file: Path, first: int = 1, base: str = _NO_BASE,
-                 forgets_front: bool = False):
-        self.file, self.base = file, base
+                 forgets_front: bool = False, drops_open: bool = False):
+        self.file, self.base, self.dropped = file, base, []
         self._lock = open(f"{file}.lock", "w", encoding="ascii")
         try:
             fcntl.flock(self._lock, fcntl.LOCK_EX | fcntl.LOCK_NB)
@@ -81,8 +96,16 @@ class Numbers:
         rows = file.read_text(encoding="ascii").split("\n")[:-1] if file.exists() else []
         for at, row in enumerate(rows, 1):
             self._take(row, at)
+        unsendable = self._unsendable(forgets_front)
         if forgets_front:
+            if unsendable and not drops_open:
+                self.close()
+                raise _not_sent(file, unsendable)
             self.front = 0
+        if drops_open:
+            self.dropped = list(unsendable.values())
+            self.open_lines = {number: one for number, one in self.open_lines.items()
+                               if number not in unsendable}
         self._begin_anew()
 
     def _take(self, row: str, at: int) -> None:
@@ -131,30 +154,46 @@ class Numbers:
         self.open_lines.pop(number, None)
         self._note(f"done {number} {front}")
 
-    def of_another_base(self) -> dict[int, str]:
-        """The open lines that were begun beside another base file."""
-        return {number: one.line for number, one in self.open_lines.items()
-                if one.base != self.base}
+    def must_be_sendable(self) -> None:
+        """Refuses open lines that would mean something else now."""
+        if unsendable := self._unsendable(False):
+            raise _not_sent(self.file, unsendable)
 
-    def drop(self, number: int) -> None:
-        """Gives an open line up: it may have been done or not. Its number stays used."""
-        self.end(number, self.front)
+    def _unsendable(self, forgets_front: bool) -> dict[int, str]:
+        """The open lines that were begun beside another base file; and each `free` where nobody
+        knows that the entry which it names is the same, as it was begun without a base file, or as
+        the journal is another one than before."""
+        return {number: one.line for number, one in self.open_lines.items()
+                if one.base != self.base or one.line.startswith("free ")
+                and (forgets_front or one.base == _NO_BASE)}
 
     def close(self) -> None:
         """Lets another process have the file."""
         self._lock.close()
 
 
+def _not_sent(file: Path, lines: dict[int, str]) -> Refused:
+    """Refuses open lines that would mean something else than when they were begun."""
+    return Refused(file, "", "not sent, as ticks and entries may mean something else now: "
+                   + "; ".join(lines.values()) + ": give the --base with which they were begun, "
+                   "while its journal is served; else look by `show ENTRY` whether they were done, "
+                   "and drop them by --drop-open")
+
+
 class PathClient:
     """A client at one socket of the door.
 
     Each line is sent behind `after N` with the last front that was told, so that an answer is never
-    older than what the client has seen.
+    older than what the client has seen. Where `base` is the digest of the base file that lines are
+    written for, the door is told it first, and a server of another one is given no line.
     """
 
     def __init__(self, path: str | Path, numbers: Numbers | None = None,
-                 give_up_s: float = float("inf"), reply_s: float = 660.0):
+                 give_up_s: float = float("inf"), reply_s: float = 660.0,
+                 base: str | None = None):
         self.path, self.numbers = str(path), numbers
+        known = numbers.base if base is None and numbers is not None else base
+        self.base = known if known != _NO_BASE else None
         self.give_up_s, self.reply_s = give_up_s, reply_s
         self.front = numbers.front if numbers is not None else 0
         self._stream: socket.socket | None = None
@@ -167,17 +206,37 @@ class PathClient:
         self._stream = None
 
     def _exchange(self, line: str) -> str:
-        """The reply of this connection to one line; OSError where there is none."""
+        """The reply to one line; OSError where there is none."""
         if self._stream is None:
             self._stream = socket.socket(socket.AF_UNIX)
             self._stream.settimeout(self.reply_s)
             self._stream.connect(self.path)
             self._replies = self._stream.makefile("rb")
-        self._stream.sendall(line.encode("ascii") + b"\n")
+            self._name_base(self._stream)
+        return self._told(self._stream, line)
+
+    def _told(self, stream: socket.socket, line: str) -> str:
+        """The reply of this connection to one line; OSError where there is none."""
+        stream.sendall(line.encode("ascii") + b"\n")
         reply = next(self._replies, b"")
         if not reply.endswith(b"\n"):
             raise ConnectionError("the door ended the connection")
         return reply[:-1].decode("ascii")
+
+    def _name_base(self, stream: socket.socket) -> None:
+        """Tells the door of a new connection which base file lines are written for; refused where
+        its server's journal is of another one. An older door does not know, and goes on."""
+        if self.base is None:
+            return
+        reply = self._told(stream, f"base {self.base}")
+        if reply in _KNOW_NO_BASE or reply == f"base {self.base}":
+            return
+        if not reply.startswith("base "):
+            raise ConnectionError(f"the door replies to `base` with {reply}")
+        self.close()
+        raise Refused(self.path, "", f"its journal is of another base file, {reply[5:]}, than "
+                      f"lines are written for, {self.base}: nothing is sent, and open lines stay "
+                      "open; give the base file that is served now by --base")
 
     def _exchange_after(self, line: str) -> str:
         """The reply to a line behind the front that was seen; fields are counted as in the line."""
@@ -228,13 +287,10 @@ class PathClient:
     def finish_open(self) -> dict[int, str]:
         """The replies to the lines that an earlier process left open, by number: `kept` tells what
         had been done. One whose word is `closed` at the moment stays open: the door alone replied,
-        and the line may have been done before. Refused where one was begun beside another base
-        file, before any is sent."""
+        and the line may have been done before. Refused where one would mean something else now,
+        before any is sent."""
         assert self.numbers is not None
-        if others := self.numbers.of_another_base():
-            raise Refused(self.numbers.file, "", "open lines of another base file are not sent, "
-                          "as ticks and entries mean something else now: look whether they were "
-                          "done, and drop them by --drop-open: " + "; ".join(others.values()))
+        self.numbers.must_be_sendable()
         replies: dict[int, str] = {}
         for number, one in list(self.numbers.open_lines.items()):
             replies[number] = reply = self.send(one.line)
@@ -243,142 +299,39 @@ class PathClient:
         return replies
 
 
-def line_of(text: str, clock: Clock | None) -> str:
-    """The line that a text asks for: windows of an `ask` in clock times become ticks, each begin
-    the first tick from then on, each end the last until then. ValueError where one is no time."""
-    fields = text.split(" ")
-    if fields[0] == "ask" and clock is not None:
-        for at, tick in ((5, clock.tick_from), (6, clock.tick_until),
-                         (7, clock.tick_from), (8, clock.tick_until)):
-            if at < len(fields) and ":" in fields[at]:
-                fields[at] = str(tick(fields[at]))
-    return " ".join(fields)
-
-
-@dataclass(frozen=True)
-class Form:
-    """The fields of a line behind its word, by their names: those that it always has, and those
-    that come as often as the last of them says."""
-
-    fields: tuple[str, ...]
-    repeated: tuple[str, ...] = ()
-
-    def name(self, at: int, words: list[str]) -> str | None:
-        """The name of a field, counted from 1 at the line's word; None where it is one too many."""
-        at -= 2
-        if at < len(self.fields):
-            return self.fields[at]
-        again, part = divmod(at - len(self.fields), max(1, len(self.repeated)))
-        count = words[len(self.fields)] if self.repeated else "0"
-        if not count.isdecimal() or again >= int(count):
-            return None
-        return f"{self.repeated[part]} {again + 1}"
-
-
-_WINDOWS = ("begin of the departure", "end of the departure", "begin of the arrival",
-            "end of the arrival")
-_FORMS = {
-    "ask": Form(("number", "train", "origin", "destination", *_WINDOWS, "count of stops"),
-                ("stop", "dwell at stop")),
-    "hold": Form(("number", "zone", "begin", "end")),
-    "holds": Form(("number", "reason", "count of spans"),
-                  ("zone of span", "begin of span", "end of span")),
-    "pin": Form(("number", "train", "count of runs"),
-                ("block of run", "enter of run", "leave of run", "stops of run")),
-    "free": Form(("number", "entry")),
-    "show": Form(("entry",)),
-}
-_MOST_SHOWN = 80
-
-
-def why_bad(field: int, line: str) -> str | None:
-    """What is wrong with a field of a line, counted from 1; None where nothing more is known."""
-    words = line.split(" ")
-    if words[0] == "after":
-        words, field = words[2:], field - 2
-    form = _FORMS.get(words[0]) if words else None
-    if form is None or field < 2 or field > len(words) + 1:
-        return None
-    name = form.name(field, words)
-    if field > len(words):
-        return f"{name} is missing" if name else None
-    word = words[field - 1]
-    shown = word if len(word) <= _MOST_SHOWN else f"{word[:_MOST_SHOWN]}.."
-    return f"{shown} ({name}) is not known or not in its form" if name else \
-        f"{shown} is one field too many"
-
-
-class Answers:
-    """Replies as a person reads them, in clock times where the clock is known."""
-
-    def __init__(self, clock: Clock | None, runs: bool = False):
-        self.clock, self.runs = clock, runs
-
-    def _time(self, tick: str) -> str:
-        return self.clock.text(int(tick)) if self.clock is not None else f"tick {tick}"
-
-    def text(self, reply: str, line: str) -> str:
-        """A reply to a line, in words."""
-        words = reply.split(" ")
-        if words[0] == "bad":
-            why = why_bad(int(words[1]), line)
-            return f"{reply}: {why}" if why else reply
-        if words[0] == "past":
-            return f"past {words[1]}: it departs before {self._time(words[3])}, which is now"
-        for at, word in enumerate(words):
-            # The content of an entry is the last thing of a reply, but for the state that `show`
-            # tells; no name before it is `runs`, as these are numbers and the word `number`.
-            if at > 3 and word in ("runs", "hold", "holds") and words[at - 1].isdecimal():
-                return f"{' '.join(words[:at])}: {self._content(words[at:])}"
-        return reply
-
-    def _content(self, words: list[str]) -> str:
-        if words[0] == "runs":
-            return self._path([words[at:at + 4] for at in range(2, 2 + 4 * int(words[1]), 4)],
-                              words[2 + 4 * int(words[1]):])
-        if words[0] == "hold":
-            spans, rest = [words[1:4]], words[4:]
-        else:
-            end = 3 + 3 * int(words[2])
-            spans, rest = [words[at:at + 3] for at in range(3, end, 3)], words[end:]
-        told = [f"zone {zone} {self._time(begin)} to {self._time(end)}"
-                for zone, begin, end in spans]
-        return " ".join([", ".join(told), *rest])
-
-    def _path(self, runs: list[list[str]], rest: list[str]) -> str:
-        """A path's departure, its stops on the way, its arrival, and its runs where asked for."""
-        parts = [f"departs {self._time(runs[0][1])}"]
-        for (block, _, leave, stops), following in zip(runs, runs[1:]):
-            if stops == "1":
-                parts.append(f"stands at the end of block {block} {self._time(leave)} to "
-                             f"{self._time(following[1])}")
-        parts.append(f"arrives {self._time(runs[-1][2])}")
-        rows = [f"\n  block {block} {self._time(enter)} to {self._time(leave)}"
-                for block, enter, leave, _ in runs] if self.runs else []
-        return " ".join([", ".join(parts), *rest]) + "".join(rows)
-
-
-def lines_of(source: TextIO, name: str, clock: Clock | None) -> Iterator[str]:
-    """The lines that a file or a terminal asks for."""
+def lines_of(source: Iterable[str], name: str, times: Times,
+             goes_on: bool = False) -> Iterator[str]:
+    """The lines that a file or a terminal asks for. One that is wrong is refused with its place;
+    where somebody sits at a terminal it is told, and the next one is taken."""
     for at, row in enumerate(source, 1):
         text = row.rstrip("\n")
         if not text.strip() or text.startswith("#"):
             continue
         try:
-            line = line_of(text, clock)
-            line.encode("ascii")
-        except UnicodeEncodeError:
-            raise Refused(name, f"line {at}", "a byte that no line has; names are written as "
-                          f"{escaped(text)!r}") from None
-        except ValueError as wrong:
-            raise Refused(name, f"line {at}", str(wrong)) from None
-        yield line
+            yield _line_of(text, name, at, times)
+        except Refused as wrong:
+            if not goes_on:
+                raise
+            print(f"{NAME}: {wrong}", file=sys.stderr)
+
+
+def _line_of(text: str, name: str, at: int, times: Times) -> str:
+    """The line that the text in a row asks for."""
+    try:
+        line = line_of(text, times)
+        line.encode("ascii")
+    except UnicodeEncodeError:
+        raise Refused(name, f"line {at}", "a byte that no line has; names are written as "
+                      f"{escaped(text)!r}") from None
+    except ValueError as wrong:
+        raise Refused(name, f"line {at}", str(wrong)) from None
+    return line
 
 
 def _answer(client: PathClient, line: str, name: str) -> str:
     """The reply to a line, of which a `-` stands for the next number."""
     word, _, rest = line.partition(" ")
-    if word in _NUMBERED and rest.startswith("- "):
+    if word in NUMBERED and rest.startswith("- "):
         if client.numbers is None:
             raise Refused(name, line, "a number `-` needs --state")
         return client.want(word, rest[2:])
@@ -391,7 +344,7 @@ def talk(client: PathClient, lines: Iterable[str], answers: Answers, name: str) 
         if client.numbers is not None:
             left_open = dict(client.numbers.open_lines)
             for number, reply in client.finish_open().items():
-                told = answers.text(reply, left_open[number])
+                told = answers.text(reply, left_open[number].line)
                 print(f"left open before: {told}", flush=True)
         for line in lines:
             print(answers.text(_answer(client, line, name), line), flush=True)
@@ -406,12 +359,14 @@ def _parser() -> argparse.ArgumentParser:
     add = parser.add_argument
     add("--socket", type=Path, required=True, help="the client's socket at the door")
     add("--file", type=Path, help="the lines (default: the terminal, or standard input)")
-    add("--base", type=Path, help="the base file: answers are told in clock times")
+    add("--base", type=Path,
+        help="the base file that is served: times are clock times and durations")
+    add("--ticks", action="store_true", help="bare numbers of dwells are ticks, also beside --base")
     add("--state", type=Path, help="the file of this client's numbers and open lines")
     add("--forget-front", action="store_true",
         help="the journal was restored or is a new one: forget how many entries --state has seen")
     add("--drop-open", action="store_true",
-        help="drop the open lines of --state that were begun with another --base")
+        help="drop the open lines of --state that are not sent")
     add("--first", type=int, default=1, help="the first number where --state is new (default 1)")
     add("--give-up", type=float, default=300.0, metavar="SECONDS",
         help="how long one line is sent again (default 300)")
@@ -419,43 +374,73 @@ def _parser() -> argparse.ArgumentParser:
     return parser
 
 
-def _clock(base: Path) -> Clock:
-    told = read_json(base)
+@dataclass(frozen=True)
+class BaseFile:
+    """What a client takes from a base file: its digest, what times mean beside it, and the names of
+    its planned trains in their order."""
+
+    digest: str
+    times: Times
+    planned: tuple[str, ...]
+
+
+def base_file(file: Path | None, bare_dwells: bool) -> BaseFile:
+    """What a base file says; without one times are ticks."""
+    if file is None:
+        return BaseFile(_NO_BASE, Times(), ())
+    read = read_json(file)
+    told = read if isinstance(read, dict) else {}
     try:
-        return clock_of(told if isinstance(told, dict) else {})
+        clock, horizon = clock_of(told), told.get("horizon")
+        if isinstance(horizon, bool) or not isinstance(horizon, int | float) or horizon % 1:
+            raise ValueError("`horizon` is no whole number of ticks")
+        names = tuple(str(train["name"]) for train in told.get("trains", []))
     except ValueError as wrong:
-        raise Refused(base, "", str(wrong)) from None
+        raise Refused(file, "", str(wrong)) from None
+    except (KeyError, TypeError) as wrong:
+        raise Refused(file, "trains", f"no planned trains of a base file: {wrong!r}") from None
+    return BaseFile(hashlib.sha256(file.read_bytes()).hexdigest(),
+                    Times(clock, int(horizon), bare_dwells), names)
 
 
-def _numbers(options: argparse.Namespace) -> Numbers:
-    """The numbers of --state, once lines of another base file are dropped where that is wanted."""
-    base = hashlib.sha256(options.base.read_bytes()).hexdigest() if options.base is not None \
-        else _NO_BASE
-    numbers = Numbers(options.state, options.first, base, options.forget_front)
-    if options.drop_open:
-        for number, line in numbers.of_another_base().items():
-            numbers.drop(number)
-            print(f"dropped: {line}", flush=True)
+def _numbers(options: argparse.Namespace, base: str) -> Numbers:
+    """The numbers of --state, once open lines that can't be sent are dropped where that is
+    wanted."""
+    numbers = Numbers(options.state, options.first, base, options.forget_front, options.drop_open)
+    for line in numbers.dropped:
+        print(f"dropped: {line}", flush=True)
     return numbers
 
 
-def _ask(options: argparse.Namespace) -> int:
-    """Sends the lines, and prints the answers."""
+def _check_words(options: argparse.Namespace) -> None:
+    """Refuses words that do not go together."""
     if not 0 <= options.first < 2 ** 63:
         raise Refused("words", "--first", "a number of a line is 0 to 9,223,372,036,854,775,807")
     if options.state is None and (options.forget_front or options.drop_open):
         raise Refused("words", "--forget-front, --drop-open", "are about --state")
-    clock = _clock(options.base) if options.base is not None else None
-    numbers = _numbers(options) if options.state is not None else None
-    client = PathClient(options.socket, numbers, options.give_up)
-    name = str(options.file or "standard input")
-    source = open(options.file, encoding="utf-8", errors="surrogateescape") \
-        if options.file is not None else sys.stdin
-    with source:
-        if source.isatty():
-            print("lines as docs/FORMATS.md tells them, one each; the end of input ends",
-                  file=sys.stderr)
-        talk(client, lines_of(source, name, clock), Answers(clock, options.runs), name)
+    if options.base is None and options.ticks:
+        raise Refused("words", "--ticks", "is about --base: without it bare numbers are ticks")
+
+
+def _ask(options: argparse.Namespace) -> int:
+    """Sends the lines, and prints the answers."""
+    _check_words(options)
+    base = base_file(options.base, options.ticks)
+    numbers = _numbers(options, base.digest) if options.state is not None else None
+    client = PathClient(options.socket, numbers, options.give_up, base=base.digest)
+    answers = Answers(base.times.clock, options.runs, base.planned)
+    if options.file is not None:
+        with open(options.file, encoding="utf-8", errors="surrogateescape") as source:
+            lines = lines_of(source, str(options.file), base.times)
+            # A file is read to its end first, so that nothing is sent of one that has a fault.
+            talk(client, list(lines) if options.file.is_file() else lines, answers,
+                 str(options.file))
+        return 0
+    if sys.stdin.isatty():
+        print("lines as docs/FORMATS.md tells them, one each; the end of input ends",
+              file=sys.stderr)
+    talk(client, lines_of(sys.stdin, "standard input", base.times, sys.stdin.isatty()), answers,
+         "standard input")
     return 0
 
 
