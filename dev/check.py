@@ -157,6 +157,7 @@ def all_checks() -> list[Check]:
         Check("bench/batch", words=(*PYTHON, "bench/batch", *batch)),
         *(Check(f"tests/{path.name}", words=(*PYTHON, "-m", f"tests.{path.stem}"))
           for path in tests),
+        Check("tests/fuzz_door", words=(*PYTHON, "-m", "tests.fuzz_door", "--seconds", "60")),
         Check("bench/list", words=(*PYTHON, "bench/list", "--sizes", "0.2")),
         Check("dev/house", words=(*PYTHON, "dev/house", *house)),
         Check("HANDLES", call=handles),

@@ -156,9 +156,11 @@ class Talk:
     """A connection to a client's socket."""
 
     def __init__(self, path: Path, seconds: float = LONG_S):
-        self.stream = socket.socket(socket.AF_UNIX)
-        self.stream.settimeout(seconds)
-        self.stream.connect(str(path))
+        end = time.monotonic() + seconds
+        while (stream := _connected(path, seconds)) is None:
+            want(time.monotonic() < end, f"not within {seconds} s: {path} has room for one more")
+            time.sleep(0.01)
+        self.stream = stream
         self.replies = self.stream.makefile("rb")
 
     def say(self, *lines: str) -> list[str]:
@@ -174,6 +176,21 @@ class Talk:
 
     def __exit__(self, *_) -> None:
         self.close()
+
+
+def _connected(path: Path, seconds: float) -> socket.socket | None:
+    """A connection, None where too many wait at the socket."""
+    stream = socket.socket(socket.AF_UNIX)
+    stream.settimeout(seconds)
+    try:
+        stream.connect(str(path))
+    except BlockingIOError:
+        stream.close()
+        return None
+    except OSError:
+        stream.close()
+        raise
+    return stream
 
 
 @contextmanager

@@ -269,3 +269,11 @@ def read_journal(file: str | Path) -> Journal:
         entries.append(entry)
     digests = data[_FIRST_GATE - 2 * _DIGEST_SIZE:_FIRST_GATE]
     return Journal(digests[:_DIGEST_SIZE], digests[_DIGEST_SIZE:], tuple(entries))
+
+
+def base_digest_of(file: str | Path) -> bytes:
+    """The digest of the base file that a journal belongs to, from its first bytes alone."""
+    with open(file, "rb") as journal:
+        data = journal.read(_FIRST_GATE + 1)
+    next(_gates(file, data))
+    return data[_FIRST_GATE - _DIGEST_SIZE:_FIRST_GATE]
