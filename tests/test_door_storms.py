@@ -18,7 +18,7 @@ from pathlib import Path
 from threading import Thread
 from unittest import mock
 
-from kidrofemba.door.limits import handles_wanted
+from kidrofemba.door.limits import Budget, handles_wanted
 from kidrofemba.door.server_process import Server
 from kidrofemba.journal.journal_file import read_journal
 from tests.door_attacker import KINDS
@@ -118,6 +118,14 @@ def one_is_served_beside(world: World, door: Door, kind: str, timed: Timed) -> N
     want(best_s <= BOUND_S, f"{kind}: 99 of 100 replies took {1_000 * best_s:.0f} ms")
     want(most <= handles_wanted(2, 4), f"{kind}: {most} handles")
     want(door.memory_mb() < MEMORY_MB, f"{kind}: {door.memory_mb():.0f} MB")
+
+
+def budgets_hold(_: Path) -> None:
+    """Five at once and one a second: no wait behind four, and a second behind the fifth."""
+    budget = Budget(5, 1.0)
+    waits = [budget.take() for _ in range(7)]
+    want(waits[:4] == [0.0] * 4, f"{waits}")
+    want(all(at - 1 < wait <= at for at, wait in enumerate(waits[4:], 1)), f"{waits}")
 
 
 def set_handles(door: Door, count: int) -> None:
@@ -280,7 +288,8 @@ def lines_of_another_journal_are_refused(program: Path) -> None:
                    == 1, "it is counted")
 
 
-CASES = [others_are_served_beside_storms, shortages_at_a_start_pass, shortages_of_each_kind_pass,
+CASES = [budgets_hold, others_are_served_beside_storms, shortages_at_a_start_pass,
+         shortages_of_each_kind_pass,
          programs_that_are_missing_a_while_come_back, storms_and_starts_anew_pass,
          too_few_handles_are_refused, sigterm_ends_beside_storms,
          lines_of_another_journal_are_refused]
