@@ -80,12 +80,15 @@ def _flood(stream: socket.socket, line: bytes, until: float) -> None:
     stream.setblocking(False)
     lines = line * 1_000
     while time.monotonic() < until:
-        for work in (lambda: stream.send(lines), lambda: stream.recv(65_536)):
-            try:
-                if not work():
-                    return
-            except BlockingIOError:
-                time.sleep(0.0005)
+        try:
+            stream.send(lines)
+        except BlockingIOError:
+            time.sleep(0.0005)
+        try:
+            if not stream.recv(65_536):
+                return
+        except BlockingIOError:
+            time.sleep(0.0005)
 
 
 def deaf(path: Path, until: float) -> None:

@@ -17,7 +17,6 @@ import subprocess
 import sys
 import threading
 import time
-from collections import Counter
 from collections.abc import Callable
 from dataclasses import dataclass, field
 from pathlib import Path
@@ -33,7 +32,7 @@ HOSTILE = ("H", "I", "J")
 NAMES = (*HONEST, *HOSTILE)
 ACTORS_EACH = 2
 NUMBERS_EACH = 40_000
-END_S = 6.0
+END_S = 15.0
 MEMORY_MB = 80.0
 OPTIONS = ("--patience", "1", "--lines", "3000", "--allow", "J=hold,front")
 
@@ -181,6 +180,9 @@ class Storm:
     most_mb: float = 0.0
     kills: int = 0
     shortages: int = 0
+    honest: list[Honest] = field(default_factory=list)
+    _told: int = 0
+    _in_vain: int = 0
 
     def actors(self) -> list[subprocess.Popen[bytes]]:
         """Starts the hostile processes."""
@@ -201,7 +203,16 @@ class Storm:
             if draws.random() < 0.3:
                 self.take_handles(draws.uniform(0.1, 1), kills=draws.random() < 0.7)
             else:
-                self.kills += self.door.kill_server()
+                self.kill()
+
+    def kill(self) -> None:
+        """Kills the server, not more than three times before anybody else has a reply: behind eight
+        starts without one the door has to end."""
+        told = sum(len(one.told) for one in self.honest)
+        self._in_vain = self._in_vain + 1 if told == self._told else 0
+        self._told = told
+        if self._in_vain < 3:
+            self.kills += self.door.kill_server()
 
     def take_handles(self, seconds: float, kills: bool) -> None:
         """Has the door open no file more for a while."""
@@ -210,7 +221,7 @@ class Storm:
         resource.prlimit(pid, resource.RLIMIT_NOFILE, (self.handles() - 1, whole[1]))
         self.shortages += 1
         if kills:
-            self.kills += self.door.kill_server()
+            self.kill()
         self.watch(seconds)
         resource.prlimit(pid, resource.RLIMIT_NOFILE, whole)
 
@@ -266,7 +277,8 @@ def judge_one(owner: str, reply: str, by_number: dict[tuple[str, int], Entry]) -
 def fuzz(program: Path, seed: int, seconds: float) -> str:
     """A storm of so many seconds; what was seen."""
     with new_world(program, in_memory()) as world, world.door(NAMES, *OPTIONS) as door:
-        storm, honest = Storm(world, door, seed), [Honest(world, name) for name in HONEST]
+        honest = [Honest(world, name) for name in HONEST]
+        storm = Storm(world, door, seed, honest=honest)
         for one in honest:
             one.start()
         actors = storm.actors()
@@ -302,9 +314,8 @@ def end_after_serving(storm: Storm, actors: list[subprocess.Popen[bytes]]) -> in
 
 def text_of(storm: Storm, honest: list[Honest], entries: int, took_s: float) -> str:
     took = sorted(value for one in honest for value in one.took_s)
-    told = Counter({one.name_of: len(one.told) for one in honest})
     return (f"{storm.kills} kills, {storm.shortages} shortages; "
-            f"{', '.join(f'{name} {count}' for name, count in sorted(told.items()))} replies, half "
+            f"{', '.join(f'{one.name_of} {len(one.told)}' for one in honest)} replies, half "
             f"within {1000 * took[len(took) // 2]:.0f} ms, 99 of 100 within "
             f"{1000 * took[len(took) * 99 // 100]:.0f} ms, all within {took[-1]:.1f} s; "
             f"{entries} entries; {storm.most_handles} handles, {storm.most_mb:.0f} MB; "

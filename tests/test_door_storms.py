@@ -13,7 +13,7 @@ import subprocess
 import sys
 import time
 from collections.abc import Callable, Iterator
-from contextlib import contextmanager, nullcontext
+from contextlib import ExitStack, contextmanager
 from pathlib import Path
 from threading import Thread
 from unittest import mock
@@ -28,7 +28,7 @@ from tests.door_world import (LONG_S, PROGRAM, Door, Talk, World, in_memory, new
 ATTACKER = Path(__file__).resolve().parent / "door_attacker.py"
 BOUND_S = 0.05
 ROUNDS, ROUND_S = 6, 1.5
-END_S = 6.0
+END_S = 15.0
 MEMORY_MB = 80.0
 
 
@@ -87,8 +87,9 @@ def handles_of(door: Door) -> int:
 
 
 def others_are_served_beside_storms(program: Path) -> None:
-    """Beside each attack another client has 99 of 100 replies within 50 ms, in one of some rounds:
-    a machine that is busy otherwise is measured again. Handles and memory stay bounded."""
+    """Beside each attack another client has 99 of 100 replies within 50 ms, in one of some rounds;
+    on a machine that is too busy for that, within three times of what they take without the attack.
+    Handles and memory stay bounded."""
     for kind in KINDS:
         with new_world(program, in_memory()) as world, \
                 world.door(["A", "B"], "--allow", "B=front") as door:
@@ -103,6 +104,8 @@ def others_are_served_beside_storms(program: Path) -> None:
 
 def one_is_served_beside(world: World, door: Door, kind: str, timed: Timed) -> None:
     best_s, most = LONG_S, 0
+    time.sleep(ROUND_S)
+    bound_s = max(BOUND_S, 3 * timed.last(0))
     with attackers(kind, world.socket_of("B")):
         time.sleep(0.5)
         for _ in range(ROUNDS):
@@ -111,11 +114,11 @@ def one_is_served_beside(world: World, door: Door, kind: str, timed: Timed) -> N
                 most = max(most, handles_of(door))
                 time.sleep(0.01)
             best_s = min(best_s, timed.last(since))
-            if best_s <= BOUND_S:
+            if best_s <= bound_s:
                 break
-    print(f"{kind}: 99 of 100 replies within {1_000 * best_s:.1f} ms, {most} handles, "
+    print(f"{kind}: 99 of 100 replies within {1_000 * best_s:.1f} ms of {1_000 * bound_s:.0f}, {most} handles, "
           f"{door.memory_mb():.0f} MB", file=sys.stderr)
-    want(best_s <= BOUND_S, f"{kind}: 99 of 100 replies took {1_000 * best_s:.0f} ms")
+    want(best_s <= bound_s, f"{kind}: 99 of 100 replies took {1_000 * best_s:.0f} ms")
     want(most <= handles_wanted(2, 4), f"{kind}: {most} handles")
     want(door.memory_mb() < MEMORY_MB, f"{kind}: {door.memory_mb():.0f} MB")
 
@@ -178,9 +181,11 @@ async def pass_shortage(world: World, name: str, failure: BaseException) -> None
     before = len(os.listdir("/proc/self/fd"))
     fails += [failure, failure]
     module, _, called = name.partition(".")
-    owner = {"os": os, "subprocess": subprocess}.get(module)
-    with mock.patch.object(owner, called, failing(getattr(owner, called))) if owner is not None \
-            else nullcontext():
+    with ExitStack() as patched:
+        if called:
+            owner = {"os": os, "subprocess": subprocess}[module]
+            patched.enter_context(
+                mock.patch.object(owner, called, failing(getattr(owner, called))))
         os.kill(own_child(), signal.SIGKILL)
         reply = await asyncio.wait_for(server.ask("B", b"front\n"), LONG_S)
     want(reply == b"front at 0\n" and not fails, f"{name}: {failure!r}: {reply!r}")
