@@ -22,26 +22,14 @@ from collections.abc import Callable, Iterator
 from contextlib import contextmanager
 from pathlib import Path
 
+from dev.repository import ROOT
+
 PROGRAMS = ("debootstrap", "lintian", "systemd-analyze", "chroot", "mount")
 SUITE = "bookworm"
-#: The example network's service, as docs/OPERATING.md begins one.
-BEGIN = """
-set -eu
-doc=/usr/share/doc/kidrofemba
-cd /var/lib/kidrofemba
-install -d -o kidrofemba -g kidrofemba -m 750 line line/proofs
-cd line
-cp $doc/examples/line3.json network.json
-cp $doc/examples/trains.json .
-cat >base.json <<'JSON'
-{"begins":"2026-12-01T00:00:00+01:00","tick_s":10,"setting":1,"release":1,
- "horizon":17280,"journal_bytes":1048576,"trains":[]}
-JSON
-kidrofemba init --network network.json --base base.json --journal journal
-chown -R kidrofemba: .
-cp $doc/examples/network.conf /etc/kidrofemba/line.conf
-install -d -o kidrofemba -g kidrofemba -m 755 /run/kidrofemba/line
-"""
+#: The page whose first block in bash begins a service, and the heading above it.
+PAGE, HEADING = "docs/OPERATING.md", "### As a service of the machine"
+#: What the system of a trial has no use for: the package is there, and no service manager runs.
+PASSED_OVER = ("apt-get ", "systemctl ")
 #: The command of the unit, with its variables, as the service manager would run it.
 SERVE = """
 set -eu
@@ -144,8 +132,20 @@ def sell(system: System, begin: str) -> str:
 
 
 def begin_service(system: System) -> str:
-    system.shell(BEGIN)
-    return sell(system, "granted 1 entry 0 at 1")
+    """Begins the service by the lines of the page, and sells a path."""
+    lines = beginning((ROOT / PAGE).read_text())
+    system.shell("set -eu\n" + "\n".join(lines))
+    system.shell("install -d -o kidrofemba -g kidrofemba -m 755 /run/kidrofemba/line")
+    return f"by {len(lines)} lines of {PAGE}: " + sell(system, "granted 1 entry 0 at 1")
+
+
+def beginning(page: str) -> list[str]:
+    """The lines of a page by which a service is begun."""
+    block = page.partition(HEADING)[2].partition("```bash\n")[2].partition("```")[0]
+    lines = [line for line in block.splitlines() if not line.startswith(PASSED_OVER)]
+    if not lines:
+        raise Failed(f"{PAGE}: there are no lines below {HEADING!r}")
+    return lines
 
 
 def upgrade(system: System, newer: Path) -> str:
