@@ -2,8 +2,8 @@
 
 A client holds and frees as fast as the server answers, and meanwhile `stairs`, `capacity` and
 `check` read the journal, in turn: each of them sees the journal as it stood at some moment, and
-none is told that it is damaged. `--full` reads a journal of 1 MB and one of 60 MB a thousand times with each
-command; else the journals have 1 and 16 MB, and each is read for some seconds.
+none is told that it is damaged. `--full` reads a journal of 1 MB and one of 60 MB a thousand times
+with each command; else the journals have 1 and 16 MB, and each is read for some seconds.
 
     PYTHONPATH=python python3 -m tests.test_beside_server --program crates/stdcm/out/stdcm
 """
@@ -65,7 +65,7 @@ class Holding:
         entry = self.entries
         try:
             while not self.ended.is_set():
-                os.write(lines.fileno(), b"hold %d 1 10 20\nfree %d %d\n"
+                os.write(lines.fileno(), b"hold %d 1 20000 20001\nfree %d %d\n"
                          % (entry, entry + 1, entry))
                 entry += 2
         except BrokenPipeError:
@@ -146,8 +146,8 @@ def is_read_beside_its_server(site: Site, plan: Plan) -> str:
             refused.update(told for told in (read_once(site, name) for name in COMMANDS) if told)
         written = server.written() - first
         must(server.process.poll() is None, "the server ended")
-    told = (f"{plan.size / 1e6:g} MB: {readings} readings of each command beside {written} entries, "
-            f"{time.monotonic() - begun:.1f} s")
+    told = (f"{plan.size / 1e6:g} MB: {readings} readings of each command beside {written} "
+            f"entries, {time.monotonic() - begun:.1f} s")
     must(written > readings, f"{told}: too few entries")
     must(not refused, f"{told}: {refused.total()} refused, the first by {[*refused][:1]}")
     return told
