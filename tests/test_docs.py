@@ -394,10 +394,17 @@ def fault_of_words(text: str) -> str | None:
     return f"{name} has no option {lost[0]}" if lost else None
 
 
+def source_of(module: str) -> str:
+    """The text of a companion's module, and of those beside it that it imports."""
+    folder = ROOT / "python/kidrofemba" / module.partition(".")[0]
+    told = (folder / f"{module.rpartition('.')[2]}.py").read_text()
+    beside = re.findall(rf"^from kidrofemba\.{folder.name}\.(\w+) import", told, re.MULTILINE)
+    return told + "".join((folder / f"{name}.py").read_text() for name in beside)
+
+
 def fault_of_companion(name: str, used: list[str]) -> str | None:
     """What is wrong with options of a companion; behind `--` stand those of another command."""
-    file = ROOT / "python/kidrofemba" / f"{COMPANIONS[name].module.replace('.', '/')}.py"
-    told = file.read_text()
+    told = source_of(COMPANIONS[name].module)
     own = used[:used.index("--")] if "--" in used else used
     lost = [word for word in own if not re.search(rf"{word}\b|\"{word[2:]}\"", told)]
     return f"kidrofemba {name} has no option {lost[0]}" if lost else None
