@@ -16,6 +16,7 @@ import tempfile
 import time
 from dataclasses import dataclass
 from pathlib import Path
+from typing import Any
 
 from bench.served import PROGRAM
 
@@ -38,7 +39,7 @@ class Files:
                 "--journal", str(self.journal), *rest, "--out", str(self.out)]
 
 
-def corridor(blocks: int) -> dict:
+def corridor(blocks: int) -> dict[str, Any]:
     """Tracks one behind the other, cut into blocks of one zone each by a detector and a signal every 2000 m."""
     # Tracks are joined in the middle of a block, so that no detector stands where two of them meet.
     shift_m = BLOCK_M // 2
@@ -51,11 +52,13 @@ def corridor(blocks: int) -> dict:
             switches.append({"id": f"L{number}", "switch_type": "link", "ports": {
                 "A": {"endpoint": "END", "track": f"T{number - 1}"}, "B": {"endpoint": "BEGIN", "track": f"T{number}"}}})
     begins = [0, *bounds]
-    detectors, signals, track = [], [], 0
+    detectors: list[dict[str, Any]] = []
+    signals: list[dict[str, Any]] = []
+    track = 0
     for bound in range(BLOCK_M, blocks * BLOCK_M, BLOCK_M):
         while ends[track] < bound:
             track += 1
-        place = {"track": f"T{track}", "position": float(bound - begins[track])}
+        place: dict[str, Any] = {"track": f"T{track}", "position": float(bound - begins[track])}
         detectors.append({"id": f"D{bound}", **place})
         signals.append({"id": f"S{bound}", **place, "direction": "START_TO_STOP", "sight_distance": 400.0,
                         "logical_signals": [{"signaling_system": "BAL"}]})
@@ -113,6 +116,7 @@ def run(words: list[str]) -> tuple[float, float]:
     _, status, used = os.wait4(child.pid, 0)
     seconds = time.monotonic() - begun
     if status != 0:
+        assert child.stderr is not None
         raise SystemExit(f"{words[1]} ended with {status}: {child.stderr.read().decode()}")
     return seconds, used.ru_maxrss / 1024
 

@@ -9,6 +9,7 @@ import argparse
 import json
 from dataclasses import dataclass
 from pathlib import Path
+from typing import Any
 
 BLOCK_M = 1500
 STATION_M = 1000
@@ -19,39 +20,39 @@ CLEAR_M = 100
 class Corridor:
     """A corridor, and what it is made of."""
 
-    infra: dict
+    infra: dict[str, Any]
     blocks: int
     zones: int
     stops: list[str]
 
 
-def signal(name: str, track: str, position: int) -> dict:
+def signal(name: str, track: str, position: int) -> dict[str, Any]:
     return {
         "id": name, "track": track, "position": float(position), "direction": "START_TO_STOP", "sight_distance": 400.0,
         "logical_signals": [{"signaling_system": "BAL", "next_signaling_systems": ["BAL"], "settings": {"Nf": "false"}}],
     }
 
 
-def route(name: str, entry: tuple[str, str], leave: tuple[str, str], ways: dict[str, str], releases: list[str]) -> dict:
+def route(name: str, entry: tuple[str, str], leave: tuple[str, str], ways: dict[str, str], releases: list[str]) -> dict[str, Any]:
     return {
         "id": name, "entry_point": {"type": entry[0], "id": entry[1]}, "entry_point_direction": "START_TO_STOP",
         "exit_point": {"type": leave[0], "id": leave[1]}, "switches_directions": ways, "release_detectors": releases,
     }
 
 
-def geometry(points: int, at: int) -> dict:
+def geometry(points: int, at: int) -> dict[str, Any]:
     return {"type": "LineString", "coordinates": [[2.3 + at * 1e-4 + i * 1e-6, 48.8 + i * 1.25e-6] for i in range(points)]}
 
 
 def corridor(sections: int, blocks_of_section: int, points: int = 2) -> Corridor:
     """A corridor of so many sections of so many blocks, with so many points of geometry for each track."""
-    tracks: list[dict] = []
-    switches: list[dict] = []
-    detectors: list[dict] = []
-    signals: list[dict] = []
-    routes: list[dict] = []
-    stations: list[dict] = []
-    ranges: list[dict] = []
+    tracks: list[dict[str, Any]] = []
+    switches: list[dict[str, Any]] = []
+    detectors: list[dict[str, Any]] = []
+    signals: list[dict[str, Any]] = []
+    routes: list[dict[str, Any]] = []
+    stations: list[dict[str, Any]] = []
+    ranges: list[dict[str, Any]] = []
 
     def track(name: str, length: int) -> None:
         tracks.append({"id": name, "length": float(length), "geo": geometry(points, len(tracks)), "extensions": {"sncf": {"line_code": 1}}})

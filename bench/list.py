@@ -27,6 +27,7 @@ def run_list(network: Path, out: Path) -> tuple[float, int]:
     _, status, used = os.wait4(child.pid, 0)
     seconds = time.monotonic() - begun
     if status != 0:
+        assert child.stderr is not None
         raise SystemExit(f"list ended with {status}: {child.stderr.read().decode()}")
     return seconds, used.ru_maxrss
 

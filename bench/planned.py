@@ -6,6 +6,7 @@ import subprocess
 import time
 from dataclasses import dataclass, field
 from pathlib import Path
+from typing import Any
 
 from bench.served import TRAINS, World, make_world, peak_of, without_syncs
 from kidrofemba.network.blocking_times import HORIZON, Ask, Railway, Run, blocks_of, train_of
@@ -26,12 +27,12 @@ class Figures:
     report: list[str] = field(default_factory=list)
 
 
-def plan(railway: Railway, count: int, source: random.Random) -> list[dict]:
+def plan(railway: Railway, count: int, source: random.Random) -> list[dict[str, Any]]:
     """So many planned trains, each on a part of the corridor, of which no two clash."""
     leads: dict[str, list[int]] = {}
     for number, block in enumerate(railway.blocks):
         leads.setdefault(block.begins, []).append(number)
-    trains: list[dict] = []
+    trains: list[dict[str, Any]] = []
     for _ in range(200 * count):
         if len(trains) == count:
             return trains
@@ -138,7 +139,8 @@ def runs_of(words: list[str]) -> list[Run]:
     fields = words[words.index("runs") + 2:]
     if len(fields) != 4 * count:
         raise SystemExit(f"{len(fields)} fields of {count} runs")
-    return [Run(*map(int, fields[4 * i:4 * i + 3]), fields[4 * i + 3] == "1") for i in range(count)]
+    rows = zip(*(fields[at::4] for at in range(4)))
+    return [Run(int(block), int(enter), int(leave), stops == "1") for block, enter, leave, stops in rows]
 
 
 def close(world: World, railway: Railway, stop: str) -> None:

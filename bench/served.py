@@ -6,6 +6,7 @@ import os
 import subprocess
 from dataclasses import dataclass
 from pathlib import Path
+from typing import Any
 
 from bench.corridor import Corridor, corridor
 
@@ -38,7 +39,7 @@ class World:
         subprocess.run(self.words("init", ["network", "base", "journal"]), check=True)
 
 
-def make_world(folder: Path, sections: int = 8, blocks: int = 4, trains: list[dict] | None = None) -> World:
+def make_world(folder: Path, sections: int = 8, blocks: int = 4, trains: list[dict[str, Any]] | None = None) -> World:
     """A corridor of so many sections of so many blocks, with these planned trains, and a journal without entries."""
     if not PROGRAM.is_file():
         raise SystemExit(f"no program at {PROGRAM}: dev/build makes it")

@@ -122,7 +122,7 @@ class Program:
         """The crates that are proved before it stands, itself among them."""
         return [*self.repository.below(self.name), self.name]
 
-    def kept(self) -> dict | None:
+    def kept(self) -> dict[str, str] | None:
         """What is told of the copy, where it is whole and of this very tree."""
         try:
             told = json.loads(self.record.read_text())
@@ -274,7 +274,8 @@ class Schedule:
 
     def from_here(self, proved: set[str]) -> float:
         """How long the rest takes, the crates with the longest chain behind them first."""
-        ended, running, now = set(proved), [], 0.0
+        ended, now = set(proved), 0.0
+        running: list[tuple[float, str]] = []
         left = sorted({*self.crates} - ended, key=lambda it: (-self.behind[it], it))
         while left or running:
             ready = [it for it in left if all(below in ended for below in self.waits[it])]
@@ -492,6 +493,7 @@ class Gate:
 
     def read(self) -> None:
         """Takes each line that the run prints, and notes what it says is proved."""
+        assert self.process.stdout is not None
         for line in self.process.stdout:
             self.log.write(line)
             self.log.flush()
@@ -522,7 +524,7 @@ class Pauses:
     holds little, until there is room for what a proof takes.
     """
 
-    def __init__(self, process: subprocess.Popen, memory_gb: float):
+    def __init__(self, process: subprocess.Popen[bytes], memory_gb: float):
         self.process, self.memory_gb = process, memory_gb
         self.paused: list[Member] = []
         self.next = 0.0
@@ -703,10 +705,11 @@ def tell_plan(schedule: Schedule, memory_gb: float, programs: list[Program], kit
 
 def find_built(programs: list[Program]) -> bool:
     """Whether each program is kept as one of this very tree; it is put in its place then."""
-    if not all(program.kept() for program in programs):
+    kept = [(program, program.kept()) for program in programs]
+    if not all(told for _, told in kept):
         return False
-    for program in programs:
-        told = program.kept()
+    for program, told in kept:
+        assert told is not None
         program.put_in_place()
         say(f"{program.place.relative_to(ROOT)} is built already, of this very tree"
             f" ({told['date']}, {told['kit']})")

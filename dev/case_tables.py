@@ -299,12 +299,12 @@ class Table:
                    done: set[int] | None = None) -> list[Making | Case]:
         """These cases in their order, each behind the files and the cases that make what it names,
         those left out that are done already."""
-        done = set() if done is None else done
+        left_out: set[int] = set() if done is None else done
         order: list[Making | Case] = []
         begun: list[Making | Case] = []
 
         def take(one: Making | Case) -> None:
-            if id(one) in done:
+            if id(one) in left_out:
                 return
             if any(it is one for it in begun):
                 raise one.place.refused("what it needs needs itself")
@@ -312,7 +312,7 @@ class Table:
             for name in self.needs(one):
                 take(self.makers[name])
             begun.pop()
-            done.add(id(one))
+            left_out.add(id(one))
             order.append(one)
 
         for case in chosen:

@@ -1,10 +1,11 @@
 """Checks all that needs no proof, with the program at crates/stdcm/out/stdcm (dev/build).
 
 HANDLES, the crates' names and the counts of dev/house, what is made of the tables of cases, the
-demo's replies and its proof, the table of the station, servers beside plain models (bench/ and
-dev/proofs), the scenarios of tests/conformance, and each program tests/test_*.py. A line tells
-how each ended and how long it took; one that failed is printed whole. The last line is
-`N passed, M failed`, and the exit status is 0 only where M is 0.
+demo's replies and its proof, the table of the station, types and unused names of the Python sources
+(mypy and pyflakes3, where they are installed; else they are told as not run), servers beside plain
+models (bench/ and dev/proofs), the scenarios of tests/conformance, and each program
+tests/test_*.py. A line tells how each ended and how long it took; one that failed is printed whole.
+The last line is `N passed, M failed`, and the exit status is 0 only where M is 0.
 
     dev/check
     dev/check --only lock conformance
@@ -14,6 +15,7 @@ from __future__ import annotations
 import argparse
 import os
 import re
+import shutil
 import signal
 import subprocess
 import sys
@@ -47,17 +49,17 @@ class Outcome:
     told: str
 
     def line(self) -> str:
-        word = "FAILED" if self.failed else "ok"
+        word = "FAILED" if self.failed else "ok" if self.passed else "not run"
         rows = self.told.rstrip("\n").splitlines()
         last = f": {rows[-1]}" if rows and COUNTS.fullmatch(rows[-1]) else ""
-        return f"{word:<6} {self.time_s:6.1f} s  {self.name}{last}"
+        return f"{word:<7} {self.time_s:6.1f} s  {self.name}{last}"
 
 
 @dataclass(frozen=True)
 class Check:
     """Something to be checked: a call in this process, or a command.
 
-    A command must end with status 0. It may count what it tries on its last line; where a file
+    Without both it is told as not run. A command must end with status 0. It may count what it tries on its last line; where a file
     is named, what it writes must be what that file holds.
     """
 
@@ -71,6 +73,8 @@ class Check:
         if self.call is not None:
             faults = self.call()
             return self.outcome(begun, not faults, "\n".join(faults))
+        if not self.words:
+            return Outcome(self.name, 0, 0, 0.0, "")
         status, written = running.run([*self.words], LIMIT_S)
         if status is None:
             return self.outcome(begun, False, f"{written}no end within {LIMIT_S:.0f} s")
@@ -94,7 +98,7 @@ class Running:
 
     def __init__(self) -> None:
         self.lock = threading.Lock()
-        self.processes: set[subprocess.Popen] = set()
+        self.processes: set[subprocess.Popen[str]] = set()
         self.is_ended = False
 
     def run(self, words: list[str], limit_s: float) -> tuple[int | None, str]:
@@ -141,6 +145,13 @@ def crates() -> list[str]:
             *(f"docs/MAP.md does not name {name}" for name in untold)]
 
 
+def linters() -> list[Check]:
+    """What looks at the Python sources without running them, where it is installed."""
+    commands = (("mypy",), ("pyflakes3", "python", "dev", "bench", "tests"))
+    return [Check(words[0], words=words) if shutil.which(words[0])
+            else Check(f"{words[0]}, which is not installed here") for words in commands]
+
+
 def all_checks() -> list[Check]:
     """All that is checked, what takes longest first."""
     tests = sorted((ROOT / "tests").glob("test_*.py"))
@@ -160,6 +171,7 @@ def all_checks() -> list[Check]:
         Check("tests/fuzz_door", words=(*PYTHON, "-m", "tests.fuzz_door", "--seconds", "60")),
         Check("bench/list", words=(*PYTHON, "bench/list", "--sizes", "0.2")),
         Check("dev/house", words=(*PYTHON, "dev/house", *house)),
+        *linters(),
         Check("HANDLES", call=handles),
         Check("crates.txt", call=crates),
         Check("dev/tables", words=(*PYTHON, "dev/tables", "--check")),
@@ -198,7 +210,7 @@ def main(words: list[str]) -> int:
         os._exit(128 + number)
     for number in (signal.SIGINT, signal.SIGTERM, signal.SIGHUP):
         signal.signal(number, stop)
-    passed, failed = map(int, COUNTS.fullmatch(options.after).groups())
+    passed, failed = (int(word) for word in options.after.split()[::2])
     with ThreadPoolExecutor(max(1, options.jobs)) as pool:
         for future in as_completed([pool.submit(check.run, running) for check in chosen]):
             outcome = future.result()

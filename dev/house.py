@@ -137,7 +137,8 @@ def without_comment(line: str) -> str:
 def items(lines: list[str], comment: str) -> Iterator[tuple[int, str]]:
     """What stands at the left margin, with all that is indented below it, comments left out; each
     with the number of its first line."""
-    begin, text = 0, []
+    begin = 0
+    text: list[str] = []
     for number, line in enumerate([*lines, "end"], 1):
         if line and not line[0].isspace():
             if text:
@@ -232,7 +233,8 @@ class House:
                     if re.fullmatch(r"Type \d+", sides[-1]):
                         count = sum(map(names_of, sides[:-1]))
                 if count > most:
-                    found.append(Spot(path, line, (record or signature)[1], count))
+                    name = record[1] if record else signature[1] if signature else ""
+                    found.append(Spot(path, line, name, count))
         return found
 
     @cached_property

@@ -58,7 +58,7 @@ def ends_with_parent(number: int) -> Callable[[], None]:
     return lambda: LIBC.prctl(PR_SET_PDEATHSIG, number, 0, 0, 0) and None
 
 
-def end(process: subprocess.Popen, patience_s: float = 10.0) -> None:
+def end(process: subprocess.Popen[bytes] | subprocess.Popen[str], patience_s: float = 10.0) -> None:
     """Ends a process and all that it has started: asked first, then killed."""
     known = {one.pid: one for one in family(process.pid)}
     if process.poll() is None:

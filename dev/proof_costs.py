@@ -55,13 +55,14 @@ def module_of(crate: str, name: str) -> Module:
 
 
 def costs_of(crate: str, folder: Path) -> dict[str, Counter[str]]:
-    """The seconds of each function and file, by parts, of what stands in the folder of a check."""
+    """The nanoseconds of each function and file, by parts, of what stands in the folder of a
+    check."""
     files = sorted((path.stat().st_mtime_ns, path.name) for path in folder.rglob(f"*{ENDING}"))
     costs: dict[str, Counter[str]] = defaultdict(Counter)
     for (before, _), (now, name) in zip(files, files[1:]):
-        module, seconds = module_of(crate, name), (now - before) / 1e9
-        if seconds < MOST_S:
-            costs[module.owner][module.part] += seconds
+        module = module_of(crate, name)
+        if now - before < MOST_S * 1e9:
+            costs[module.owner][module.part] += now - before
     return costs
 
 
@@ -69,12 +70,12 @@ def table_of(costs: dict[str, Counter[str]], shown: int) -> list[str]:
     """A table for a page, and the sum of all."""
     rows = ["| seconds | function or file | dearest parts |", "|---|---|---|"]
     for owner in sorted(costs, key=lambda it: -costs[it].total())[:shown]:
-        parts = ", ".join(f"{part} {seconds:.1f}"
-                          for part, seconds in costs[owner].most_common(PARTS)
-                          if part and seconds >= 0.1)
-        rows.append(f"| {costs[owner].total():.1f} | `{owner}` | {parts} |")
+        parts = ", ".join(f"{part} {taken_ns / 1e9:.1f}"
+                          for part, taken_ns in costs[owner].most_common(PARTS)
+                          if part and taken_ns >= 1e8)
+        rows.append(f"| {costs[owner].total() / 1e9:.1f} | `{owner}` | {parts} |")
     whole = sum(it.total() for it in costs.values())
-    rows.append(f"| {whole:.1f} | all {len(costs)} | |")
+    rows.append(f"| {whole / 1e9:.1f} | all {len(costs)} | |")
     return rows
 
 

@@ -15,6 +15,7 @@ from collections import Counter
 from collections.abc import Iterator
 from dataclasses import dataclass, replace
 from pathlib import Path
+from typing import Any
 
 from bench.planned import F1, asks_of, runs_of, serve, stops_of, world_of
 from bench.served import World
@@ -105,7 +106,7 @@ def with_member(proof: Proof, at: int, member: Member) -> Proof:
     return replace(proof, members=(*proof.members[:at], member, *proof.members[at + 1:]))
 
 
-def with_place(proof: Proof, at: int, **numbers: object) -> Proof:
+def with_place(proof: Proof, at: int, **numbers: Any) -> Proof:
     member = proof.members[at]
     return with_member(proof, at, member._replace(place=member.place._replace(**numbers)))
 

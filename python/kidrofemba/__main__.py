@@ -3,6 +3,6 @@ from __future__ import annotations
 
 import sys
 
-from kidrofemba.cli import main
+from kidrofemba.cli import command
 
-sys.exit(main(sys.argv[1:]))
+sys.exit(command())

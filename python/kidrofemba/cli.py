@@ -213,10 +213,15 @@ def main(words: list[str]) -> int:
         print(f"{NAME} {version()}")
         return 0
     if name in COMPANIONS:
-        return import_module(f"kidrofemba.{COMPANIONS[name].module}").main(rest)
+        return int(import_module(f"kidrofemba.{COMPANIONS[name].module}").main(rest))
     if name not in COMMANDS:
         return unknown(name)
     if rest[:1] in (["--help"], ["-h"]):
         sys.stdout.write(help_of_program(name))
         return 0
     return run_program(program, words)
+
+
+def command() -> int:
+    """The entry point of an installed package; the exit status."""
+    return main(sys.argv[1:])

@@ -380,7 +380,7 @@ class Walk:
             if kind == "BufferStop" and one.position in stops and (kind, one.id) != self.goal:
                 continue
             self._go_to(one.position)
-            zone = self._zone(kind)
+            zone: int | None = self._zone(kind)
             if kind == "BufferStop" and (kind, one.id) != self.goal:
                 raise NetworkFault(f"no-way {escaped(self.route['id'])} at {self.metre}")
             if kind == "Detector":
@@ -478,7 +478,7 @@ def table_of(infra: dict[str, Any]) -> str:
         network.judge_releases(route, walks[-1])
     for route, passed in zip(routes, walks):
         network.judge_lengths(route, passed)
-    lines = []
+    lines: list[str] = []
     for route, passed in zip(routes, walks):
         for part, told in enumerate(network.blocks_of(route, passed)):
             lines.append(f"block {len(lines)} route {escaped(route['id'])} part {part} {told}")

@@ -144,7 +144,7 @@ def colour_class(train: GraphTrain, at: int) -> str:
     """The class of a train's colour; `at` is its place among those that are sold."""
     if train.standing is Standing.SOLD:
         return f"sold s{at % len(LIGHT)}"
-    return train.standing.value
+    return str(train.standing.value)
 
 
 def with_classes(trains: Iterable[GraphTrain]) -> list[tuple[GraphTrain, str]]:

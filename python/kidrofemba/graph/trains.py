@@ -9,6 +9,7 @@ from __future__ import annotations
 from collections.abc import Callable, Iterable, Iterator
 from dataclasses import dataclass, field, replace
 from enum import Enum
+from functools import partial
 from itertools import groupby
 from pathlib import Path
 
@@ -161,8 +162,8 @@ def _take_reply(client: str, words: list[str], found: dict[int, Train], railway:
     if fields[4 * count:4 * count + 1] == ["freed"]:
         found.pop(entry, None)
         return
-    runs = tuple(Run(*map(int, fields[4 * i:4 * i + 3]), fields[4 * i + 3] == "1")
-                 for i in range(count))
+    runs = tuple(Run(int(block), int(enter), int(leave), stops == "1")
+                 for block, enter, leave, stops in zip(*(fields[at:4 * count:4] for at in range(4))))
     _check_runs(runs, railway, wrong)
     found[entry] = Train(Standing.SOLD, f"{owner} {number}",
                          f"{owner} {number}, sold by entry {entry}", runs)
@@ -178,9 +179,9 @@ def claims_of_stairs(source: str | Path, text: str, railway: Railway) -> tuple[C
         if number == 1 or len(words) != 4 or not all(word.lstrip("-").isdecimal()
                                                      for word in words):
             raise Refused(source, f"line {number}", "is no line of a table of `stairs`")
-        claims.append(Claim(*map(int, words[:3])))
-        _check_claims(claims[-1:], railway,
-                      lambda what, at=number: Refused(source, f"line {at}", what))
+        zone, begin, end = map(int, words[:3])
+        claims.append(Claim(zone, begin, end))
+        _check_claims(claims[-1:], railway, partial(Refused, source, f"line {number}"))
     return tuple(claims)
 
 
@@ -220,7 +221,7 @@ def _train_of_entry(entry: Entry) -> Train:
 
 def taken_in_order(trains: Iterable[Train], railway: Railway) -> set[tuple[int, int]]:
     """The pairs of zones that some train takes one behind the other."""
-    taken = set()
+    taken: set[tuple[int, int]] = set()
     for train in trains:
         if train.runs:
             zones = [zone for run in train.runs for zone in railway.blocks[run.block].zones]

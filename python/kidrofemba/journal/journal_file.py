@@ -168,7 +168,7 @@ def runs_of_words(words: list[str]) -> tuple[Run, ...]:
     numbers = list(map(int, words))
     if not numbers or len(numbers) != 1 + 4 * numbers[0]:
         raise ValueError(f"no runs: {' '.join(words)}")
-    return tuple(Run(*numbers[at:at + 3], numbers[at + 3] == 1)
+    return tuple(Run(numbers[at], numbers[at + 1], numbers[at + 2], numbers[at + 3] == 1)
                  for at in range(1, len(numbers), 4))
 
 

@@ -169,11 +169,15 @@ class Roll:
 
     def _moved(self, claims: Sequence[Claim]) -> tuple[Claim, ...] | None:
         """The claims that are not over, by new zones and ticks; None where a zone is gone."""
-        left = [(self.zones[claim.zone], max(_LEAST_TICK, claim.begin - self.shift),
-                 claim.end - self.shift) for claim in claims if claim.end > self.shift]
-        if any(zone is None for zone, _, _ in left):
-            return None
-        return tuple(Claim(zone, begin, end) for zone, begin, end in sorted(left))
+        moved: list[tuple[int, int, int]] = []
+        for claim in claims:
+            if claim.end > self.shift:
+                zone = self.zones[claim.zone]
+                if zone is None:
+                    return None
+                begin = max(_LEAST_TICK, claim.begin - self.shift)
+                moved.append((zone, begin, claim.end - self.shift))
+        return tuple(Claim(*one) for one in sorted(moved))
 
     def _hold(self, entry: Entry, rolled: Rolled) -> None:
         claims = self._moved(entry.claims)

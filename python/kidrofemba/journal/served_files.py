@@ -72,9 +72,11 @@ def read_network(file: str, table: str) -> Network:
 def read_base(file: str) -> Base:
     """The base timetable of a file."""
     spot = spot_of_file(file)
-    told = [spot.member(key).whole() for key in ("tick_s", "setting", "release", "horizon")]
+    tick_s, setting, release, horizon = (
+        spot.member(key).whole() for key in ("tick_s", "setting", "release", "horizon"))
     loss = spot.optional("speed_loss")
-    settings = Settings(*told, loss is not None and loss.whole() == 1)
+    settings = Settings(tick_s, setting, release, horizon,
+                        loss is not None and loss.whole() == 1)
     try:
         clock = clock_of(spot.value)
     except ValueError as wrong:

@@ -275,10 +275,11 @@ class _Beside:
                                                         pair[0].metre, pair[1].metre)]
         if not between:
             return None
-        one, other = min(between, key=lambda pair: (
+        nearer, farther = min(between, key=lambda pair: (
             abs(pair[0].gone + pair[1].gone - abs(pair[0].metre - pair[1].metre)),
             pair[0].metre, pair[1].metre))
-        return one.metre + (other.metre - one.metre) * one.gone / max(one.gone + other.gone, 1)
+        return (nearer.metre + (farther.metre - nearer.metre) * nearer.gone
+                / max(nearer.gone + farther.gone, 1))
 
     def _joined_at(self, end: TrackEnd) -> set[TrackEnd]:
         """All ends of tracks that are joined where this one is."""

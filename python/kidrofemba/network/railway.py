@@ -10,6 +10,7 @@ from collections import defaultdict
 from collections.abc import Iterator
 from dataclasses import dataclass
 from pathlib import Path
+from typing import Any
 
 from kidrofemba.common.companion import Refused, unescaped
 from kidrofemba.common.json_spot import Spot, spot_of_file
@@ -162,9 +163,10 @@ class _Tracks:
 
     def track(self, spot: Spot) -> str:
         """The id of a track, which must be there."""
-        if spot.text() not in self.lengths:
-            raise spot.wrong(f"no track has the id {spot.value}")
-        return spot.value
+        name = spot.text()
+        if name not in self.lengths:
+            raise spot.wrong(f"no track has the id {name}")
+        return name
 
     def _add_switch(self, spot: Spot) -> None:
         name, kind = spot.member("id").text(), spot.member("switch_type")
@@ -200,7 +202,8 @@ class _Tracks:
         ascends = route.member("entry_point_direction").text() == "START_TO_STOP"
         chosen = route.optional("switches_directions")
         groups = chosen.value if chosen and isinstance(chosen.value, dict) else {}
-        track, position, way = here.track, here.position, []
+        track, position = here.track, here.position
+        way: list[Stretch] = []
         for _ in range(2 * len(self.lengths) + 2):
             ahead = leave.position - position if ascends else position - leave.position
             if leave.track == track and ahead >= 0:
@@ -215,7 +218,7 @@ class _Tracks:
             position = 0 if ascends else self.lengths[track]
         raise route.wrong("does not come to its exit")
 
-    def _behind(self, end: TrackEnd, groups: dict) -> TrackEnd | None:
+    def _behind(self, end: TrackEnd, groups: dict[str, Any]) -> TrackEnd | None:
         """The end of track at which one comes in behind another, as the switches are set."""
         if end not in self.switch_at:
             return None

@@ -42,7 +42,7 @@ class Blocks:
 
     def __init__(self, tracks: Tracks, posts: Collection[Post], report: Report) -> None:
         self.tracks, self.posts, self.report = tracks, posts, report
-        self.known: dict[tuple, Block] = {}
+        self.known: dict[tuple[object, ...], Block] = {}
 
     def cut(self, route: Route, walk: list[Step]) -> None:
         """Cuts a route into its blocks."""
@@ -92,7 +92,9 @@ class Blocks:
         ]
         crossings = tuple(step for step in steps if isinstance(step, Crossing))
         own = releases & set(inside)
-        return Block(steps[0], steps[-1], inside, crossings, own, set(own))
+        first, last = steps[0], steps[-1]
+        assert isinstance(first, Passage) and isinstance(last, Passage)
+        return Block(first, last, inside, crossings, own, set(own))
 
     def readable(self) -> list[Block]:
         """The blocks that the server reads: with a length, and no detector twice."""

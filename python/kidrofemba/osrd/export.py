@@ -15,6 +15,8 @@ from typing import Any, BinaryIO
 from kidrofemba.common.companion import Refused
 from kidrofemba.common.progress import Progress
 
+#: An object of JSON.
+Object = dict[str, Any]
 FORWARD, BACKWARD = "START_TO_STOP", "STOP_TO_START"
 BEGIN, END = "BEGIN", "END"
 DETECTOR, BUFFER_STOP = "Detector", "BufferStop"
@@ -245,7 +247,8 @@ class JsonText:
     def next(self) -> str:
         """The next character that is not blank, or nothing at the end of the file."""
         while True:
-            self.at = BLANK.match(self.text, self.at).end()
+            blank = BLANK.match(self.text, self.at)
+            self.at = blank.end() if blank else self.at
             if self.at < len(self.text):
                 return self.text[self.at]
             if self.ended:
@@ -318,7 +321,7 @@ KINDS = {
 }
 
 
-def get(one: dict, name: str, kind: type, prefix: str = "") -> Any:
+def get(one: Object, name: str, kind: type, prefix: str = "") -> Any:
     """A field that must be there, of this kind."""
     value = one.get(name, MISSING)
     if type(value) is kind:
@@ -328,16 +331,16 @@ def get(one: dict, name: str, kind: type, prefix: str = "") -> Any:
     raise WrongField(prefix + name, f"is {KINDS[type(value)]}, not {KINDS[kind]}")
 
 
-def get_or(one: dict, name: str, kind: type, prefix: str = "") -> Any:
+def get_or(one: Object, name: str, kind: type, prefix: str = "") -> Any:
     """A field that may be missing or null: its value, or an empty one."""
     if one.get(name) is None:
         return kind()
     return get(one, name, kind, prefix)
 
 
-def get_id(one: dict, name: str, prefix: str = "") -> str:
+def get_id(one: Object, name: str, prefix: str = "") -> str:
     """A name of an object: a text of 1 to 255 bytes."""
-    value = get(one, name, str, prefix)
+    value: str = get(one, name, str, prefix)
     if not 1 <= len(value) <= LONGEST_ID or not value.isascii():
         try:
             count = len(value.encode())
@@ -348,7 +351,7 @@ def get_id(one: dict, name: str, prefix: str = "") -> str:
     return value
 
 
-def get_number(one: dict, name: str, prefix: str = "") -> float:
+def get_number(one: Object, name: str, prefix: str = "") -> float:
     value = one.get(name, MISSING)
     if type(value) is not int and type(value) is not float:
         get(one, name, float, prefix)
@@ -357,14 +360,14 @@ def get_number(one: dict, name: str, prefix: str = "") -> float:
     return float(value)
 
 
-def get_word(one: dict, name: str, words: tuple[str, ...], prefix: str = "") -> str:
-    value = get(one, name, str, prefix)
+def get_word(one: Object, name: str, words: tuple[str, ...], prefix: str = "") -> str:
+    value: str = get(one, name, str, prefix)
     if value not in words:
         raise WrongField(prefix + name, f"is {shown_name(value)}, not {' or '.join(words)}")
     return value
 
 
-def elements(one: dict, name: str) -> Iterator[tuple[str, dict]]:
+def elements(one: Object, name: str) -> Iterator[tuple[str, Object]]:
     """The objects of a nested list, each with the beginning of its place."""
     for index, element in enumerate(get_or(one, name, list)):
         prefix = f"{name}[{index}]"
@@ -373,7 +376,7 @@ def elements(one: dict, name: str) -> Iterator[tuple[str, dict]]:
         yield prefix + ".", element
 
 
-def nested(one: dict, *names: str) -> Any:
+def nested(one: Object, *names: str) -> Any:
     """A value in objects of extensions, or nothing where one of them is not there."""
     value: Any = one
     for name in names:
@@ -381,7 +384,7 @@ def nested(one: dict, *names: str) -> Any:
     return value
 
 
-def get_metres(one: dict, name: str, prefix: str = "") -> float:
+def get_metres(one: Object, name: str, prefix: str = "") -> float:
     """A place on a track, which is not before its begin."""
     value = get_number(one, name, prefix)
     if value < 0:
@@ -389,7 +392,7 @@ def get_metres(one: dict, name: str, prefix: str = "") -> float:
     return value
 
 
-def read_track(one: dict, name: str) -> Track:
+def read_track(one: Object, name: str) -> Track:
     length = get_number(one, "length")
     if not 0 < length <= LONGEST_TRACK_M:
         raise WrongField("length", f"is {length}, not above 0 and at most {LONGEST_TRACK_M}")
@@ -397,15 +400,15 @@ def read_track(one: dict, name: str) -> Track:
     return Track(name, length, None if code is None else str(code))
 
 
-def read_detector(one: dict, name: str) -> Point:
+def read_detector(one: Object, name: str) -> Point:
     return Point(DETECTOR, name, get_id(one, "track"), get_metres(one, "position"))
 
 
-def read_buffer_stop(one: dict, name: str) -> Point:
+def read_buffer_stop(one: Object, name: str) -> Point:
     return Point(BUFFER_STOP, name, get_id(one, "track"), get_metres(one, "position"))
 
 
-def read_signal(one: dict, name: str) -> Signal:
+def read_signal(one: Object, name: str) -> Signal:
     systems: dict[str, bool] = {}
     for prefix, entry in elements(one, "logical_signals"):
         system = get_id(entry, "signaling_system", prefix)
@@ -425,7 +428,7 @@ def read_signal(one: dict, name: str) -> Signal:
     )
 
 
-def read_switch(one: dict, name: str) -> Switch:
+def read_switch(one: Object, name: str) -> Switch:
     ports: dict[str, tuple[str, str]] = {}
     given = get(one, "ports", dict)
     for port, end in given.items():
@@ -437,12 +440,12 @@ def read_switch(one: dict, name: str) -> Switch:
     return Switch(name, get_id(one, "switch_type"), ports)
 
 
-def read_point(one: dict, name: str) -> tuple[str, str]:
+def read_point(one: Object, name: str) -> tuple[str, str]:
     end = get(one, name, dict)
     return get_word(end, "type", (DETECTOR, BUFFER_STOP), name + "."), get_id(end, "id", name + ".")
 
 
-def read_route(one: dict, name: str) -> Route:
+def read_route(one: Object, name: str) -> Route:
     groups = get_or(one, "switches_directions", dict)
     for switch, group in groups.items():
         if type(group) is not str:
@@ -465,7 +468,7 @@ def read_route(one: dict, name: str) -> Route:
     )
 
 
-def read_operational_point(one: dict, name: str) -> OperationalPoint:
+def read_operational_point(one: Object, name: str) -> OperationalPoint:
     parts = [
         (get_id(part, "track", prefix), get_metres(part, "position", prefix))
         for prefix, part in elements(one, "parts")
@@ -480,14 +483,14 @@ def read_operational_point(one: dict, name: str) -> OperationalPoint:
     )
 
 
-def read_limit(one: dict, name: str, prefix: str = "") -> float:
+def read_limit(one: Object, name: str, prefix: str = "") -> float:
     limit = get_number(one, name, prefix)
     if limit < 0.001:
         raise WrongField(prefix + name, f"is {limit} m/s, at which no train could run")
     return limit
 
 
-def read_speed_section(one: dict, name: str) -> SpeedSection:
+def read_speed_section(one: Object, name: str) -> SpeedSection:
     limit = None if one.get("speed_limit") is None else read_limit(one, "speed_limit")
     tags = get_or(one, "speed_limit_by_tag", dict)
     by_tag = {tag: read_limit(tags, tag, "speed_limit_by_tag.") for tag in tags}
@@ -501,7 +504,7 @@ def read_speed_section(one: dict, name: str) -> SpeedSection:
     return SpeedSection(name, limit, by_tag, ranges, bool(one.get("on_routes")))
 
 
-def read_type(one: dict, name: str) -> dict[str, Ways]:
+def read_type(one: Object, name: str) -> dict[str, Ways]:
     """A type of switches: for each group the pairs of ports that it joins."""
     groups: dict[str, Ways] = {}
     for group, pairs in get(one, "groups", dict).items():
@@ -517,7 +520,7 @@ def read_type(one: dict, name: str) -> dict[str, Ways]:
     return groups
 
 
-READERS: dict[str, tuple[Callable[[dict, str], Any], Callable[[Export], dict[str, Any]]]] = {
+READERS: dict[str, tuple[Callable[[Object, str], Any], Callable[[Export], dict[str, Any]]]] = {
     "track_sections": (read_track, lambda export: export.tracks),
     "switches": (read_switch, lambda export: export.switches),
     "detectors": (read_detector, lambda export: export.detectors),
@@ -568,11 +571,12 @@ def check_references(export: Export) -> None:
     """Takes out what names things that are not there, and notes each as a fault."""
     keep(export, "switches", export.switches, lambda one: switch_fault(export, one))
     free_ends(export)
-    for key, points in (
+    placed: tuple[tuple[str, dict[str, Any]], ...] = (
         ("detectors", export.detectors),
         ("buffer_stops", export.buffer_stops),
         ("signals", export.signals),
-    ):
+    )
+    for key, points in placed:
         keep(export, key, points, lambda one: place_fault(export, "", one.track, one.position))
     for route in export.routes.values():
         check_lists_of_route(export, route)

@@ -7,7 +7,7 @@ from dataclasses import dataclass
 
 from kidrofemba.osrd.changes import Change, Report
 from kidrofemba.osrd.export import DETECTOR, FORWARD, Export, Signal, shown_name
-from kidrofemba.osrd.tracks import Crossing, Place, Step, Tracks
+from kidrofemba.osrd.tracks import Crossing, Passage, Place, Step, Tracks
 
 # A detector, and the way in which it is passed.
 Post = tuple[str, str]
@@ -90,17 +90,18 @@ class Posts:
 
     def _follow(self, walk: list[Step], found: dict[str, set[Post]]) -> None:
         first = walk[0]
+        assert isinstance(first, Passage)
         entry = self.tracks.place((first.kind, first.id)).point.position
         here = [
             signal
-            for signal in self.lost.get((first.track, first.way), ())
+            for signal in self.lost.get((first.track, first.way), [])
             if (signal.position >= entry) == (first.way == FORWARD)
         ]
         waiting: list[tuple[Signal, float]] = []
         for step in walk[1:]:
             if isinstance(step, Crossing):
                 waiting += [(signal, step.metre - self._to_end(signal)) for signal in here]
-                here = self.lost.get((step.track, step.way), ())
+                here = self.lost.get((step.track, step.way), [])
             elif waiting and step.kind == DETECTOR:
                 for signal, metre in waiting:
                     found[signal.id].add((step.id, step.way))

@@ -132,8 +132,8 @@ class Tracks:
         """The ruler of each track, and what it rounds."""
         stations: dict[str, list[float]] = defaultdict(list)
         for point in self.export.operational_points.values():
-            for track, position in point.parts:
-                stations[track].append(position)
+            for part, position in point.parts:
+                stations[part].append(position)
         rulers: dict[str, Ruler] = {}
         for name, track in self.export.tracks.items():
             row = self.rows[name]

@@ -14,6 +14,7 @@ from __future__ import annotations
 import argparse
 import json
 import sys
+from collections.abc import Callable
 from datetime import datetime
 from pathlib import Path
 
@@ -226,4 +227,5 @@ def _moment(text: str) -> datetime:
 def main(words: list[str]) -> int:
     """Makes the file that the words name; the exit status."""
     options = options_of(words)
-    return run_companion(NAME, lambda: options.make(options))
+    make: Callable[[argparse.Namespace], int | None] = options.make
+    return run_companion(NAME, lambda: make(options))

@@ -135,7 +135,7 @@ def _traction_of(stock: Spot) -> tuple[Traction | float, list[str]]:
     if not speeds or len(speeds) != len(efforts) or sorted(set(speeds)) != speeds:
         raise curve.wrong("needs as many speeds as efforts, the speeds rising")
     resistance = stock.member("rolling_resistance")
-    parts = tuple(resistance.member(key).number() for key in "ABC")
+    constant, linear, square = (resistance.member(key).number() for key in "ABC")
     inertia = stock.optional("inertia_coefficient")
     mass = _positive(stock.member("mass")) * (_positive(inertia) if inertia else 1.0)
-    return Traction(speeds, efforts, parts, mass, comfort), [f"pulls as in its mode {name}"]
+    return Traction(speeds, efforts, (constant, linear, square), mass, comfort), [f"pulls as in its mode {name}"]

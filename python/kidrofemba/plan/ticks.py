@@ -45,9 +45,9 @@ def conflicts_of(owners: Sequence[Owner], needs: Sequence[list[Need]]) -> list[C
         for need in taken:
             by_zone[need.zone].append((owner, need))
     found: dict[tuple[int, int, int], Conflict] = {}
-    for zone, taken in sorted(by_zone.items()):
-        taken.sort(key=lambda one: (one[1].begin, one[0]))
-        for (one, earlier), (other, later) in _overlapping(taken):
+    for zone, needed in sorted(by_zone.items()):
+        needed.sort(key=lambda one: (one[1].begin, one[0]))
+        for (one, earlier), (other, later) in _overlapping(needed):
             what = _conflict_between(owners[one], earlier, owners[other], later)
             end = min(earlier.end, later.end)
             if one != other and what is not None:
