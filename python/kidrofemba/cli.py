@@ -94,6 +94,7 @@ COMMANDS: dict[str, ProgramCommand] = {
 }
 COMPANIONS: dict[str, Companion] = {
     "import-network": Companion("osrd.import_network", "a network file from an export of OSRD"),
+    "verify": Companion("reality.verify", "whether the trains of sold paths stay in their claims"),
     "import-plan": Companion("plan.import_plan",
                              "train and base files from rolling stocks and planned trains"),
     "door": Companion("door.door", "a server behind a socket for each client"),
@@ -107,7 +108,7 @@ COMPANIONS: dict[str, Companion] = {
 GROUPS = (
     ("prepare", ("import-network", "import-plan", "list", "init")),
     ("serve", ("door", "serve", "ask", "batch")),
-    ("look into what was sold", ("why", "check", "graph", "stairs", "capacity", "export")),
+    ("look into what was sold", ("verify", "why", "check", "graph", "stairs", "capacity", "export")),
     ("keep journals", ("carry", "roll-over", "mend")),
     ("try", ("demo",)),
 )

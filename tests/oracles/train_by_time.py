@@ -1,7 +1,8 @@
 """A train run by small steps of time: the independent model that simulated running times and sold
 paths are held to. It shares nothing with the program's own simulation, which goes by distance.
 
-The train is a row of equal parts, each with its own gradient; the driver looks ahead at each
+The train's weight is spread over its length, so that what pulls it down a slope is the height
+between its head and its tail; heights are kept for each metre. The driver looks ahead at each
 moment: he brakes as soon as he must for a limit or a stop ahead, and pulls with all there is else.
 The equation is integrated by the middle point of each step.
 """
@@ -10,7 +11,6 @@ from __future__ import annotations
 from dataclasses import dataclass, field
 
 G = 9.81
-PARTS = 16
 
 
 @dataclass
@@ -47,6 +47,8 @@ class Road:
     limits: list[tuple[float, float, float]]
     length: float
     stops: list[tuple[float, float]] = field(default_factory=list)
+    #: Places that the head does not pass before a moment, in their order.
+    not_before: list[tuple[float, float]] = field(default_factory=list)
 
 
 @dataclass
@@ -78,12 +80,10 @@ def drive(body: Body, road: Road, v: float, t: float, dt: float = 0.1, stop_at_e
     stops.sort()
     # A limit holds from its begin until the tail is past its end.
     spans = sorted((begin, end + body.length, limit) for begin, end, limit in road.limits)
-    slopes = sorted(road.slopes)
+    heights = _heights(road, body.length)
     x, log = 0.0, Log([t], [0.0], [v])
-    first_slope, first_span = 0, 0
+    first_span, first_time = 0, 0
     while x < road.length - 1e-6:
-        while first_slope < len(slopes) and slopes[first_slope][1] < x - body.length - 5:
-            first_slope += 1
         while first_span < len(spans) and spans[first_span][1] < x:
             first_span += 1
         goal, leave = stops[0] if stops else (float("inf"), 0.0)
@@ -97,12 +97,21 @@ def drive(body: Body, road: Road, v: float, t: float, dt: float = 0.1, stop_at_e
             elif begin > x and v > limit:
                 must = must or v * v - limit * limit >= 2 * body.brake * (begin - x - v * dt)
         must = must or v * v >= 2 * body.brake * (goal - x - v * dt)
+        while first_time < len(road.not_before) and road.not_before[first_time][0] <= x:
+            first_time += 1
+        if first_time < len(road.not_before):
+            place, moment = road.not_before[first_time]
+            if goal <= place:
+                # Braking to a stand loses v / 2c.
+                moment -= v / (2 * body.brake)
+            if moment > t:
+                allowed = min(allowed, max(2.0, (place - x) / (moment - t)))
         if must or v > allowed + 1e-9:
             a = -body.brake
         else:
-            k1 = _gain(body, slopes, first_slope, v, x)
+            k1 = _gain(body, heights, v, x)
             middle = max(0.0, v + k1 * dt / 2)
-            a = _gain(body, slopes, first_slope, middle, x + v * dt / 2)
+            a = _gain(body, heights, middle, x + v * dt / 2)
         new = v + a * dt
         if a > 0:
             new = min(new, max(allowed, v))
@@ -129,19 +138,31 @@ def drive(body: Body, road: Road, v: float, t: float, dt: float = 0.1, stop_at_e
     return log
 
 
-def _gain(body: Body, slopes: list[tuple[float, float, float]], first: int, v: float, x: float
-          ) -> float:
+def _heights(road: Road, length: float) -> tuple[list[float], int]:
+    """The height in metres at each metre of the way, from a train's length before its begin on, and
+    at which of these the way begins."""
+    before, count = int(length) + 2, int(road.length) + 60
+    rise = [0.0] * (before + count)
+    for begin, end, gradient in road.slopes:
+        for metre in range(max(-before, round(begin)), min(count, round(end))):
+            rise[metre + before] += gradient / 1000
+    heights = [0.0]
+    for one in rise:
+        heights.append(heights[-1] + one)
+    return heights, before
+
+
+def _gain(body: Body, heights: tuple[list[float], int], v: float, x: float) -> float:
     """The acceleration at full pull with the head at a place."""
-    weight = 0.0
-    part = body.length / PARTS
-    for number in range(PARTS):
-        at = x - (number + 0.5) * part
-        for begin, end, gradient in slopes[first:]:
-            if begin > at:
-                break
-            if begin <= at < end:
-                weight += gradient
-                break
+    row, before = heights
+    head = max(0.0, x + before)
+    tail = max(0.0, head - body.length)
+
+    def at(place: float) -> float:
+        whole = int(place)
+        return row[whole] + (row[whole + 1] - row[whole]) * (place - whole)
+
+    weight = body.mass * G * (at(head) - at(tail)) / body.length
     a, b, c = body.davis
-    force = body.pull(v) - a - b * v - c * v * v - body.mass * G * weight / PARTS / 1000
-    return min(body.comfort, force / (body.mass * body.inertia))
+    return min(body.comfort,
+               (body.pull(v) - a - b * v - c * v * v - weight) / (body.mass * body.inertia))

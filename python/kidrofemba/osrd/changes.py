@@ -82,6 +82,10 @@ class Change(Enum):
     CUT = ("routes cut at their signals", "each block is a route of its own")
     SHARED = ("blocks that several routes share", "each is there once")
     OUTSIDE = ("left out: what lies on other lines", "--lines names the lines that are kept")
+    CLASSES = (
+        "classes of trains",
+        "a class has no block on which it may not run or does not get on",
+    )
     UNREACHED = ("operational points to which no route leads", "an ask from or to them is refused")
     NAMED = ("operational points named anew", "asks name them; --ids keeps OSRD's ids")
     UNUSED = ("passed over", "the server has nothing like it")

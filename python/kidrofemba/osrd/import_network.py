@@ -9,6 +9,12 @@ dropped, and why; what is kept, rounded and dropped is said in docs/OSRD.md.
     kidrofemba import-network export.json network.json --report report.txt --lines 570000,571000
     kidrofemba list --network network.json --out stdout
 
+With --classes the network has the blocks of each class of trains over the same zones, which are
+numbered as in the plain network; docs/REALITY.md tells the file of classes.
+
+    kidrofemba import-network export.json network.json --report report.txt --classes classes.json \
+        --trains trains.json --running running.json --plain plain.json
+
 Where the export has a fault, each is told with its place, and nothing is written, with status 2.
 """
 from __future__ import annotations
@@ -18,7 +24,7 @@ import gc
 import json
 import sys
 from collections import Counter
-from collections.abc import Iterator, Sequence
+from collections.abc import Iterable, Iterator, Sequence
 from pathlib import Path
 
 from kidrofemba.common.companion import Refused, run_companion
@@ -84,7 +90,25 @@ def words_of_importer() -> argparse.ArgumentParser:
         action="store_true",
         help="leave out what has a fault, and tell it in the report",
     )
+    classes = parser.add_argument_group("classes of trains")
+    classes.add_argument("--classes", type=Path, metavar="CLASSES.json",
+                         help="the classes that are sold, each with blocks of its own")
+    classes.add_argument("--trains", type=Path, metavar="TRAINS.json",
+                         help="is written: the trains of the classes")
+    classes.add_argument("--running", type=Path, metavar="RUNNING.json",
+                         help="is written: what verify simulates sold paths by")
+    classes.add_argument("--plain", type=Path, metavar="PLAIN.json",
+                         help="is written: the network without classes, with the same zones")
+    classes.add_argument("--tick", type=tick_of, default=10, metavar="SECONDS",
+                         help="the tick of the base file (default 10)")
     return parser
+
+
+def tick_of(text: str) -> int:
+    """A tick in seconds."""
+    if not text.isdecimal() or not 1 <= int(text) <= 3600:
+        raise argparse.ArgumentTypeError(f"{text}: is no tick of 1 to 3600 seconds")
+    return int(text)
 
 
 def listed(text: str) -> tuple[str, ...]:
@@ -175,25 +199,54 @@ def text_of(network: Network) -> Iterator[str]:
     yield "}\n"
 
 
+def judge_words(given: argparse.Namespace) -> None:
+    """Refuses words that do not go together."""
+    wanted = {"--trains": given.trains, "--running": given.running, "--plain": given.plain}
+    for word, path in wanted.items():
+        if (path is None) == (given.classes is not None):
+            raise Refused("words", word, "goes with --classes, and --classes with it")
+    named = {"the export": given.export, "the network": given.network, "the report": given.report}
+    if given.classes is not None:
+        named |= {"the classes": given.classes, **wanted}
+    must_differ(named)
+
+
+def with_classes(given: argparse.Namespace, export: Export, maker: Maker, network: Network,
+                 progress: Progress, report: Report) -> tuple[Network, dict[Path, Iterable[str]]]:
+    """The network of the classes, and the texts of what is written beside it."""
+    from kidrofemba.reality.class_network import ClassNetwork, trains_text
+    made = ClassNetwork(export, given.export, given.classes, maker, network, given.tick, progress)
+    layers = made.layered()
+    for line in made.told(layers):
+        report.note(Change.CLASSES, line)
+    cells = sum(len(made.plain.blocks[number].cells) for _, number in layers.blocks)
+    others: dict[Path, Iterable[str]] = {
+        given.trains: trains_text(made.trains()),
+        given.running: made.running(layers.blocks).text(), given.plain: list(text_of(network))}
+    return Network(layers.lists, network.zones, cells), others
+
+
 def import_network(words: Sequence[str]) -> None:
     """Does what the words say."""
     given = words_of_importer().parse_args(words)
     choices = Choices(given.systems, given.tags, given.lines, given.ids)
-    must_differ(
-        {"the export": given.export, "the network": given.network, "the report": given.report}
-    )
+    judge_words(given)
     # What is made here has no cycles, and a collector would go through all of it again and again.
     gc.disable()
     progress, report = Progress(NAME), Report()
     export = read_export(given.export, progress)
     judge_faults(export, given.export, given.drop_faulty, report)
     judge_choices(export, given.export, choices)
-    network = Maker(export, choices, report, progress).network()
+    maker = Maker(export, choices, report, progress)
+    network = maker.network()
+    others: dict[Path, Iterable[str]] = {}
+    if given.classes is not None:
+        network, others = with_classes(given, export, maker, network, progress, report)
     text = list(text_of(network))
     judge_limits(network, given.export, sum(len(piece.encode()) for piece in text))
     counts = ", ".join(f"{len(objects)} {key}" for key, objects in network.lists.items())
     report.note(Change.MADE, f"{counts}; {network.zones} zones")
-    write_together({given.report: report.lines(), given.network: text})
+    write_together({given.report: report.lines(), given.network: text, **others})
     for line in report.summary():
         print(line)
     print(f"each of these is told in {shown_name(str(given.report))}")

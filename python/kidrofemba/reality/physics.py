@@ -9,7 +9,7 @@ from __future__ import annotations
 
 import math
 from bisect import bisect_left, bisect_right
-from collections.abc import Sequence
+from collections.abc import Callable, Sequence
 from dataclasses import dataclass
 
 GRAVITY = 9.81
@@ -17,6 +17,8 @@ STEP_M = 10.0
 """How finely a way is gone through, by itself."""
 STALLED_M_S = 1.0
 """A train that gets slower than this on its way does not get on."""
+KEPT_M_S = 2.0
+"""A driver who keeps to his times does not go slower than this."""
 CURVE = 800.0
 """A curve of R metres resists as a rise of CURVE / R per mille does."""
 
@@ -163,22 +165,31 @@ class Way:
 def run(train: Vehicle, way: Way, first: float, last: float, step: float = STEP_M) -> Running:
     """The least running time over a way, entered at a speed (at most) and left at a speed (at
     most); Stalled where it does not get on."""
-    slope = Slope(way.gradients)
     count = max(1, math.ceil(way.length / step))
     places = [way.length * at / count for at in range(count + 1)]
-    ceilings = _ceilings(train, way, places, last)
-    pace = way.length / count
+    return run_within(train, way, places, ceilings_of(train, way, places, last), first)
+
+
+def run_within(train: Vehicle, way: Way, places: Sequence[float], ceilings: Sequence[float],
+               first: float, keeps: Callable[[float, float], float] | None = None) -> Running:
+    """The run over a way by its places, below the greatest speed at each. `keeps` is the speed that
+    a driver keeps to at a place and a time since the way's begin, where he has times to keep to."""
+    slope = Slope(way.gradients)
     speeds, times = [min(first, ceilings[0])], [0.0]
-    for at in range(count):
-        speed = speeds[-1]
-        middle = way.before + places[at] + pace / 2
+    for place, after, ceiling in zip(places, places[1:], ceilings[1:]):
+        speed, pace = speeds[-1], after - place
+        middle = way.before + place + pace / 2
         gradient = slope.mean(middle - train.length_m, middle)
         reached = _after(train, speed, gradient, pace)
-        if reached < STALLED_M_S and ceilings[at + 1] >= STALLED_M_S and speed >= reached:
-            raise Stalled(places[at])
-        speeds.append(min(ceilings[at + 1], reached))
+        if reached < STALLED_M_S and ceiling >= STALLED_M_S and speed >= reached:
+            raise Stalled(place)
+        if keeps is not None:
+            kept = max(keeps(place, times[-1]), KEPT_M_S)
+            slower = math.sqrt(max(0.0, speed * speed - 2 * train.brake_m_s2 * pace))
+            reached = min(reached, max(kept, slower))
+        speeds.append(min(ceiling, reached))
         times.append(times[-1] + 2 * pace / max(1e-6, speed + speeds[-1]))
-    return Running(places, speeds, times)
+    return Running(list(places), speeds, times)
 
 
 def _after(train: Vehicle, speed: float, gradient: float, pace: float) -> float:
@@ -189,7 +200,7 @@ def _after(train: Vehicle, speed: float, gradient: float, pace: float) -> float:
     return math.sqrt(max(0.0, speed * speed + 2 * gain * pace))
 
 
-def _ceilings(train: Vehicle, way: Way, places: list[float], last: float) -> list[float]:
+def ceilings_of(train: Vehicle, way: Way, places: Sequence[float], last: float) -> list[float]:
     """The greatest speed at each place from which all limits ahead can still be kept."""
     steps = held_until_tail(way.limits, train.length_m)
     marks = [mark for mark, _ in steps]
