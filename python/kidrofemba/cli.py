@@ -98,6 +98,7 @@ COMPANIONS: dict[str, Companion] = {
     "import-plan": Companion("plan.import_plan",
                              "train and base files from rolling stocks and planned trains"),
     "door": Companion("door.door", "a server behind a socket for each client"),
+    "verified-ask": Companion("reality.verified_sale", "a path that its real train can keep"),
     "ask": Companion("door.client", "lines to a client's socket, and replies in clock times"),
     "why": Companion("why.why_not", "who stood in the way of a refused ask"),
     "graph": Companion("graph.train_graph", "a train graph, as a picture or as a page"),
@@ -107,7 +108,7 @@ COMPANIONS: dict[str, Companion] = {
 }
 GROUPS = (
     ("prepare", ("import-network", "import-plan", "list", "init")),
-    ("serve", ("door", "serve", "ask", "batch")),
+    ("serve", ("door", "serve", "ask", "verified-ask", "batch")),
     ("look into what was sold", ("verify", "why", "check", "graph", "stairs", "capacity", "export")),
     ("keep journals", ("carry", "roll-over", "mend")),
     ("try", ("demo",)),
