@@ -94,6 +94,8 @@ COMMANDS: dict[str, ProgramCommand] = {
 }
 COMPANIONS: dict[str, Companion] = {
     "import-network": Companion("osrd.import_network", "a network file from an export of OSRD"),
+    "block-speeds": Companion("reality.block_speeds",
+                              "a network file with simulated running times"),
     "verify": Companion("reality.verify", "whether the trains of sold paths stay in their claims"),
     "import-plan": Companion("plan.import_plan",
                              "train and base files from rolling stocks and planned trains"),
@@ -107,7 +109,7 @@ COMPANIONS: dict[str, Companion] = {
     "mend": Companion("journal.mend", "a damaged journal, mended"),
 }
 GROUPS = (
-    ("prepare", ("import-network", "import-plan", "list", "init")),
+    ("prepare", ("import-network", "block-speeds", "import-plan", "list", "init")),
     ("serve", ("door", "serve", "ask", "verified-ask", "batch")),
     ("look into what was sold", ("verify", "why", "check", "graph", "stairs", "capacity", "export")),
     ("keep journals", ("carry", "roll-over", "mend")),
