@@ -143,7 +143,7 @@ def main(words: list[str]) -> None:
             bare = outside_s(running, one, railway, plain, joined([*one.claims, *spans]), 0.25)
         result["outside with holds"] += bare > 0
         worst = max(worst, bare if bare < 1e8 else worst)
-        if at % 50 == 49:
+        if at % 25 == 24:
             print(at + 1, dict(result), f"worst bare {worst_bare:.1f} s, with holds {worst:.1f} s "
                   f"({time.monotonic() - begun:.0f} s)", flush=True)
     print(len(sold), dict(result), f"worst bare {worst_bare:.1f} s, with holds {worst:.1f} s")

@@ -29,7 +29,7 @@ from kidrofemba.osrd.zones import OsrdZones
 from kidrofemba.plan.needs import Need, Owner, read_plan
 from kidrofemba.plan.rolling_stock import train_of_stock
 from kidrofemba.plan.ticks import (Conflict, Span, conflicts_of, held_within, shared_by_rounding,
-                                   spans_of)
+                                   spans_of, widened)
 
 NAME = "import-plan"
 TOLD_CONFLICTS = 20
@@ -148,7 +148,8 @@ def make_base(options: argparse.Namespace) -> None:
                     plan.conflict_text(conflict))
     if conflicts and not options.keep_conflicts:
         refuse_conflicts(plan, conflicts, options)
-    spans = spans_of(plan.needs, options.tick_s, options.setting, options.horizon + options.release)
+    needs = widened(plan.owners, plan.needs, options.gap)
+    spans = spans_of(needs, options.tick_s, options.setting, options.horizon + options.release)
     tell_sharing(plan, spans, report)
     held, shared = held_within(spans, len(plan.owners))
     count = sum(map(len, held))
@@ -193,6 +194,9 @@ def options_of(words: list[str]) -> argparse.Namespace:
                       help="of requirements, ms unless given")
     base.add_argument("--keep-conflicts", action="store_true",
                       help="make the file although the plan has two trains in a zone at once")
+    base.add_argument("--gap", type=_gap, default=0, metavar="SECONDS",
+                      help="how long before and after a planned train a zone is kept free for it "
+                           "besides, 0 unless given")
     base.add_argument("--no-speed-loss", dest="speed_loss", action="store_false",
                       help="trains lose no time at changes of speed")
     for name, value, what in (("tick-s", 10, "seconds a tick"),
@@ -210,6 +214,13 @@ def _percent(text: str) -> int:
     """An allowance on running times."""
     if not text.isascii() or not text.isdigit() or int(text) > 1_000:
         raise argparse.ArgumentTypeError(f"no whole number from 0 to 1000: {text}")
+    return int(text)
+
+
+def _gap(text: str) -> int:
+    """Seconds before and after planned trains."""
+    if not text.isascii() or not text.isdigit() or int(text) > 3_600:
+        raise argparse.ArgumentTypeError(f"no whole number from 0 to 3600: {text}")
     return int(text)
 
 

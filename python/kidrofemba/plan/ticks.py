@@ -3,7 +3,7 @@ from __future__ import annotations
 
 from collections import defaultdict
 from collections.abc import Iterator, Sequence
-from dataclasses import dataclass
+from dataclasses import dataclass, replace
 from typing import Any
 
 from kidrofemba.plan.needs import Need, Owner
@@ -77,6 +77,14 @@ def _conflict_between(one: Owner, earlier: Need, other: Owner, later: Need) -> s
         differ = earlier.passage != later.passage
         return "have routes set through it in two ways" if differ else None
     return None
+
+
+def widened(owners: Sequence[Owner], needs: Sequence[list[Need]], gap_s: int) -> list[list[Need]]:
+    """The needs of trains, each longer by so many seconds before and after; works stay."""
+    gap = 1000 * gap_s
+    return [taken if owner.is_work else
+            [replace(need, begin=need.begin - gap, end=need.end + gap) for need in taken]
+            for owner, taken in zip(owners, needs)]
 
 
 def spans_of(needs: Sequence[list[Need]], tick_s: int, setting: int, end: int
