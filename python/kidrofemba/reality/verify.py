@@ -150,8 +150,8 @@ def add_driving(parser: argparse.ArgumentParser) -> None:
         help="what it takes to set a route (default 5)")
     add("--release-s", type=float, default=5.0, metavar="SECONDS",
         help="what it takes to release a zone (default 5)")
-    add("--early", type=float, default=15.0, metavar="SECONDS",
-        help="how much a driver may be before his path at the end of a block (default 15)")
+    add("--early", type=float, default=10.0, metavar="SECONDS",
+        help="how much a driver may be before his path at the end of a block (default 10)")
     add("--free", action="store_true", help="trains run as fast as they go, whatever their path")
 
 
