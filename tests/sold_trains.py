@@ -3,8 +3,8 @@ claims of its path. It shares nothing with the program's own simulation and judg
 
     PYTHONPATH=python python3 -m tests.sold_trains FOLDER COUNT SEED [--plain]
 
-FOLDER has what tests.made_reality wrote and what import-network made of it. It sells COUNT drawn asks
-by the plain model of the server, holds for each what its train wants beside its claims, as
+FOLDER has what tests.made_reality wrote and what import-network made of it. It sells COUNT drawn
+asks by the plain model of the server, holds for each what its train wants beside its claims, as
 `verified-ask` does, and tells how many trains leave their claims, with and without what was held.
 """
 from __future__ import annotations

@@ -1,5 +1,5 @@
-"""Tests of classes of trains over one set of zones: the layered network against the plain one by the
-plain model of `list`, and what each class may not run on by a look of its own at the export.
+"""Tests of classes of trains over one set of zones: the layered network against the plain one by
+the plain model of `list`, and what each class may not run on by a look of its own at the export.
 
     PYTHONPATH=python python3 -m unittest tests.test_class_layers
 """

@@ -40,8 +40,8 @@ class Body:
 @dataclass
 class Road:
     """Spans along a way in metres, which may begin below 0 (under the tail): gradients in per mille
-    with begin and end, and limits with begin and end; stops are places at which the head stands, with
-    the moment before which it does not go on."""
+    with begin and end, and limits with begin and end; stops are places at which the head stands,
+    with the moment before which it does not go on."""
 
     slopes: list[tuple[float, float, float]]
     limits: list[tuple[float, float, float]]

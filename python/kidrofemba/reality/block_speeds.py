@@ -10,8 +10,8 @@ have the losses already. Where blocks share all of their track the slowest of th
 which is told. Blocks that a class can not run on keep the time of the others, and are named: what
 must not be sold there needs classes of their own (import-network --classes).
 
-With --tail alone each limit is lengthened by so many metres behind its end, in its direction, so that
-it holds until the tail of a train is past it.
+With --tail alone each limit is lengthened by so many metres behind its end, in its direction, so
+that it holds until the tail of a train is past it.
 """
 from __future__ import annotations
 

@@ -97,7 +97,9 @@ class Simulation:
             number = waiting.pop(0)
             queued.discard(number)
             rounds += 1
-            sources = [one for one in self.plain.before[number] if one in self.kept] or [None]
+            sources: list[int | None] = [one for one in self.plain.before[number]
+                                         if one in self.kept]
+            sources = sources or [None]
             slowest = FREE
             for source in sources:
                 try:

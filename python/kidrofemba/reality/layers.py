@@ -1,10 +1,10 @@
 """Several classes of trains over one set of zones, as one network file.
 
-Each class has virtual tracks of its own for each cell of each block that it may run on. All virtual
-tracks of a zone are joined by switches which no route passes otherwise than from a track to the next
-of its block, so that they are one zone for the server: no two trains of any class have it at once.
-Zones have the numbers that they have in the plain network, lengths, releases and sights are those of
-the plain blocks, and a class's operational points are called `NAME@CLASS`.
+Each class has virtual tracks of its own for each cell of each block that it may run on. All
+virtual tracks of a zone are joined by switches which no route passes otherwise than from a track to
+the next of its block, so that they are one zone for the server: no two trains of any class have it
+at once. Zones have the numbers that they have in the plain network; lengths, releases and sights
+are those of the plain blocks, and a class's operational points are called `NAME@CLASS`.
 
 A block is a row of tracks, one a cell, with a detector at the end of each. Where several blocks end
 at one place they come together on a track of a metre, and where several begin they part behind one;

@@ -8,6 +8,7 @@ from __future__ import annotations
 from collections import defaultdict
 from collections.abc import Callable, Iterable, Mapping
 from dataclasses import dataclass, field
+from functools import partial
 from pathlib import Path
 
 from kidrofemba.common.json_spot import Spot, spot_of_file
@@ -99,6 +100,11 @@ def limits_of(export: Export, tags: tuple[str, ...], rulers: Mapping[str, Ruler]
     return found
 
 
+def _all_of(rows: list[Span], _: Stretch) -> list[Span]:
+    """The spans of a stretch's track, whatever the stretch."""
+    return rows
+
+
 def along(stretches: Iterable[Stretch], spans: Callable[[Stretch], list[Span]],
           whole: Callable[[list[float]], float]) -> list[tuple[float, float]]:
     """Lengths and values along a block: `whole` makes one value of all spans at a place."""
@@ -128,7 +134,8 @@ class ClassLine:
         for stretch in block.stretches:
             track, sign = self.data[stretch.track], 1.0 if stretch.begin <= stretch.end else -1.0
             rows = [(begin, end, sign * value) for begin, end, value in track.gradients]
-            pieces += along([stretch], lambda _, rows=rows, track=track: rows + track.curves, sum)
+            rows += track.curves
+            pieces += along([stretch], partial(_all_of, rows), sum)
         return pieces
 
     def limits(self, block: PlainBlock) -> list[tuple[float, float]]:

@@ -58,7 +58,7 @@ class Vehicle:
         return min(self.comfort_m_s2, free / (self.mass_kg * self.inertia))
 
     def balance(self, gradient: float) -> float:
-        """The greatest speed that the train keeps on an even gradient; 0 where it does not start."""
+        """The greatest speed that the train keeps on a gradient; 0 where it does not start."""
         if self.gain(0.0, gradient) <= 0:
             return 0.0
         low, high = 0.0, self.top_m_s
@@ -210,7 +210,8 @@ def ceilings_of(train: Vehicle, way: Way, places: Sequence[float], last: float) 
         low = max(0, bisect_right(marks, way.before + begin + 1e-9) - 1)
         high = max(low + 1, bisect_left(marks, way.before + end - 1e-9))
         stretches.append(min([train.top_m_s, *(limit for _, limit in steps[low:high])]))
-    ceilings = [stretches[0], *map(min, stretches, stretches[1:]), min(stretches[-1], last)]
+    ceilings = [stretches[0], *(min(pair) for pair in zip(stretches, stretches[1:])),
+                min(stretches[-1], last)]
     for number in range(len(places) - 2, -1, -1):
         pace = places[number + 1] - places[number]
         braking = math.sqrt(ceilings[number + 1] ** 2 + 2 * train.brake_m_s2 * pace)

@@ -25,16 +25,15 @@ class Running:
     gradients: list[Pieces]
     limits: dict[str, list[Pieces]]
     blocks: list[tuple[str, int]]
-    zones_behind: int = 0
 
     def text(self) -> Iterator[str]:
         """The file, a block on a line."""
         yield json.dumps({"classes": {name: asdict(body) for name, body in self.bodies.items()},
                           "allowances": self.allowances})[:-1]
-        for key, rows in (("gradients", self.gradients), ("blocks", self.blocks)):
-            yield f',\n"{key}":[\n' + ",\n".join(map(json.dumps, rows)) + "]"
-        for name, rows in self.limits.items():
-            yield f',\n{json.dumps("limits " + name)}:[\n' + ",\n".join(map(json.dumps, rows)) + "]"
+        rows: dict[str, list[Any]] = {"gradients": list(self.gradients), "blocks": list(self.blocks)}
+        rows |= {f"limits {name}": list(one) for name, one in self.limits.items()}
+        for key, row in rows.items():
+            yield f",\n{json.dumps(key)}:[\n" + ",\n".join(map(json.dumps, row)) + "]"
         yield "}\n"
 
 

@@ -8,8 +8,8 @@ the path; what does not hold does not stay sold.
 The words behind the options are a class, where the train comes from and goes to, and its windows of
 departure and arrival, in clock times or ticks; then stops on the way with their dwells in ticks.
 Names of operational points are those of the export: `@CLASS` is added. The trains of the class are
-asked for one after another, from the least allowance on: where a path's train is outside its claims,
-what is missing is held under the reason `margin NUMBER`; where another has that, the path is freed,
+asked for one after another, from the least allowance on: where a path's train is outside its
+claims, what is missing is held under the reason `margin NUMBER`; where another has that, the path is freed,
 and the next train is asked for. The status is 1 where no path stays sold.
 
 What is under way stands in a file beside --state. Where the process ends in the middle, its next
