@@ -101,6 +101,7 @@ COMPANIONS: dict[str, Companion] = {
                              "train and base files from rolling stocks and planned trains"),
     "door": Companion("door.door", "a server behind a socket for each client"),
     "verified-ask": Companion("reality.verified_sale", "a path that its real train can keep"),
+    "desk": Companion("desk.desk", "a desk in the browser, and an API, before the door"),
     "ask": Companion("door.client", "lines to a client's socket, and replies in clock times"),
     "why": Companion("why.why_not", "who stood in the way of a refused ask"),
     "graph": Companion("graph.train_graph", "a train graph, as a picture or as a page"),
@@ -110,7 +111,7 @@ COMPANIONS: dict[str, Companion] = {
 }
 GROUPS = (
     ("prepare", ("import-network", "block-speeds", "import-plan", "list", "init")),
-    ("serve", ("door", "serve", "ask", "verified-ask", "batch")),
+    ("serve", ("door", "serve", "ask", "verified-ask", "desk", "batch")),
     ("look into what was sold", ("verify", "why", "check", "graph", "stairs", "capacity", "export")),
     ("keep journals", ("carry", "roll-over", "mend")),
     ("try", ("demo",)),
