@@ -42,6 +42,7 @@ class Browser:
         os.close(commands)
         os.close(events)
         self.rest, self.count, self.session = b"", 0, ""
+        self.passed: list[dict[str, Any]] = []
         targets = self.call("Target.getTargets")["targetInfos"]
         page = next(one["targetId"] for one in targets if one["type"] == "page")
         self.session = self.call("Target.attachToTarget", targetId=page, flatten=True)["sessionId"]
@@ -75,10 +76,15 @@ class Browser:
         return json.loads(message)
 
     def _await(self, fits: Callable[[dict[str, Any]], bool]) -> dict[str, Any]:
+        for at, message in enumerate(self.passed):
+            if fits(message):
+                del self.passed[:at + 1]
+                return message
         while True:
             message = self._message()
             if fits(message):
                 return message
+            self.passed.append(message)
 
     def call(self, method: str, **parameters: Any) -> dict[str, Any]:
         """What the browser answers to a call."""
@@ -94,7 +100,22 @@ class Browser:
 
     def open(self, file: Path) -> None:
         """Opens a file, and waits until it is drawn."""
+        self.passed.clear()
         self.call("Page.navigate", url=file.resolve().as_uri())
+        self._await(lambda one: one.get("method") == "Page.loadEventFired")
+        self.settle()
+
+    def open_url(self, place: str) -> None:
+        """Opens a page of a server of this machine, and waits until it is drawn."""
+        self.passed.clear()
+        self.call("Page.navigate", url=place)
+        self._await(lambda one: one.get("method") == "Page.loadEventFired")
+        self.settle()
+
+    def follow(self, expression: str) -> None:
+        """Does what leads to another page, and waits until that is drawn."""
+        self.passed.clear()
+        self.value(f"(() => {{ {expression}; return 1; }})()")
         self._await(lambda one: one.get("method") == "Page.loadEventFired")
         self.settle()
 

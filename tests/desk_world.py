@@ -12,7 +12,7 @@ import subprocess
 import sys
 import tempfile
 from collections.abc import Iterator
-from contextlib import contextmanager
+from contextlib import ExitStack, contextmanager
 from dataclasses import dataclass, field
 from pathlib import Path
 from typing import Any
@@ -20,7 +20,9 @@ from urllib.parse import urlencode
 
 from kidrofemba.desk.openapi import OPERATIONS, schema
 from kidrofemba.desk.packages import DEBIANS, NEEDED, missing
-from tests.door_world import KIDROFEMBA, LONG_S, World, in_memory, wait_until, want
+from kidrofemba.desk.store import Store
+from kidrofemba.journal.journal_file import read_journal
+from tests.door_world import KIDROFEMBA, LONG_S, Talk, World, in_memory, wait_until, want
 
 TOP = KIDROFEMBA.parent
 WEB = "WEB"
@@ -167,6 +169,10 @@ class DeskWorld:
     port: int
     options: tuple[str, ...] = ()
     process: subprocess.Popen[bytes] | None = None
+    door: Any = None
+    case: int = 0
+    first: int = 0
+    freed: int = 0
 
     @property
     def store(self) -> Path:
@@ -185,9 +191,42 @@ class DeskWorld:
         want(done.returncode == 0, f"{options}: {done.returncode} {done.stderr}")
         return done.stdout.strip()
 
+    def in_case(self, tenant: str) -> str:
+        """A tenant's name in this case: none has the sales of another case."""
+        return f"{tenant} {self.case}"
+
     def token(self, tenant: str, role: str = "operator") -> Caller:
-        """A program of a tenant."""
-        return Caller(self.port, self.told("--token", "--tenant", tenant, "--role", role))
+        """A program of a tenant of this case."""
+        store = Store(self.store)
+        caller = Caller(self.port, store.add_token(self._tenant(store, tenant), role, "test"))
+        store.close()
+        return caller
+
+    def person(self, name: str, tenant: str, role: str) -> Caller:
+        """The browser of a new person of a tenant of this case, who has logged in."""
+        store = Store(self.store)
+        store.add_person(name, self._tenant(store, tenant), role, PASSWORD)
+        store.close()
+        return log_in(self.port, name)
+
+    def _tenant(self, store: Store, tenant: str) -> int:
+        name = self.in_case(tenant)
+        known = {told: number for number, told in store.tenant_names().items()}
+        return known[name] if name in known else store.add_tenant(name, 100, 6000)
+
+    def front(self) -> int:
+        """How many entries this case has added."""
+        return len(read_journal(self.world.journal).entries) - self.first
+
+    def clear(self) -> None:
+        """Begins a case: what stands in the journal is freed."""
+        self.case += 1
+        live = [entry.at for entry in read_journal(self.world.journal).live()]
+        with Talk(self.world.socket_of(WEB)) as talk:
+            for at in live:
+                self.freed += 1
+                talk.say(f"free {self.freed} {at}")
+        self.first = len(read_journal(self.world.journal).entries)
 
     def start(self) -> None:
         """Starts the desk, and waits until it answers."""
@@ -201,9 +240,11 @@ class DeskWorld:
         want(self.process is not None and self.process.poll() is None,
              f"the desk ended: {self.log()}")
         try:
-            return Caller(self.port).get("/login").status == 200
+            answer = Caller(self.port).get("/login")
         except OSError:
             return False
+        want(answer.status == 200, f"the desk fails: {self.log()}")
+        return True
 
     def log(self) -> str:
         return (self.world.folder / "desk.log").read_text()
@@ -239,19 +280,18 @@ def drop_example() -> None:
 
 
 @contextmanager
-def new_desk(program: Path, *options: str) -> Iterator[DeskWorld]:
+def _started(program: Path, options: tuple[str, ...]) -> Iterator[DeskWorld]:
     """A desk that answers, over an example day of its own."""
     source = example_files(program)
     with tempfile.TemporaryDirectory(dir=in_memory()) as name:
         folder = Path(name)
+        world = World(program, folder, network=folder / "network.json",
+                      trains=folder / "trains.json", base_object={})
         for file in ("network.json", "trains.json", "base.json", "journal"):
             shutil.copyfile(source / file, folder / file)
-        world = World(program, folder, network=folder / "network.json",
-                      trains=folder / "trains.json",
-                      base_object=json.loads((source / "base.json").read_text()))
-        shutil.copyfile(source / "base.json", folder / "base.json")
         desk = DeskWorld(world, free_port(), options)
-        with world.door([WEB], "--allow", f"{WEB}={WORDS}"):
+        with world.door([WEB], "--allow", f"{WEB}={WORDS}") as door:
+            desk.door = door
             try:
                 desk.start()
                 yield desk
@@ -260,7 +300,24 @@ def new_desk(program: Path, *options: str) -> Iterator[DeskWorld]:
                     desk.end()
 
 
-def add_person(desk: DeskWorld, name: str, tenant: str, role: str) -> Caller:
-    """The browser of a new person."""
-    password = desk.told("--add-person", name, "--tenant", tenant, "--role", role)
-    return log_in(desk.port, name, password)
+class Desks:
+    """Desks that cases use one after the other: one for each way in which it is started."""
+
+    def __init__(self, program: Path):
+        self.program = program
+        self._stack = ExitStack()
+        self._desks: dict[tuple[str, ...], DeskWorld] = {}
+
+    def __enter__(self) -> Desks:
+        return self
+
+    def __exit__(self, *_: object) -> None:
+        self._stack.close()
+        drop_example()
+
+    def of(self, *options: str) -> DeskWorld:
+        """A desk of these options, on which nothing of an earlier case stands."""
+        if options not in self._desks:
+            self._desks[options] = self._stack.enter_context(_started(self.program, options))
+        self._desks[options].clear()
+        return self._desks[options]

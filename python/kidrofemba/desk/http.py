@@ -92,6 +92,14 @@ def admin_role(request: web.Request) -> Who:
 
 
 async def find_who(request: web.Request) -> None:
+    """Notes who asks, and the name of the tenant."""
+    await _find_who(request)
+    who = request.get("who")
+    if isinstance(who, Who):
+        desk_of(request).names[who.tenant] = who.tenant_name
+
+
+async def _find_who(request: web.Request) -> None:
     """Notes who asks, by an API token or a session. With a session, what changes something needs
     the session's token against forged forms."""
     desk, store = desk_of(request), desk_of(request).sales.store

@@ -211,13 +211,38 @@ class Day:
     # ---- Zones
 
     def place_of_zone(self, zone: int) -> str:
-        """Where a zone lies, in words: by the nearest operational point of its tracks."""
-        tracks = {piece.track for piece in self.railway.zones[zone]}
-        near = sorted(name for name, places in self.railway.points.items()
-                      if any(place.track in tracks for place in places))
+        """Where a zone lies, in words: the operational point in it, or those between which it lies,
+        with its track and metres."""
         first = self.railway.zones[zone][0]
         place = f"{first.track[:8]} {first.begin}-{first.end} m"
-        return f"{near[0]} ({place})" if near else place
+        own = [name for name in self.points if zone in self.zones_at(name)]
+        near = own[:1] or sorted({name for blocks in self._ways for name in self._nearest(
+            zone, blocks)})[:2]
+        return f"{' – '.join(near)} ({place})" if near else place
+
+    @cached_property
+    def _ways(self) -> tuple[dict[int, list[int]], dict[int, list[int]]]:
+        """For each block those that follow it, and those that it follows."""
+        followers = self.railway.followers()
+        before: dict[int, list[int]] = {number: [] for number in followers}
+        for number, others in followers.items():
+            for other in others:
+                before[other].append(number)
+        return followers, before
+
+    def _nearest(self, zone: int, ways: dict[int, list[int]]) -> list[str]:
+        """The operational point that is fewest blocks away from a zone, one way."""
+        queue = [block.number for block in self.railway.blocks if zone in block.zones]
+        seen = set(queue)
+        for number in queue:
+            names = [name for _, name, _ in sorted(self._on_block(self.railway.blocks[number]))]
+            if names:
+                return names[:1]
+            for other in ways[number]:
+                if other not in seen:
+                    seen.add(other)
+                    queue.append(other)
+        return []
 
     def zones_at(self, point: str) -> list[int]:
         """The zones in which an operational point lies."""

@@ -1,6 +1,7 @@
 """The screens: forms and answers that work without JavaScript, in three languages."""
 from __future__ import annotations
 
+import asyncio
 import secrets
 from datetime import datetime, timedelta
 from functools import cache
@@ -11,7 +12,7 @@ import jinja2
 from aiohttp import web
 
 from kidrofemba.desk.api import (buy, close, closures_of, open_again, sale_of, sales_of)
-from kidrofemba.desk.http import (COOKIE, LANGUAGE_COOKIE, Denied, admin_role, desk_of, desk_role,
+from kidrofemba.desk.http import (COOKIE, LANGUAGE_COOKIE, LOG, Denied, admin_role, desk_of, desk_role,
                                   language_of, who_of)
 from kidrofemba.desk.sales import Refusal, number_of
 from kidrofemba.desk.state import Desk, paths_file
@@ -49,8 +50,8 @@ def _clock(text: str | None) -> str:
     return text[11:16] if text[17:19] == "00" else text[11:19]
 
 
-def page(request: web.Request, name: str, status: int = 200, headers: dict[str, str] | None = None,
-         **values: Any) -> web.Response:
+def page(request: web.Request, template: str, status: int = 200,
+         headers: dict[str, str] | None = None, **values: Any) -> web.Response:
     """A screen."""
     language, who = language_of(request), request.get("who")
 
@@ -58,7 +59,7 @@ def page(request: web.Request, name: str, status: int = 200, headers: dict[str, 
         return word(language, text, **more)
 
     day = desk_of(request).day
-    html = _templates().get_template(name).render(
+    html = _templates().get_template(template).render(
         t=told, language=language, languages=NAMES, who=who, csrf=request.get("csrf", ""),
         path=request.path, date=day.clock.zero.date().isoformat(),
         offset=day.moment(0)[19:] or "UTC", **values)
@@ -308,8 +309,8 @@ def _chip(fields: dict[str, str], one: dict[str, Any], language: str) -> dict[st
 async def get_paths(request: web.Request) -> web.StreamResponse:
     """The tenant's paths."""
     desk, who = desk_of(request), who_of(request)
-    sales = [] if who.is_desk and who.role != "desk" and not who else await sales_of(desk, who)
-    paths = [desk.path_of(one) | {"tenant": desk.names.get(one.line.tenant, "")} for one in sales]
+    paths = [desk.path_of(one) | {"tenant": desk.names.get(one.line.tenant, "")}
+             for one in await sales_of(desk, who)]
     return page(request, "paths.html", paths=paths)
 
 
@@ -335,7 +336,6 @@ def _graph_window(runs: tuple[Run, ...]) -> tuple[float, float]:
 async def _graph(request: web.Request, points: tuple[str, ...], window: tuple[float, float],
                  runs: tuple[Run, ...] = ()) -> web.Response:
     """A train graph for who asks: of others' paths it tells no names."""
-    import asyncio
     desk, who = desk_of(request), who_of(request)
     desk.sales.read_on()
     entries = [one for one in desk.sales.tail.live_entries() if _is_within(one, window)]
@@ -395,10 +395,7 @@ async def get_desk(request: web.Request) -> web.StreamResponse:
     ends = [one for one in (desk.day.point_of(query["from"])[0], desk.day.point_of(query["to"])[0])
             if one is not None]
     if len(ends) < 2:
-        links = desk.day.schematic["links"]
-        longest = max(links, key=lambda one: one["metres"], default=None)
-        ends = [desk.day.points[0], desk.day.points[-1]] if longest is None or \
-            len(desk.day.points) > 1 else []
+        ends = [desk.day.points[0], desk.day.points[-1]]
     begins = desk.day.clock.zero
     query["begin"] = query["begin"] or (begins + timedelta(hours=5)).strftime("%Y-%m-%dT%H:%M")
     query["end"] = query["end"] or (begins + timedelta(hours=10)).strftime("%Y-%m-%dT%H:%M")
@@ -564,7 +561,6 @@ async def post_person(request: web.Request) -> web.StreamResponse:
 
 def _note(who: Who, what: str) -> None:
     """Notes in the log who changed an account."""
-    from kidrofemba.desk.http import LOG
     LOG.info("%s: %s", quote(who.name), what)
 
 
