@@ -117,39 +117,35 @@ def _nullable(one: Any) -> Any:
 
 #: What each operation answers: method, path, what it does, the schema of its body, and for each
 #: status a schema, or None where there is no body.
-OPERATIONS: tuple[tuple[str, str, str, str | None, dict[int, str | None]], ...] = (
+_OPERATIONS: tuple[tuple[str, str, str, str | None, dict[int, str | None]], ...] = (
     ("post", "/v1/requests", "Buys a path, has one offered for a while, or tries", "Request",
-     {200: "Path", 201: "Path", 400: "Problem", 401: "Problem", 403: "Problem", 409: "Problem",
-      413: "Problem", 422: "Problem", 429: "Problem", 503: "Problem"}),
+     {200: "Path", 201: "Path", 409: "Problem", 422: "Problem"}),
     ("post", "/v1/why", "Tells who is in the way of a request, and what to widen", "Request",
-     {200: "Why", 401: "Problem", 422: "Problem", 503: "Problem"}),
+     {200: "Why", 422: "Problem"}),
     ("get", "/v1/requests/{id}/why", "The same of a request that was refused", None,
-     {200: "Why", 401: "Problem", 404: "Problem"}),
-    ("get", "/v1/paths", "The tenant's paths, the newest first", None,
-     {200: "Paths", 401: "Problem"}),
+     {200: "Why", 404: "Problem"}),
+    ("get", "/v1/paths", "The tenant's paths, the newest first", None, {200: "Paths"}),
     ("get", "/v1/paths/{id}", "A path by stations and clock times", None,
-     {200: "Path", 401: "Problem", 404: "Problem"}),
-    ("delete", "/v1/paths/{id}", "Gives a path back", None,
-     {204: None, 401: "Problem", 404: "Problem", 503: "Problem"}),
+     {200: "Path", 404: "Problem"}),
+    ("delete", "/v1/paths/{id}", "Gives a path back", None, {204: None, 404: "Problem"}),
     ("post", "/v1/paths/{id}/accept", "Makes an offer a sale", None,
-     {200: "Path", 401: "Problem", 404: "Problem", 409: "Problem"}),
-    ("get", "/v1/points", "Operational points like the text q", None,
-     {200: "Points", 401: "Problem"}),
-    ("get", "/v1/trains", "The trains that may be asked for", None,
-     {200: "Trains", 401: "Problem"}),
-    ("get", "/v1/network", "The network as a schematic", None, {200: "Network", 401: "Problem"}),
-    ("get", "/v1/closures", "Closures of zones (roles desk and admin)", None,
-     {200: "Closures", 401: "Problem", 403: "Problem"}),
+     {200: "Path", 404: "Problem", 409: "Problem"}),
+    ("get", "/v1/points", "Operational points like the text q", None, {200: "Points"}),
+    ("get", "/v1/trains", "The trains that may be asked for", None, {200: "Trains"}),
+    ("get", "/v1/network", "The network as a schematic", None, {200: "Network"}),
+    ("get", "/v1/closures", "Closures of zones (roles desk and admin)", None, {200: "Closures"}),
     ("post", "/v1/closures", "Closes a place for a time (roles desk and admin)", "ClosureRequest",
-     {200: "Closure", 201: "Closure", 401: "Problem", 403: "Problem", 409: "Problem",
-      422: "Problem"}),
+     {200: "Closure", 201: "Closure", 409: "Problem", 422: "Problem"}),
     ("delete", "/v1/closures/{id}", "Opens a closed place again", None,
-     {204: None, 401: "Problem", 403: "Problem", 404: "Problem"}),
-    ("get", "/v1/events", "Server-sent events: sold, freed, closed", None, {200: None,
-                                                                         401: "Problem",
-                                                                         503: "Problem"}),
+     {204: None, 404: "Problem"}),
+    ("get", "/v1/events", "Server-sent events: sold, freed, closed", None, {200: None}),
     ("get", "/healthz", "Whether the server answers", None, {200: "Health", 503: "Health"}),
 )
+#: What each call of a tenant may be told besides.
+_COMMON: dict[int, str | None] = dict.fromkeys((401, 403, 413, 429, 500, 503), "Problem")
+OPERATIONS = tuple(
+    (method, path, about, body, answers | (_COMMON if path.startswith("/v1/") else {}))
+    for method, path, about, body, answers in _OPERATIONS)
 
 
 def _operation(about: str, body: str | None, answers: dict[int, str | None], path: str
