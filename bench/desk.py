@@ -98,8 +98,9 @@ def tell(load: Load, memory_mb: float) -> None:
     """Prints what was measured."""
     for kind, times in sorted(load.times_s.items()):
         times.sort()
-        shares = ", ".join(f"p{share} {1000 * times[min(len(times) - 1, len(times) * share // 100)]:.0f} ms"
-                           for share in (50, 95, 99))
+        at = {share: times[min(len(times) - 1, len(times) * share // 100)]
+              for share in (50, 95, 99)}
+        shares = ", ".join(f"p{share} {1000 * time_s:.0f} ms" for share, time_s in at.items())
         told = {status: count for (name, status), count in sorted(load.statuses.items())
                 if name == kind}
         print(f"{kind}: {len(times)}, statuses {told}; {shares}, most {1000 * times[-1]:.0f} ms")

@@ -13,6 +13,7 @@ import os
 import random
 import signal
 import sqlite3
+import subprocess
 import sys
 import threading
 import time
@@ -107,21 +108,15 @@ class Killer:
                 return
         elif roll == "desk":
             self.desk.end(signal.SIGKILL)
-            self._drop_looks()
             self.desk.start()
         else:
             self._kill_door()
         self.kills[roll] += 1
 
-    def _drop_looks(self) -> None:
-        """A desk that is killed leaves its looks' folders behind; the temporary folder is the
-        case's own."""
-
     def _kill_door(self) -> None:
         door, world = self.desk.door, self.desk.world
         os.kill(door.process.pid, signal.SIGKILL)
         door.process.wait(LONG_S)
-        import subprocess
         with open(world.folder / "door.log", "ab") as log:
             while True:
                 process = subprocess.Popen(

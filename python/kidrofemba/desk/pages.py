@@ -11,9 +11,9 @@ from urllib.parse import quote, urlencode
 import jinja2
 from aiohttp import web
 
-from kidrofemba.desk.api import (buy, close, closures_of, open_again, sale_of, sales_of)
-from kidrofemba.desk.http import (COOKIE, LANGUAGE_COOKIE, LOG, Denied, admin_role, desk_of, desk_role,
-                                  language_of, who_of)
+from kidrofemba.desk.api import buy, close, closures_of, open_again, sale_of, sales_of
+from kidrofemba.desk.http import (COOKIE, LANGUAGE_COOKIE, LOG, Denied, admin_role, desk_of,
+                                  desk_role, language_of, who_of)
 from kidrofemba.desk.sales import Refusal, number_of
 from kidrofemba.desk.state import Desk, paths_file
 from kidrofemba.desk.store import ROLES, SESSION_S, Who

@@ -112,7 +112,17 @@ class Sales:
         return Sale(sale.line, sale.entry, True) if not is_new else sale
 
     async def _send(self, line: Line) -> Sale:
-        """Sends a line that was noted, and notes what is told."""
+        """Sends a line that was noted, and notes what is told. It may have been settled since it
+        was read: then it is not sent, as what it bought may be given back by now."""
+        now = await self.stored(self.store.line, line.number)
+        if now is not None and now.state is State.REFUSED:
+            raise _refusal_of(now.reply)
+        if now is not None and now.state is not State.OPEN:
+            return Sale(now, self._entry(now.number), True)
+        return await self._sent(line)
+
+    async def _sent(self, line: Line) -> Sale:
+        """Sends an open line, and notes what is told."""
         try:
             reply = await self.door.send(line.line)
         except NoReply as why:
@@ -120,7 +130,8 @@ class Sales:
         word = reply.split(" ", 1)[0]
         if word in _REFUSALS:
             if word not in _PASSING:
-                await self.stored(self.store.end, line.number, State.REFUSED, reply)
+                state = State.FREED if word == "gone" else State.REFUSED
+                await self.stored(self.store.end, line.number, state, reply)
             raise _refusal_of(reply)
         if word not in ("granted", "held", "kept"):
             raise Refusal(503, "no_reply", reply)

@@ -206,7 +206,8 @@ class Desk:
         else:
             what, told = ("closed" if entry.train is None else "sold"), entry
         tenant = told.number // PER_TENANT if told.owner == self.sales.owner else 0
-        event = {"what": what, "id": id_of(told.number) if tenant else f"{told.owner} {told.number}",
+        name = id_of(told.number) if tenant else f"{told.owner} {told.number}"
+        event = {"what": what, "id": name,
                  "tenant": self.names.get(tenant, told.owner), "front": entry.at + 1}
         if told.train is not None and told.runs:
             event |= {"train": told.train.name,

@@ -28,10 +28,12 @@ _SCRYPT = {"n": 2 ** 15, "r": 8, "p": 1, "maxmem": 2 ** 26}
 _SCHEMA = """
 CREATE TABLE IF NOT EXISTS tenants (id INTEGER PRIMARY KEY, name TEXT NOT NULL UNIQUE,
     quota INTEGER NOT NULL, rate INTEGER NOT NULL);
-CREATE TABLE IF NOT EXISTS people (name TEXT PRIMARY KEY, tenant INTEGER NOT NULL REFERENCES tenants,
-    role TEXT NOT NULL, salt BLOB NOT NULL, digest BLOB NOT NULL);
-CREATE TABLE IF NOT EXISTS tokens (id INTEGER PRIMARY KEY, tenant INTEGER NOT NULL REFERENCES tenants,
-    role TEXT NOT NULL, label TEXT NOT NULL, digest BLOB NOT NULL UNIQUE, made REAL NOT NULL);
+CREATE TABLE IF NOT EXISTS people (name TEXT PRIMARY KEY,
+    tenant INTEGER NOT NULL REFERENCES tenants, role TEXT NOT NULL, salt BLOB NOT NULL,
+    digest BLOB NOT NULL);
+CREATE TABLE IF NOT EXISTS tokens (id INTEGER PRIMARY KEY,
+    tenant INTEGER NOT NULL REFERENCES tenants, role TEXT NOT NULL, label TEXT NOT NULL,
+    digest BLOB NOT NULL UNIQUE, made REAL NOT NULL);
 CREATE TABLE IF NOT EXISTS sessions (digest BLOB PRIMARY KEY, person TEXT NOT NULL,
     csrf TEXT NOT NULL, ends REAL NOT NULL);
 CREATE TABLE IF NOT EXISTS counters (tenant INTEGER PRIMARY KEY, last INTEGER NOT NULL);
@@ -100,6 +102,10 @@ def scrypt(password: str, salt: bytes) -> bytes:
                           p=_SCRYPT["p"], maxmem=_SCRYPT["maxmem"])
 
 
+def _line_of(row: dict[str, Any]) -> Line:
+    return Line(**(row | {"state": State(row["state"])}))
+
+
 class Store:
     """The store in a file, or in memory (`:memory:`)."""
 
@@ -129,7 +135,8 @@ class Store:
         if number > MOST_TENANTS:
             raise ValueError("tenants")
         try:
-            self.rows.execute("INSERT INTO tenants VALUES (?, ?, ?, ?)", (number, name, quota, rate))
+            self.rows.execute("INSERT INTO tenants VALUES (?, ?, ?, ?)",
+                              (number, name, quota, rate))
         except sqlite3.IntegrityError:
             raise ValueError("taken") from None
         return number
@@ -224,8 +231,8 @@ class Store:
         """A number of a tenant that was not used before."""
         self.rows.execute("INSERT INTO counters VALUES (?, 1) ON CONFLICT (tenant)"
                           " DO UPDATE SET last=last+1", (tenant,))
-        last = self.rows.execute("SELECT last FROM counters WHERE tenant=?", (tenant,)).fetchone()[0]
-        return tenant * PER_TENANT + int(last)
+        row = self.rows.execute("SELECT last FROM counters WHERE tenant=?", (tenant,)).fetchone()
+        return tenant * PER_TENANT + int(row[0])
 
     def begin(self, tenant: int, key: str | None, digest: str, body: str, rest: tuple[str, str],
               mode: str, expires: float | None = None, batch: int | None = None,
@@ -286,7 +293,7 @@ class Store:
 
     def _lines(self, where: str, values: tuple[Any, ...] = ()) -> list[Line]:
         told = self.rows.execute(f"SELECT * FROM lines WHERE {where}", values)
-        return [Line(**{**dict(row), "state": State(row["state"])}) for row in told]
+        return [_line_of(dict(row)) for row in told]
 
     def line(self, number: int) -> Line | None:
         """The line of a number."""
