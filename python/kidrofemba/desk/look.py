@@ -7,6 +7,7 @@ kept until the journal has grown. What a look is granted is freed again in the c
 from __future__ import annotations
 
 import asyncio
+import os
 import shutil
 import tempfile
 import time
@@ -17,6 +18,7 @@ from kidrofemba.desk.network import Files
 from kidrofemba.journal.journal_file import Run, runs_of_words
 
 _CLIENT = "look"
+_FOLDER = "kidrofemba-look."
 _MAX_REPLY_BYTES = 2 ** 24
 _LONGEST_S = 60.0
 #: A server takes 100,000 lines of a client.
@@ -49,7 +51,8 @@ class _Copy:
 
     async def start(self) -> None:
         """Copies the journal, and starts the server over it."""
-        await asyncio.to_thread(shutil.copyfile, self.files.journal, self.folder / "journal")
+        await asyncio.to_thread(lambda: shutil.copyfile(self.files.journal,
+                                                        self.folder / "journal"))
         words = ["serve", "--network", str(self.files.network), "--trains", str(self.files.trains),
                  "--base", str(self.files.base), "--journal", str(self.folder / "journal"),
                  "--client", f"{_CLIENT}=stdin:stdout", "--proof",
@@ -80,6 +83,14 @@ class _Copy:
         shutil.rmtree(self.folder, ignore_errors=True)
 
 
+def _drop_left_behind() -> None:
+    """Removes the copies of desks that are gone."""
+    for folder in Path(tempfile.gettempdir()).glob(f"{_FOLDER}*"):
+        process = folder.name.removeprefix(_FOLDER).split(".")[0]
+        if process.isdecimal() and not Path("/proc", process).exists():
+            shutil.rmtree(folder, ignore_errors=True)
+
+
 class Looks:
     """The looks of all tenants, one after the other."""
 
@@ -89,6 +100,7 @@ class Looks:
         self._lock = asyncio.Lock()
         self._number = 0
         self.copies = 0
+        _drop_left_behind()
 
     async def ask(self, fields: list[str], front: int, seen: int) -> list[Seen]:
         """What each of these asks would get beside what stands: the fields behind the number.
@@ -113,7 +125,7 @@ class Looks:
                 and (copy.front >= front or time.monotonic() - copy.made < self.keep_s):
             return copy
         await self.end()
-        folder = Path(tempfile.mkdtemp(prefix="kidrofemba-look."))
+        folder = Path(tempfile.mkdtemp(prefix=f"{_FOLDER}{os.getpid()}."))
         self._copy = copy = _Copy(self.files, folder, front)
         await copy.start()
         self.copies += 1

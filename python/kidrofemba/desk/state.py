@@ -15,7 +15,7 @@ from kidrofemba.desk.network import Day
 from kidrofemba.desk.sales import Sale, Sales, id_of
 from kidrofemba.desk.store import PER_TENANT, State, Who
 from kidrofemba.desk.wanted import Wanted
-from kidrofemba.desk.why import Found, found_in
+from kidrofemba.desk.why import Found, end_with_parent, found_in
 from kidrofemba.journal.journal_file import Entry, Run
 
 _MOST_BUCKETS = 20_000
@@ -74,7 +74,7 @@ class Desk:
         self.listeners: set[Listener] = set()
         self.counts: Counter[tuple[str, str]] = Counter()
         self.times_s: defaultdict[str, float] = defaultdict(float)
-        self.pool = ProcessPoolExecutor(1)
+        self.pool = ProcessPoolExecutor(1, initializer=end_with_parent)
         self.names: dict[int, str] = {}
         self.pool_lock = asyncio.Semaphore(8)
         sales.on_entry = self.tell  # type: ignore[method-assign]

@@ -103,7 +103,8 @@ def scrypt(password: str, salt: bytes) -> bytes:
 
 
 def _line_of(row: dict[str, Any]) -> Line:
-    return Line(**(row | {"state": State(row["state"])}))
+    told: dict[str, Any] = row | {"state": State(row["state"])}
+    return Line(**told)
 
 
 class Store:

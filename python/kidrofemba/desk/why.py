@@ -4,6 +4,8 @@ The work is long beside a request, so it is done in a process of its own, over t
 """
 from __future__ import annotations
 
+import ctypes
+import signal
 from dataclasses import dataclass
 from functools import lru_cache
 from typing import Any
@@ -15,6 +17,8 @@ from kidrofemba.why.members import Line, bits_of, read_proofs
 from kidrofemba.why.walls import Holder, Walls, Ways
 
 MOST_WALLS = 8
+#: Linux's PR_SET_PDEATHSIG.
+_DEATH_SIGNAL = 1
 
 
 @dataclass(frozen=True)
@@ -28,6 +32,11 @@ class Found:
     begin: int
     end: int
     is_vain: bool
+
+
+def end_with_parent() -> None:
+    """Has this process killed where the desk that started it is gone, however that ended."""
+    ctypes.CDLL(None).prctl(_DEATH_SIGNAL, signal.SIGKILL)
 
 
 @lru_cache(maxsize=1)
