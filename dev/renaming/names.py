@@ -109,6 +109,11 @@ class Names:
     def __init__(self, repository: Repository) -> None:
         self.repository = repository
         self.known_sources: dict[tuple[str, Path_], dict[str, Node]] = {}
+        self.known_own: dict[tuple[str, Path_], dict[str, Node]] = {}
+        self.known_leaves: dict[tuple[str, Path_], dict[str, Leaf]] = {}
+        self.known_names: dict[tuple[str, Path_, str], Node | None] = {}
+        #: What is being looked up: imports may lead back to it.
+        self.open_names: set[tuple[str, Path_, str]] = set()
         self.known_members: dict[tuple[Node, str], Node | None] = {}
         self.known_roots: dict[tuple[str, str], dict[str, Node]] = {}
 
@@ -118,17 +123,42 @@ class Names:
         """What each name of a source stands for: what it imports and what it defines."""
         key = (crate.name, source.module)
         if key not in self.known_sources:
-            found: dict[str, Node] = {}
-            self.known_sources[key] = found
-            found.update(source.items)
-            for module in crate.sources:
-                if module and module[:-1] == source.module:
-                    found.setdefault(module[-1], Node("module", crate.name, module))
-            for leaf in source_leaves(source.code):
-                node = self.source_path(crate, source, leaf.segments)[-1]
-                if node is not None:
-                    found[leaf.brought] = node
+            names = [*self.own_names(crate, source), *self.brought(crate, source)]
+            found = {name: self.look_up(crate, source, name) for name in names}
+            self.known_sources[key] = {name: it for name, it in found.items() if it}
         return self.known_sources[key]
+
+    def own_names(self, crate: Crate, source: Source) -> dict[str, Node]:
+        """The items and the modules that a source declares."""
+        key = (crate.name, source.module)
+        if key not in self.known_own:
+            modules = {it[-1]: Node("module", crate.name, it) for it in crate.sources
+                       if it and it[:-1] == source.module}
+            self.known_own[key] = {**modules, **source.items}
+        return self.known_own[key]
+
+    def brought(self, crate: Crate, source: Source) -> dict[str, Leaf]:
+        """What a source imports, by the names that it brings."""
+        key = (crate.name, source.module)
+        if key not in self.known_leaves:
+            self.known_leaves[key] = {it.brought: it for it in source_leaves(source.code)}
+        return self.known_leaves[key]
+
+    def look_up(self, crate: Crate, source: Source, name: str) -> Node | None:
+        """What a name of a source stands for."""
+        key = (crate.name, source.module, name)
+        if key in self.known_names:
+            return self.known_names[key]
+        if key in self.open_names:
+            return None
+        self.open_names.add(key)
+        leaf = self.brought(crate, source).get(name)
+        node = self.source_path(crate, source, leaf.segments)[-1] if leaf else None
+        self.open_names.remove(key)
+        found = node or self.own_names(crate, source).get(name)
+        if found or not self.open_names:
+            self.known_names[key] = found
+        return found
 
     def source_path(self, crate: Crate, source: Source,
                     segments: tuple[Segment, ...]) -> list[Node | None]:
@@ -148,7 +178,7 @@ class Names:
         if name in ("self", "super"):
             return Node("module", crate.name, source.module[:-1] if name == "super"
                         else source.module) if here else None
-        found = self.source_names(crate, source).get(name)
+        found = self.look_up(crate, source, name)
         if found is None and name in self.repository.crates:
             return Node("module", name)
         return found
@@ -162,7 +192,7 @@ class Names:
         if node.kind == "module":
             owner = self.repository.crates[node.crate]
             inner = owner.sources.get(node.path)
-            return self.source_names(owner, inner).get(name) if inner else None
+            return self.look_up(owner, inner, name) if inner else None
         if node.kind == "type":
             return self.member(node, name)
         return None
@@ -180,7 +210,7 @@ class Names:
             kind = source.members.get(node.name, {}).get(name) if (
                 source.module == node.path[:-1] or node.name not in source.items) else None
             if kind and (source.module == node.path[:-1]
-                         or self.source_names(crate, source).get(node.name) == node):
+                         or self.look_up(crate, source, node.name) == node):
                 return Node(kind, node.crate, (*node.path, name))
         return None
 
@@ -301,7 +331,7 @@ class Names:
         name = node.name
         owner = max((it for it in source.members if name.startswith(it)
                      and name[len(it):][:1].isupper()), key=len)
-        return self.source_names(crate, source).get(owner), owner, name[len(owner):]
+        return self.look_up(crate, source, owner), owner, name[len(owner):]
 
     def meant(self, node: Node | None) -> Node | None:
         """What a map renames where a path leads to this node; itself for most."""

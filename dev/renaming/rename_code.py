@@ -195,6 +195,9 @@ class CodeRenamer:
         for segment, node in zip(segments, nodes):
             if segment.begin in seen:
                 continue
+            if segment.name in ("crate", "self", "super"):
+                seen.add(segment.begin)
+                continue
             new = self.new_of(node, context)
             if new:
                 found[segment.begin, segment.end] = new
@@ -420,9 +423,12 @@ class CodeRenamer:
     # Files.
 
     def new_path(self, path: str) -> str:
-        """The path of a file below `crates/` by the new names."""
+        """The path of a file by the new names. Beside crates/ folders may be called like crates."""
         parts = path.split("/")
-        if len(parts) < 4 or parts[0] != "crates" or parts[1] not in self.repository.crates:
+        if parts[0] != "crates":
+            entries = [self.targets.by_node.get(Node("crate", it)) for it in parts]
+            return "/".join(entry.new if entry else it for it, entry in zip(parts, entries))
+        if len(parts) < 4 or parts[1] not in self.repository.crates:
             return path
         crate = self.repository.crates[parts[1]]
         entry = self.targets.by_node.get(Node("crate", crate.name))

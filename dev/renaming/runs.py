@@ -10,7 +10,7 @@ from dataclasses import dataclass, field
 from pathlib import Path
 
 from renaming.aliases import AliasRemover
-from renaming.index import Node, Repository
+from renaming.index import Crate, Node, Repository, Source
 from renaming.maps import Entry, Kind
 from renaming.names import Names
 from renaming.rename_code import CodeRenamer, Context
@@ -160,12 +160,24 @@ class Run:
                 nodes = [*source.items.values()] + [
                     Node("module", crate.name, it) for it in crate.sources
                     if it and it[:-1] == source.module]
-                yield from self.alike(nodes, f"{crate.name}::{'::'.join(source.module)}")
+                where = f"{crate.name}::{'::'.join(source.module)}"
+                yield from self.alike(nodes, where)
+                yield from self.imported(crate, source, where)
             for kind, specs in (("spec", crate.specs), ("lemmas", crate.lemmas)):
                 yield from self.alike([Node(kind, crate.name, it) for it in specs if len(it) == 1],
                                       f"{crate.name} {kind}")
                 for spec in specs.values():
                     yield from self.alike([*spec.items.values()], self.code.relative(spec), True)
+
+    def imported(self, crate: Crate, source: Source, where: str) -> Iterator[str]:
+        """What a source imports or defines under one new name."""
+        seen: dict[str, Node] = {}
+        for name, node in self.names.source_names(crate, source).items():
+            entry = self.code.entry_of(node) or self.code.word_entry(node)
+            new = entry.new_word if entry and node.name == name else name
+            if new in seen and seen[new] != node:
+                yield f"{where}: {node} and {seen[new]} would both be called {new}"
+            seen[new] = node
 
     def alike(self, nodes: list[Node], where: str, by_case: bool = False) -> Iterator[str]:
         seen: dict[str, tuple[Node, str]] = {}
@@ -210,7 +222,8 @@ class Run:
                 raise FileExistsError(f"{path}: {new} is there already")
             target.parent.mkdir(parents=True, exist_ok=True)
             target.write_bytes(held[path])
-        for folder in sorted((it for it in (root / "crates").rglob("*") if it.is_dir()),
+        folders = {parent for path in self.moves for parent in (root / path).parents}
+        for folder in sorted((it for it in folders if it.is_dir() and it != root),
                              key=lambda it: -len(it.parts)):
             if not any(folder.iterdir()):
                 folder.rmdir()
