@@ -11,6 +11,7 @@ from pathlib import Path
 
 from renaming.aliases import AliasRemover
 from renaming.index import Crate, Node, Repository, Source
+from renaming.layout import broken
 from renaming.maps import Entry, Kind
 from renaming.names import Names
 from renaming.rename_code import CodeRenamer, Context
@@ -72,6 +73,10 @@ class Run:
     def keep(self, path: str, text: str, new: str) -> None:
         """Keeps what a file is to say, and where it is to stand."""
         new = replaced_texts(self.targets, path, new)
+        suffix = Path(path).suffix
+        if new != text and path.startswith("crates/") and (
+                suffix == ".rt" or suffix == ".antt" and "/specs/" in path):
+            new = broken(new, suffix)
         moved = self.code.new_path(path)
         if moved != path:
             self.moves[path] = moved
