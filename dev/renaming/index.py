@@ -8,7 +8,7 @@ from dataclasses import dataclass, field
 from functools import cached_property
 from pathlib import Path
 
-from renaming.texts import NAME, blanked
+from dev.renaming.texts import NAME, blanked
 
 ROW = re.compile(r"(?P<name>\w+)(?P<words>(?: [\w=]+)*)\s*:(?P<libraries>[\w\s,]*)")
 ITEM = re.compile(r"^(?:pub(?:\([^)]*\))? )?(?:final )?(?:const )?(?:unsafe )?"
@@ -21,8 +21,8 @@ VARIANT = re.compile(r"^    (?P<name>[A-Z]\w*)", re.M)
 VARIANT_FIELD = re.compile(r"(?:^        |[{,] ?)(?P<name>[a-z_]\w*):", re.M)
 IMPL = re.compile(r"^impl\b", re.M)
 DEFINED = re.compile(r"^(?P<indent> *)(?P<words>(?:(?:pub|abbrev|unfoldable|opaque|data|record|"
-                     r"ruleset|axiom|module)\s+)*)(?P<name>[A-Za-z_][\w'+-]*)(?P<behind>\s*[:({=]|)",
-                     re.M)
+                     r"ruleset|axiom|module)\s+)*)(?P<name>[A-Za-z_][\w'+-]*)"
+                     r"(?P<behind>\s*[:({=]|)", re.M)
 #: What binds a variable, in sources and in specs and proofs.
 RUST_BINDERS = (re.compile(r"\blet\s+(?:mut\s+)?(\w+)"), re.compile(r"\b([a-z_]\w*)\s*:(?!:)"),
                 re.compile(r"\|([^|\n]*)\|"), re.compile(r"\bfor\s+(\w+)\s+in"),
@@ -129,7 +129,7 @@ def implemented(code: str, begin: int) -> str:
     words = "".join(plain).split(" where ")[0]
     _, for_, behind = words.partition(" for ")
     names = re.findall(r"[A-Za-z_]\w*", behind if for_ else words)
-    return names[-1] if names else ""
+    return str(names[-1]) if names else ""
 
 
 def bound(code: str, binders: tuple[re.Pattern[str], ...]) -> frozenset[str]:

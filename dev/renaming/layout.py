@@ -16,8 +16,8 @@ def broken(text: str, suffix: str) -> str:
     """The text of a source, or of specs or proofs, with its wide lines broken.
 
     Lists of imports get a name a line, comments are filled anew from the wide line to the end of
-    their paragraph, and other wide lines of clauses and specs are broken at a space. Code that is no
-    clause is left to `rt fmt`.
+    their paragraph, and other wide lines of clauses and specs are broken at a space. Code that is
+    no clause is left to `rt fmt`.
     """
     lines, found, at = text.split("\n"), [], 0
     is_source = suffix == ".rt"

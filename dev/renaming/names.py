@@ -5,8 +5,8 @@ import re
 from collections.abc import Iterator
 from dataclasses import dataclass
 
-from renaming.index import Crate, Node, Path_, Repository, Source, Spec, block_of
-from renaming.texts import NAME
+from dev.renaming.index import Crate, Node, Path_, Repository, Source, Spec, block_of
+from dev.renaming.texts import NAME
 
 USE = re.compile(r"(?<!ghost )\b(?P<pub>pub(?:\([^)]*\))? )?use (?P<tree>[^;]+);")
 SPEC_USE = re.compile(r"(?P<pub>\bpub\s+)?(?:ghost\s+)?\buse\s+(?P<path>Rattle(?:\.[\w'«»+-]+)+)"

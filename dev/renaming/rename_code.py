@@ -5,12 +5,12 @@ import re
 from collections import Counter, defaultdict
 from dataclasses import dataclass, field
 
-from renaming.index import (IMPL, ITEM, Crate, Node, Repository, Source, Spec,
+from dev.renaming.index import (IMPL, ITEM, Crate, Node, Repository, Source, Spec,
                             block_of, implemented)
-from renaming.maps import Entry, Kind
-from renaming.names import Names, Segment, clauses, source_leaves, spec_uses, whole_names
-from renaming.targets import Targets
-from renaming.texts import CITED, JOINTS, WORD, Edit, Region, blanked, stretches
+from dev.renaming.maps import Entry, Kind
+from dev.renaming.names import Names, Segment, clauses, source_leaves, spec_uses, whole_names
+from dev.renaming.targets import Targets
+from dev.renaming.texts import CITED, JOINTS, WORD, Edit, Region, blanked, stretches
 
 INLINE = re.compile(r"[A-Za-z_]\w*(?:::(?:<[^<>()]*>::)?[A-Za-z_]\w*)+")
 #: What follows the name of a call in a proof.
@@ -104,8 +104,9 @@ class CodeRenamer:
         traits = [it for it in self.repository.definers.get(trait, ()) if it.kind == "type"]
         trait_entry = next((self.targets.by_node[it] for it in traits
                             if it in self.targets.by_node), None)
-        new = (entry.new_word if entry else owner) + (trait_entry.new_word if trait_entry else trait)
-        return new if new != node.name else None
+        names = [entry.new_word if entry else owner,
+                 trait_entry.new_word if trait_entry else trait]
+        return "".join(names) if names != [owner, trait] else None
 
     def new_of(self, node: Node | None, context: Context) -> str | None:
         """The new name of what a name stands for, counted; None where it keeps its own."""
@@ -129,8 +130,9 @@ class CodeRenamer:
         crate = self.repository.crates.get(node.crate)
         for end in range(len(node.path) - 1, -1, -1) if crate else ():
             assert crate is not None
-            files = (crate.sources, crate.specs, crate.lemmas)
-            found = next((it[node.path[:end]] for it in files if node.path[:end] in it), None)
+            module = node.path[:end]
+            found: Source | Spec | None = (crate.sources.get(module) or crate.specs.get(module)
+                                           or crate.lemmas.get(module))
             if found:
                 return self.relative(found)
         return None
@@ -284,49 +286,37 @@ class CodeRenamer:
     def plain(self, code: str, segment: Segment, in_clause: bool, context: Context,
               found: dict[tuple[int, int], str], seen: set[int]) -> None:
         """A name that no path led to."""
-        before = code[segment.begin - 1:segment.begin]
-        if before == "." or code[segment.begin - 2:segment.begin] == "::":
-            self.derived(code, segment, context, found)
-            return
-        names = context.spec_names if in_clause else context.code_names
-        node = names.get(segment.name)
-        if context.source and code[segment.begin - 5:segment.begin] == "\n    ":
-            variant = self.variant_at(code, segment, context)
-            if variant:
-                new = self.new_of(variant, context)
-                if new:
-                    found[segment.begin, segment.end] = new
-                return
-        if context.source and METHOD_HEAD.search(code[max(0, segment.begin - 60):segment.begin]):
-            node = self.method_at(code, segment, context)
-            new = self.new_of(node, context) if node else None
-            if new:
-                found[segment.begin, segment.end] = new
-            else:
-                self.derived(code, segment, context, found)
-            return
-        if code[max(0, segment.begin - 4):segment.begin] == "mod " and context.source:
-            node = names.get(segment.name) or Node(
-                "module", context.crate.name, (*context.source.module, segment.name))
-        if code[max(0, segment.begin - 8):segment.begin] == "pub mod " and not context.source:
-            kind = "spec" if "/specs/" in context.path else "lemmas"
-            node = Node(kind, context.crate.name, (segment.name,))
-        if node is None:
-            self.derived(code, segment, context, found)
-            return
-        if in_clause and node.kind in MODULE_LIKE:
+        node = self.meant_by(code, segment, in_clause, context)
+        if node and in_clause and node.kind in MODULE_LIKE:
             self.chained(code, segment, node, context, found, seen)
-        if node.kind == "function" and not self.is_call(code, segment, context):
-            self.derived(code, segment, context, found)
-            return
-        if node.name != segment.name:
-            self.derived(code, segment, context, found)
-            return
-        new = self.new_of(node, context)
+        # Else it is a variable, a member or a step; or the name that the file gives an import.
+        is_named = node is not None and node.name == segment.name and (
+            node.kind != "function" or self.is_call(code, segment, context))
+        new = self.new_of(node, context) if is_named else None
         if new:
             found[segment.begin, segment.end] = new
-        elif node.kind in MEMBERS:
+        elif node is None or not is_named or node.kind in MEMBERS:
             self.derived(code, segment, context, found)
+
+    def meant_by(self, code: str, segment: Segment, in_clause: bool,
+                 context: Context) -> Node | None:
+        """What a name that no path led to stands for; None for variables and members."""
+        begin, source = segment.begin, context.source
+        if code[begin - 1:begin] == "." or code[begin - 2:begin] == "::":
+            return None
+        if source and code[begin - 5:begin] == "\n    ":
+            variant = self.variant_at(code, segment, context)
+            if variant:
+                return variant
+        if source and METHOD_HEAD.search(code[max(0, begin - 60):begin]):
+            return self.method_at(code, segment, context)
+        if not source and code[max(0, begin - 8):begin] == "pub mod ":
+            kind = "spec" if "/specs/" in context.path else "lemmas"
+            return Node(kind, context.crate.name, (segment.name,))
+        node = (context.spec_names if in_clause else context.code_names).get(segment.name)
+        if source and node is None and code[max(0, begin - 4):begin] == "mod ":
+            return Node("module", context.crate.name, (*source.module, segment.name))
+        return node
 
     def chained(self, code: str, segment: Segment, node: Node, context: Context,
                 found: dict[tuple[int, int], str], seen: set[int]) -> None:

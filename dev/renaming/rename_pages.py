@@ -5,11 +5,11 @@ import re
 from dataclasses import dataclass, field
 from pathlib import Path
 
-from renaming.index import Node, Repository
-from renaming.maps import Entry, Kind
-from renaming.rename_code import CodeRenamer
-from renaming.targets import Targets
-from renaming.texts import CITED, WORD, Edit, line_of
+from dev.renaming.index import Node, Repository
+from dev.renaming.maps import Entry, Kind
+from dev.renaming.rename_code import CodeRenamer
+from dev.renaming.targets import Targets
+from dev.renaming.texts import CITED, WORD, Edit, line_of
 
 FILE = re.compile(r"(?:crates/(?P<crate>\w+)/)?(?P<part>src|specs|proofs|must-fail)/"
                   r"(?P<path>[\w/+-]+)\.(?P<suffix>rt|antt|md|edit)")

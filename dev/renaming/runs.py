@@ -9,15 +9,15 @@ from collections.abc import Iterator
 from dataclasses import dataclass, field
 from pathlib import Path
 
-from renaming.aliases import AliasRemover
-from renaming.index import Crate, Node, Repository, Source
-from renaming.layout import broken
-from renaming.maps import Entry, Kind
-from renaming.names import Names
-from renaming.rename_code import CodeRenamer, Context
-from renaming.rename_pages import PLAIN_SUFFIXES, PageRenamer, replaced_texts
-from renaming.targets import Targets
-from renaming.texts import Edit, edited
+from dev.renaming.aliases import AliasRemover
+from dev.renaming.index import Crate, Node, Repository, Source
+from dev.renaming.layout import broken
+from dev.renaming.maps import Entry, Kind
+from dev.renaming.names import Names
+from dev.renaming.rename_code import CodeRenamer, Context
+from dev.renaming.rename_pages import PLAIN_SUFFIXES, PageRenamer, replaced_texts
+from dev.renaming.targets import Targets
+from dev.renaming.texts import Edit, edited
 
 DOUBLED = re.compile(r"\b([A-Za-z_][\w']*) as \1(?![\w'])")
 PLANTED = re.compile(r"^(old|new): (.*)$", re.M)
@@ -95,7 +95,9 @@ class Run:
             new_path = self.code.new_path(whole).split("/", 2)[2]
             if new_path != target[1]:
                 edits.append(Edit(target.start(1), target.end(1), new_path))
-            for match in PLANTED.finditer(text) if context else ():
+            for match in PLANTED.finditer(text):
+                if context is None:
+                    break
                 context.path = relative
                 edits += [Edit(match.start(2) + it.begin, match.start(2) + it.end, it.new)
                           for it in self.code.edits(match[2], context)]

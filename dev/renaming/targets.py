@@ -9,8 +9,8 @@ from fnmatch import fnmatch
 from functools import cached_property
 from pathlib import Path
 
-from renaming.index import Crate, Node, Repository
-from renaming.maps import ITEMS, Entry, Kind
+from dev.renaming.index import Crate, Node, Repository
+from dev.renaming.maps import ITEMS, Entry, Kind
 
 DEFINES = re.compile(r"\b(?:fn|struct|enum|trait|type|const|record|data) (\w+)"
                      r"|^\s*(?:pub|abbrev|unfoldable) [a-z ]*?([A-Za-z_][\w'-]*) :"
