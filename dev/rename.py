@@ -23,7 +23,9 @@ clashes; each clash is told. A second run changes nothing.
     dev/rename dev/renames.map --check
     dev/rename dev/renames.map --aliases
 
-`rt fmt` in each crate lays the code out anew.
+`rt fmt` in each crate lays the code out anew. `--imports` looks whether each import leads somewhere.
+
+    dev/rename --imports
 """
 from __future__ import annotations
 
@@ -32,6 +34,7 @@ import subprocess
 import sys
 from pathlib import Path
 
+from dev.renaming.imports import lost_imports
 from dev.renaming.index import Repository
 from dev.renaming.maps import MapFault, read_map
 from dev.renaming.runs import Run
@@ -52,7 +55,9 @@ def kit_folder() -> Path | None:
 def arguments(words: list[str]) -> argparse.Namespace:
     parser = argparse.ArgumentParser(prog="rename", description=__doc__,
                                      formatter_class=argparse.RawDescriptionHelpFormatter)
-    parser.add_argument("map", type=Path, help="the file of entries")
+    parser.add_argument("map", type=Path, nargs="?", help="the file of entries")
+    parser.add_argument("--imports", action="store_true",
+                        help="tell the imports of own crates that lead nowhere, and do nothing else")
     parser.add_argument("--root", type=Path, default=TOP, help="the repository")
     parser.add_argument("--check", action="store_true", help="write nothing, and tell the counts")
     parser.add_argument("--force", action="store_true", help="write in spite of clashes")
@@ -81,6 +86,13 @@ def tell(run: Run, is_verbose: bool) -> None:
 
 def main(words: list[str]) -> int:
     options = arguments(words)
+    if options.imports:
+        lost = [*lost_imports(Repository(options.root.resolve()))]
+        print("\n".join([*lost, f"{len(lost)} imports lead nowhere"]))
+        return 1 if lost else 0
+    if options.map is None:
+        print("rename: no map is given", file=sys.stderr)
+        return 2
     try:
         entries = read_map(options.map)
     except (MapFault, OSError) as fault:

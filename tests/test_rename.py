@@ -302,6 +302,16 @@ class Rename(unittest.TestCase):
                 self.assertIn(told, run.stderr)
                 self.assertEqual(self.tree(), before)
 
+    def test_imports(self) -> None:
+        self.apply(MAP, "--aliases")
+        told = self.run_map("", "--imports")
+        self.assertEqual((told.stdout, told.returncode), ("0 imports lead nowhere\n", 0))
+        path = self.root / "crates/top/src/main.rt"
+        path.write_text(path.read_text().replace("{chair_of}", "{stool_of}"))
+        told = self.run_map("", "--imports")
+        self.assertIn("main.rt:4: Rattle.chair_rows.specs.Chairs.{stool_of}\n1 imports", told.stdout)
+        self.assertEqual(told.returncode, 1)
+
     def test_wide_lines_are_broken(self) -> None:
         self.apply("type low Seat " + "Chair" * 20 + "\nfunction low take_seat " + "f" * 60 + "\n")
         specs = self.read("crates/low/specs/Seats.antt")

@@ -166,12 +166,12 @@ class Names:
         found: list[Node | None] = []
         node: Node | None = None
         for at, segment in enumerate(segments):
-            node = (self.first_of(crate, source, segment.name) if at == 0
+            node = (self.first_of(crate, source, segment.name, len(segments) > 1) if at == 0
                     else self.source_child(node, segment.name, crate, source))
             found.append(node)
         return found
 
-    def first_of(self, crate: Crate, source: Source, name: str) -> Node | None:
+    def first_of(self, crate: Crate, source: Source, name: str, leads_on: bool) -> Node | None:
         here = Node("module", crate.name, source.module)
         if name == "crate":
             return Node("module", crate.name)
@@ -179,7 +179,8 @@ class Names:
             return Node("module", crate.name, source.module[:-1] if name == "super"
                         else source.module) if here else None
         found = self.look_up(crate, source, name)
-        if found is None and name in self.repository.crates:
+        holds_names = found is not None and found.kind in ("module", "type")
+        if name in self.repository.crates and not (holds_names if leads_on else found):
             return Node("module", name)
         return found
 
