@@ -83,7 +83,7 @@ class PageRenamer:
         owner = re.search(r"(\w+)(?:::|\.)$", before)
         close = {it for it in nodes if owner and owner[1] in it.path[:-1] + (it.crate,)}
         named = {it for it in close or nodes if it.crate in crates} or close or nodes
-        entries = {self.targets.by_node.get(it) for it in named}
+        entries = {self.entry(it) for it in named}
         words = {it.new_word if it else word for it in entries}
         if len(words) > 1:
             self.doubts.append(f"{place}: `{word}` may mean {self.told(named)}")
@@ -91,9 +91,12 @@ class PageRenamer:
         entry = next(iter(entries))
         return self.use(entry, place) if entry else None
 
+    def entry(self, node: Node) -> Entry | None:
+        return self.targets.by_node.get(node) or self.code.word_entry(node)
+
     def told(self, nodes: set[Node]) -> str:
         return ", ".join(sorted(f"{it} -> {entry.new_word if entry else 'itself'}"
-                                for it in nodes for entry in [self.targets.by_node.get(it)]))
+                                for it in nodes for entry in [self.entry(it)]))
 
     def use(self, entry: Entry, place: str) -> str:
         entry.count(place.partition(":")[0])
