@@ -266,14 +266,16 @@ def open_lines_stay_with_their_base_file(program: Path) -> None:
             out.write("open 4 hold 4 0 9 10\n")
         beside = [*day, str(tuesday), "--drop-open"]
         status, told, wrong = told_by(path, "hold - 0 20 21\n", *beside)
-        want((status, told) == (0, ["dropped: hold 4 0 9 10", "held 5 entry 2 at 3: zone 0 "
-                                    "00:03:20 to 00:03:30"]),
-             f"{told} {wrong}")
-        want(told_by(path, "", *day, str(tuesday))[:2] == (0, []), "nothing is open")
+        # The server's journal is Monday's: a line with Tuesday's ticks is for another one.
+        want((status, told) == (2, ["dropped: hold 4 0 9 10"]), f"{told} {wrong}")
+        want("its journal is of another base file" in wrong, wrong)
+        beside = [*day, str(world.base), "--drop-open"]
+        want(told_by(path, "", *beside)[:2] == (0, ["dropped: hold 5 0 20 21"]),
+             "Tuesday's line is sent")
         with state.open("a") as out:
             out.write("open 6 hold 6 0 30 31\n")
         want(told_by(path, "", *beside)[1]
-             == ["left open before: held 6 entry 3 at 4: zone 0 00:05:00 to 00:05:10"],
+             == ["left open before: held 6 entry 2 at 3: zone 0 00:05:00 to 00:05:10"],
              "a line of this base file is dropped")
 
 
