@@ -33,7 +33,8 @@ class Clone:
 
     def __post_init__(self) -> None:
         (self.root / "dev").mkdir()
-        for name in ("build", "build.py", "processes.py", "repository.py", "__init__.py"):
+        for name in ("build", "build.py", "launch", "processes.py", "repository.py",
+                     "__init__.py"):
             shutil.copy2(DEV / name, self.root / "dev" / name)
         (self.root / "HANDLES").write_text("Handles allowed: none.\n")
         rows = [f"{name}: {libraries}\n" for name, libraries in CRATES.items()]

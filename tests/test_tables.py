@@ -216,10 +216,12 @@ class Clone:
     def __post_init__(self) -> None:
         for name in ("dev", "tests/tables/small", "crates/small/out", "python/kidrofemba/common"):
             (self.root / name).mkdir(parents=True)
-        for name in ("dev/tables", "dev/tables.py", "dev/case_tables.py", "dev/repository.py",
+        for name in ("dev/tables", "dev/launch", "dev/tables.py", "dev/case_tables.py",
+                     "dev/repository.py",
                      "dev/__init__.py", "python/kidrofemba/__init__.py",
                      "python/kidrofemba/common/__init__.py",
-                     "python/kidrofemba/common/companion.py"):
+                     "python/kidrofemba/common/companion.py",
+                     "python/kidrofemba/common/synced.py"):
             shutil.copy2(REPOSITORY / name, self.root / name)
         self.build("small", STAND_IN)
 

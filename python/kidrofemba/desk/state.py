@@ -141,8 +141,9 @@ class Desk:
         fields = [Wanted(wanted.train, wanted.origin, wanted.destination, depart, arrive,
                          wanted.stops, "try").fields() for _, depart, arrive in asks]
         self.sales.read_on()
-        told = await self.looks.ask(fields, self.sales.tail.front,
-                                    self.sales.seen.get(who.tenant, 0))
+        # what helps is worked out beside all that stands: a refusal may be younger than a copy
+        front = self.sales.tail.front
+        told = await self.looks.ask(fields, front, front)
         found: dict[str, dict[str, Any]] = {}
         for (name, _, _), seen in zip(asks, told):
             if seen.word == "granted" and name not in found:
@@ -159,8 +160,8 @@ class Desk:
         """Who is in the way of a request, as far as this tenant may know, and what would help."""
         sales = self.sales
         sales.read_on()
-        seen, proof = await self.looks.proved(wanted.fields(), sales.tail.front,
-                                              sales.seen.get(who.tenant, 0))
+        front = sales.tail.front
+        seen, proof = await self.looks.proved(wanted.fields(), front, front)
         if seen.word != "no-path":
             reason = "path" if seen.word == "granted" else "unknown"
             return {"reason": reason, "nearest_km": None, "walls": [], "suggestions": [],
