@@ -1,0 +1,1 @@
+"""Models of protocols that are small enough to be searched exhaustively."""
