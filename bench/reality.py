@@ -29,10 +29,11 @@ TRAINS = {"electric 4.2 MW, 1,800 t, 700 m": train(4.2e6, 300e3, 90, 1800, 700, 
           "electric 4.2 MW, 1,000 t, 500 m": train(4.2e6, 300e3, 90, 1000, 500, 0.5),
           "diesel 2.2 MW, 1,600 t, 600 m": train(2.2e6, 400e3, 130, 1600, 600, 0.3),
           "diesel 2.2 MW, 800 t, 450 m": train(2.2e6, 400e3, 130, 800, 450, 0.5)}
-LINES = {"level": [], "5 per mille up and down": [(3000.0, 5.0), (3000.0, -5.0)] * 10,
-         "8 per mille, 10 km": [(20_000.0, 0.0), (10_000.0, 8.0)],
-         "12.5 per mille, 8 km": [(20_000.0, 0.0), (8_000.0, 12.5)],
-         "25 per mille, 5 km": [(20_000.0, 0.0), (5_000.0, 25.0)]}
+LINES: dict[str, list[tuple[float, float]]] = {
+    "level": [], "5 per mille up and down": [(3000.0, 5.0), (3000.0, -5.0)] * 10,
+    "8 per mille, 10 km": [(20_000.0, 0.0), (10_000.0, 8.0)],
+    "12.5 per mille, 8 km": [(20_000.0, 0.0), (8_000.0, 12.5)],
+    "25 per mille, 5 km": [(20_000.0, 0.0), (5_000.0, 25.0)]}
 
 
 def even(body: physics.Vehicle) -> tuple[float, float]:

@@ -14,6 +14,7 @@ from collections.abc import Callable, Iterator, Sequence
 from contextlib import contextmanager
 from dataclasses import dataclass, field
 from pathlib import Path
+from typing import Any
 
 HERE = Path(__file__).resolve().parent
 EXAMPLES = HERE.parent / "examples"
@@ -51,7 +52,7 @@ class World:
     folder: Path
     network: Path = EXAMPLES / "line6.json"
     trains: Path = EXAMPLES / "trains.json"
-    base_object: dict = field(default_factory=lambda: {
+    base_object: dict[str, Any] = field(default_factory=lambda: {
         "tick_s": 10, "setting": 1, "release": 1, "horizon": 17280,
         "journal_bytes": 268435456, "trains": []})
 
@@ -174,7 +175,7 @@ class Talk:
     def __enter__(self) -> Talk:
         return self
 
-    def __exit__(self, *_) -> None:
+    def __exit__(self, *_: object) -> None:
         self.close()
 
 
@@ -194,7 +195,7 @@ def _connected(path: Path, seconds: float) -> socket.socket | None:
 
 
 @contextmanager
-def new_world(program: Path, folder: Path | None = None, **given) -> Iterator[World]:
+def new_world(program: Path, folder: Path | None = None, **given: Any) -> Iterator[World]:
     """A world in a folder of its own, with a journal without entries."""
     with tempfile.TemporaryDirectory(dir=folder) as name:
         world = World(program, Path(name), **given)

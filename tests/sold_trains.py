@@ -17,10 +17,9 @@ from collections.abc import Sequence
 from pathlib import Path
 from typing import Any
 
-from kidrofemba.network.blocking_times import Railway, Run, Settings, Train, blocks_of, joined
+from kidrofemba.network.blocking_times import Railway, Settings, Train, blocks_of, joined
 from kidrofemba.network.blocking_times import train_of
 from kidrofemba.network.table_file import read_table_text
-from kidrofemba.reality import physics
 from kidrofemba.reality.running_file import Running, read_running
 from kidrofemba.reality.sold_train import Driving, course_of, judged, missing
 from tests.oracles import train_by_time as by_time

@@ -20,7 +20,7 @@ from typing import Any
 
 from kidrofemba.desk.store import Store
 from kidrofemba.journal.journal_file import read_journal
-from tests.desk_world import (TOP, Caller, Desks, DeskWorld, lost_packages, moment,
+from tests.desk_world import (TOP, Caller, Desks, lost_packages, moment,
                               path_wanted)
 from tests.door_world import LONG_S, PROGRAM, run_cases, wait_until, want
 

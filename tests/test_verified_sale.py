@@ -13,7 +13,7 @@ from pathlib import Path
 from types import SimpleNamespace
 from typing import Any
 
-from kidrofemba.network.blocking_times import Block, Railway, Run, Settings, Train
+from kidrofemba.network.blocking_times import Block, Railway, Settings, Train
 from kidrofemba.reality.physics import Vehicle
 from kidrofemba.reality.running_file import Running
 from kidrofemba.reality.sold_train import Driving, Judged, Need, course_of, judged, missing

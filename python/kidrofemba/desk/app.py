@@ -74,8 +74,8 @@ def serve(options: argparse.Namespace, program: Path) -> int:
     logging.basicConfig(level=logging.INFO, stream=sys.stderr,
                         format="%(asctime)s %(name)s %(levelname)s %(message)s")
     logging.getLogger("aiohttp.access").setLevel(logging.WARNING)
-    files = Files(*(getattr(options, name).absolute() for name in
-                    ("network", "trains", "base", "journal")), program)
+    files = Files(options.network.absolute(), options.trains.absolute(), options.base.absolute(),
+                  options.journal.absolute(), program)
     day = Day(files)
     tail = Tail(files.journal, files.network.read_bytes(), files.base.read_bytes())
     tail.read_on()
@@ -88,8 +88,8 @@ def serve(options: argparse.Namespace, program: Path) -> int:
 
     LOG.info("serves http://%s", options.listen)
     try:
-        web.run_app(made(), host=address[1].strip("[]"), port=int(address[2]), print=None,
-                    access_log=None, shutdown_timeout=2.0)
+        web.run_app(made(), host=address[1].strip("[]"), port=int(address[2]),
+                    print=lambda *_: None, access_log=None, shutdown_timeout=2.0)
     except OSError as wrong:
         raise Refused(options.listen, "", wrong.strerror or str(wrong)) from None
     return 0

@@ -449,8 +449,9 @@ async def post_closure(request: web.Request) -> web.StreamResponse:
               if not fields[name]}
     if errors:
         return await _closures_page(request, 422, fields, errors)
-    place = {"between": [fields["point"], fields["to"]]} if fields["to"] \
-        else {"point": fields["point"]}
+    place: dict[str, str | list[str]] = {"point": fields["point"]}
+    if fields["to"]:
+        place = {"between": [fields["point"], fields["to"]]}
     body = {"place": place, "reason": fields["reason"], "key": "form " + fields["key"],
             "from": fields["begin"][:16] + ":00" + _offset(desk),
             "until": fields["end"][:16] + ":00" + _offset(desk)}

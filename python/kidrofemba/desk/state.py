@@ -77,7 +77,7 @@ class Desk:
         self.pool = ProcessPoolExecutor(1, initializer=end_with_parent)
         self.names: dict[int, str] = {}
         self.pool_lock = asyncio.Semaphore(8)
-        sales.on_entry = self.tell  # type: ignore[method-assign]
+        sales.on_entry = self.tell  # type: ignore[assignment]
 
     async def refresh_names(self) -> None:
         """Reads the names of tenants."""

@@ -27,7 +27,8 @@ from pathlib import Path
 
 from kidrofemba.common.companion import Refused, escaped, read_json, run_companion
 from kidrofemba.common.files_together import write_together
-from kidrofemba.door.client import Numbers, PathClient, line_of
+from kidrofemba.door.client import Numbers, PathClient
+from kidrofemba.door.line_times import Times, line_of
 from kidrofemba.journal.journal_file import Run, runs_of_words
 from kidrofemba.journal.served_files import Base, read_base, read_network, read_trains
 from kidrofemba.network.blocking_times import Run as ModelRun
@@ -247,7 +248,8 @@ def rest_of(words: Sequence[str], base: Base) -> str:
     stops = [part for name, dwell in zip(names[2:], words[8::2]) for part in (name, dwell)]
     fields = ["ask", "1", layer, names[0], names[1], *words[3:7], str(len(stops) // 2), *stops]
     try:
-        return line_of(" ".join(fields), base.clock).split(" ", 3)[3]
+        times = Times(base.clock, base.settings.horizon, bare_dwells=True)
+        return line_of(" ".join(fields), times).split(" ", 3)[3]
     except ValueError as wrong:
         raise Refused("words", " ".join(words), str(wrong)) from None
 
