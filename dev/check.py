@@ -158,7 +158,7 @@ def all_checks() -> list[Check]:
     station = ("list", "--network", "examples/station.json", "--out", "stdout")
     batch = ("--sections", "8", "--trains", "20", "--asks", "120", "--refusals", "20")
     demo = ("./demo", "--program", str(PROGRAM))
-    house = ("--most-crates", "60", "--longest-chain", "14", "--wide-lines", "0",
+    house = ("--most-crates", "60", "--longest-chain", "14", "--wide-lines", "1",
              "--most-tests", "0", "--bare-numbers", "0", "--most-dependencies", "12",
              "--but", "osrd_stdcm", "--most-parameters", "8", "--most-relation-parameters", "10")
     return [
