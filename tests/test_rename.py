@@ -64,6 +64,7 @@ pub fn take_seat(seats: &[Seat], kind: &Kind) -> Option<u32>
     None
 }
 """,
+    "crates/low/src/seats/rows.rt": "//! Rows.\n\npub(crate) struct Row;\n",
     "crates/low/specs/Lib.antt": "pub mod Seats\n",
     "crates/low/specs/Seats.antt": """-- What is a seat.
 use Rattle.low.specs.declared.seats.Seat.{Seat}
@@ -147,6 +148,8 @@ fn main() {
 MAP = """# All kinds.
 crate * low chair_rows
 module low seats chairs
+module low seats/rows seats/lines
+type low/seats/rows Row Line
 spec low Seats Chairs
 lemmas low Taking Finding
 type low Seat Chair

@@ -33,9 +33,6 @@ class Targets:
 
     def __post_init__(self) -> None:
         self.new_crates = {it.new: it.old for it in self.entries if it.kind is Kind.CRATE}
-        self.new_modules = {(self.old_crate(it.crate), (*it.old.split("/")[:-1], it.new_word)):
-                            tuple(it.old.split("/"))
-                            for it in self.entries if it.kind is Kind.MODULE}
         for entry in self.entries:
             self.resolve(entry)
 
@@ -88,7 +85,7 @@ class Targets:
             return
         for crate in self.scoped(entry):
             if entry.kind is Kind.MODULE:
-                path = tuple(called.split("/"))
+                path = self.present(crate, (*entry.old.split("/")[:-1], called.split("/")[-1]))
                 if path in crate.sources:
                     yield Node("module", crate.name, path)
             elif entry.kind in (Kind.SPEC, Kind.LEMMAS):
@@ -117,7 +114,19 @@ class Targets:
             return None
         if module in crate.sources or module in crate.specs or module in crate.lemmas:
             return module
-        return self.new_modules.get((crate.name, module), module)
+        return self.present(crate, module)
+
+    def present(self, crate: Crate, module: tuple[str, ...]) -> tuple[str, ...]:
+        """The path of a module as the repository calls it, by the old or the new names of those
+        that it stands in."""
+        found: tuple[str, ...] = ()
+        for end, name in enumerate(module, 1):
+            others = (it.new_word for it in self.entries if it.kind is Kind.MODULE
+                      and self.old_crate(it.crate) == crate.name
+                      and tuple(it.old.split("/")) == module[:end])
+            found = next(((*found, it) for it in (name, *others)
+                          if (*found, it) in crate.sources), (*found, name))
+        return found
 
     def owners(self, node: Node, crate: Crate) -> set[str]:
         """The type of a member; for a field of a record, the records of its file."""
