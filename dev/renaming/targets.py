@@ -85,7 +85,8 @@ class Targets:
             return
         for crate in self.scoped(entry):
             if entry.kind is Kind.MODULE:
-                path = self.present(crate, (*entry.old.split("/")[:-1], called.split("/")[-1]))
+                *parents, name = called.split("/")
+                path = (*self.present(crate, tuple(parents)), name)
                 if path in crate.sources:
                     yield Node("module", crate.name, path)
             elif entry.kind in (Kind.SPEC, Kind.LEMMAS):
